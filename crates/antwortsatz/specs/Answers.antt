@@ -1,0 +1,31 @@
+-- The answers of the host calls that fill one field, and of those that refuse.
+--   zeroDate       = the date of a field that is not used: zero
+--   zeroAnswer     = every field zero
+--   refusedWith x  = refusal x, all else zero: "A refusal leaves bytes 1 to 31 zero"
+--   kindAnswer k   = kind k alone: "a day test has kind 1 for a Werktag, else 0"
+--   countAnswer n  = count n alone: "a count [fills] the count"
+--   dateAnswer d   = date d alone: "A step fills the date"
+-- Source: document 01, "Host calls and their refusals"; "Unused fields are zero".
+-- Assumes nothing.
+use Prim.Native.Nat.{ℕ}
+use lib.IntN.{pos}
+use Rattle.datum.specs.declared.Date.{Date}
+use Rattle.antwortsatz.specs.declared.Answer.{Answer}
+
+abbrev pub zeroDate : Date
+zeroDate = record { year = 0; month = 0; day = 0 }
+
+unfoldable pub zeroAnswer : Answer
+zeroAnswer = record { refusal = 0; kind = 0; count = 0; seconds = pos 0; nanos = 0; date = zeroDate; last = zeroDate }
+
+unfoldable pub refusedWith : ℕ → Answer
+refusedWith x = record { refusal = x; kind = 0; count = 0; seconds = pos 0; nanos = 0; date = zeroDate; last = zeroDate }
+
+unfoldable pub kindAnswer : ℕ → Answer
+kindAnswer k = record { refusal = 0; kind = k; count = 0; seconds = pos 0; nanos = 0; date = zeroDate; last = zeroDate }
+
+unfoldable pub countAnswer : ℕ → Answer
+countAnswer n = record { refusal = 0; kind = 0; count = n; seconds = pos 0; nanos = 0; date = zeroDate; last = zeroDate }
+
+unfoldable pub dateAnswer : Date → Answer
+dateAnswer d = record { refusal = 0; kind = 0; count = 0; seconds = pos 0; nanos = 0; date = d; last = zeroDate }

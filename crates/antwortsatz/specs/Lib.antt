@@ -1,0 +1,4 @@
+pub mod Bytes
+pub mod Answers
+pub mod Layout
+pub mod Rules

@@ -1,0 +1,50 @@
+-- What the proofs cite: each rule's premises have the form in which a proof has them, so that `search` finds the rule.
+--   call-rules    for every host call: its answer is what a definition gives, so what `reply` promises of the answer
+--                 holds of the definition
+--   reply-rules   for `reply`: a slice of another length; one byte more is copied; all are copied
+-- Assumes nothing.
+use Prim.Native.Nat.{ℕ, _+_, _≤_, _<_}
+use mathlib.Core.Path.{_≡_, sym, ap, _∙_}
+use mathlib.Core.List.{List}
+use native.Mathlib.Omega.{arith}
+use native.Mathlib.Numerals.{add-one}
+use borrow.Author.Tests.{eq-eqb, ne-eqb}
+use lib.ListN.{length, getD, set, take, length-set}
+use lib.Seq.{take-all, take-suc, take-suc-set}
+use Rattle.antwortsatz.specs.declared.Answer.{Answer}
+use Rattle.antwortsatz.specs.Bytes.{bytesOf, repliedTo}
+use Rattle.antwortsatz.specs.Layout.{bytes-length}
+
+pub call-replied :
+    (l l′ : List ℕ) (a b : Answer) (r : ℕ) →
+    a ≡ b → (r, l′) ≡ repliedTo l a → (r, l′) ≡ repliedTo l b
+call-replied l l′ a b r e p = rw (← e) p
+
+pub ruleset call-rules = (call-replied)
+
+pub reply-other : (l : List ℕ) (a : Answer) → (length l ≡ 32 → ⊥) → (1, l) ≡ repliedTo l a
+unfolding repliedTo
+reply-other l a h = rw (ne-eqb (length l) 32 h)
+
+pub copy-more :
+    (l b : List ℕ) (a : Answer) (i : ℕ) →
+    b ≡ bytesOf a → length l ≡ 32 → i < 32 → take i l ≡ take i b →
+    take (i + 1) (set l i (getD b i 0)) ≡ take (i + 1) b
+copy-more l b a i e n h t =
+    let m = ap length e ∙ bytes-length a in
+    rw (add-one, take-suc-set l i (getD b i 0) (omega arith), take-suc b i 0 (omega arith), t)
+
+pub copy-length : (l : List ℕ) (i x : ℕ) → length l ≡ 32 → length (set l i x) ≡ 32
+copy-length l i x n = simp length-set n
+
+pub reply-done :
+    (l l′ b : List ℕ) (a : Answer) (i : ℕ) →
+    length l ≡ 32 → b ≡ bytesOf a → take i l′ ≡ take i b → length l′ ≡ 32 → 32 ≤ i →
+    (a .refusal, l′) ≡ repliedTo l a
+unfolding repliedTo
+reply-done l l′ b a i h e t g m =
+    let n = ap length e ∙ bytes-length a in
+    let w : l′ ≡ bytesOf a = sym (take-all i l′ (omega arith)) ∙ t ∙ take-all i b (omega arith) ∙ e in
+    rw (eq-eqb (length l) 32 h, w)
+
+pub ruleset reply-rules = (reply-other, copy-more, copy-length, reply-done)

@@ -1,0 +1,281 @@
+// Dates from 1 January 1996 to 31 December 2899, their indexes 0 to 330,179, and shifts by months.
+//
+// Document 01, lib.rs (calendar). Inside, a day is its index; a date stands at the edge.
+ghost use mathlib.Core.Bool.{true};
+ghost use mathlib.Core.Path.{_≡_};
+ghost use Prim.Native.Nat.{_+_, _-_, _*_, _≤_, _<_};
+ghost use lib.IntN.{pos, _+ℤ_, _-ℤ_};
+ghost use Rattle.zaehlung.specs.Walk.{last, bit};
+ghost use Rattle.datum.specs.Calendar.{leap, yearStart, yearOf, monthLen, monthStart, monthOf, valid, daysBefore, indexOf, dateOf, weekdayOf};
+ghost use Rattle.datum.specs.Floor.{floorDiv, floorMod};
+ghost use Rattle.datum.specs.MonthShift.{ordinal, inMonth, onMonth, addMonths, subtractMonths};
+
+pub const FIRST_YEAR: u16 = 1996;
+
+pub const LAST_YEAR: u16 = 2899;
+
+pub struct Date {
+    pub year: u16,
+    pub month: u8,
+    pub day: u8,
+}
+
+// The index of a date, or that it is no date of the range.
+pub enum Index {
+    Day(u32),
+    NoDate,
+}
+
+// A date shifted by months, or that it leaves the calendar.
+pub enum Shifted {
+    On(Date),
+    Outside,
+}
+
+pub fn is_leap(year: u16) -> bool
+    ensures { λ r. ⌜ r ≡ leap year ⌝ }
+{
+    if year % 4 != 0 {
+        return false;
+    }
+    if year % 100 != 0 {
+        return true;
+    }
+    year % 400 == 0
+}
+
+const DAYS_IN_MONTH: [u8; 13] = [0, 31, 28, 31, 30, 31, 30, 31, 31, 30, 31, 30, 31];
+
+// Months 0 and above 12 have no days.
+pub fn days_in_month(leap: bool, month: u8) -> u8
+    ensures { λ r. ⌜ (r ≡ monthLen leap month) × (r ≤ 31) ⌝ }
+{
+    if 12 < month {
+        return 0;
+    }
+    if month == 2 {
+        if leap {
+            return 29;
+        }
+        return 28;
+    }
+    let at = month as usize;
+    DAYS_IN_MONTH[at]
+}
+
+const DAYS_BEFORE_MONTH: [u32; 14] = [
+    0,
+    0,
+    31,
+    59,
+    90,
+    120,
+    151,
+    181,
+    212,
+    243,
+    273,
+    304,
+    334,
+    365,
+];
+
+// Days of the year before a month; month 13 stands for the year's end.
+fn month_start(leap: bool, month: u32) -> u32
+    requires { ⌜ month ≤ 13 ⌝ }
+    ensures { λ r. ⌜ (r ≡ monthStart leap month) × (r ≤ 366) ⌝ }
+{
+    let at = month as usize;
+    let common = DAYS_BEFORE_MONTH[at];
+    if leap {
+        if 2 < month {
+            return common + 1;
+        }
+    }
+    common
+}
+
+// The index of 1 January of the year 1996 + k, without a loop.
+fn year_start(k: u32) -> u32
+    requires { ⌜ k ≤ 904 ⌝ }
+    ensures { λ r. ⌜ (r ≡ yearStart k) × (r ≤ 331000) ⌝ }
+{
+    let y = k + 1995;
+    365 * k + (y / 4 + y / 400 - y / 100) - 483
+}
+
+// A year, counted from 1996, and a day of it, counted from 0.
+struct YearDay {
+    year: u32,
+    day: u32,
+}
+
+// The year of a day. The guess is never proved to be good: the two loops set it right.
+fn year_of(index: u32) -> YearDay
+    requires { ⌜ index ≤ last ⌝ }
+    ensures { λ r. ⌜ (r .year ≡ yearOf index .0) × (r .day ≡ yearOf index .1) × (r .year ≤ 903) ⌝ }
+{
+    let mut k = index * 400 / 146097;
+    while index < year_start(k) {
+        k -= 1;
+    }
+    while year_start(k + 1) <= index {
+        k += 1;
+    }
+    YearDay {
+        year: k,
+        day: index - year_start(k),
+    }
+}
+
+// The month of a day of the year. No month has 32 days, so the guess is never too late.
+fn month_of(leap: bool, day: u32) -> u32
+    requires { ⌜ day < 365 + bit leap ⌝ }
+    ensures { λ r. ⌜ (r ≡ monthOf leap day .0) × (1 ≤ r) × (r ≤ 12) ⌝ }
+{
+    let mut month = day / 32 + 1;
+    while month_start(leap, month + 1) <= day {
+        month += 1;
+    }
+    month
+}
+
+// The index of a date of the range.
+pub fn days_before(date: Date) -> u32
+    requires { ⌜ valid date ≡ true ⌝ }
+    ensures { λ r. ⌜ (r ≡ daysBefore date) × (r ≤ last) ⌝ }
+{
+    let k = (date.year - FIRST_YEAR) as u32;
+    let leap = is_leap(date.year);
+    let month = date.month as u32;
+    let day = date.day as u32;
+    year_start(k) + month_start(leap, month) + (day - 1)
+}
+
+pub fn index_of(date: Date) -> Index
+    ensures { λ r. ⌜ r ≡ indexOf date ⌝ }
+{
+    let year = date.year;
+    let month = date.month;
+    let day = date.day;
+    if year < FIRST_YEAR {
+        return Index::NoDate;
+    }
+    if LAST_YEAR < year {
+        return Index::NoDate;
+    }
+    if month < 1 {
+        return Index::NoDate;
+    }
+    if 12 < month {
+        return Index::NoDate;
+    }
+    if day < 1 {
+        return Index::NoDate;
+    }
+    if days_in_month(is_leap(year), month) < day {
+        return Index::NoDate;
+    }
+    Index::Day(days_before(date))
+}
+
+pub fn date_of(index: u32) -> Date
+    requires { ⌜ index ≤ last ⌝ }
+    ensures { λ r. ⌜ r ≡ dateOf index ⌝ }
+{
+    let at = year_of(index);
+    let year = at.year;
+    let day = at.day;
+    let leap = is_leap((1996 + year) as u16);
+    let month = month_of(leap, day);
+    Date {
+        year: (1996 + year) as u16,
+        month: month as u8,
+        day: (day - month_start(leap, month) + 1) as u8,
+    }
+}
+
+// Monday is 0: 1 January 1996 was a Monday.
+pub fn weekday(index: u32) -> u32
+    ensures { λ r. ⌜ r ≡ weekdayOf index ⌝ }
+{
+    index % 7
+}
+
+// A month of a year: the month is counted from 0, and either may lie before year 0.
+struct YearMonth {
+    year: i64,
+    month: i64,
+}
+
+// The month numbered t from January of year 0: division that rounds down, below zero too.
+fn split_months(t: i64) -> YearMonth
+    ensures { λ r. ⌜ (r .year ≡ floorDiv t 12) × (r .month ≡ floorMod t 12) ⌝ }
+{
+    let year = t / 12;
+    let month = t % 12;
+    if month < 0 {
+        return YearMonth {
+            year: year - 1,
+            month: month + 12,
+        };
+    }
+    YearMonth { year, month }
+}
+
+// The day in a month of the calendar; one that the month lacks becomes its last.
+fn in_month(year: u16, month: u8, day: u8) -> Shifted
+    requires { ⌜ (1996 ≤ year) × (year ≤ 2899) ⌝ }
+    ensures { λ r. ⌜ r ≡ inMonth year month day ⌝ }
+{
+    let longest = days_in_month(is_leap(year), month);
+    if longest < day {
+        return Shifted::On(Date {
+            year,
+            month,
+            day: longest,
+        });
+    }
+    Shifted::On(Date { year, month, day })
+}
+
+// The day in the month numbered t from January of year 0.
+fn on_month(t: i64, day: u8) -> Shifted
+    ensures { λ r. ⌜ r ≡ onMonth t day ⌝ }
+{
+    let at = split_months(t);
+    let year = at.year;
+    let month = at.month;
+    if year < 1996 {
+        return Shifted::Outside;
+    }
+    if 2899 < year {
+        return Shifted::Outside;
+    }
+    in_month(year as u16, (month + 1) as u8, day)
+}
+
+// The number of a date's month, counted from January of year 0.
+fn ordinal_of(date: Date) -> i64
+    requires { ⌜ 1 ≤ date .month ⌝ }
+    ensures { λ r. ⌜ r ≡ pos (ordinal date) ⌝ }
+{
+    let months = (date.year as u32) * 12 + ((date.month as u32) - 1);
+    months as i64
+}
+
+// n months later, BGB §188: 31 January 2026 and 1 month is 28 February 2026.
+pub fn add_months(date: Date, n: u32) -> Shifted
+    requires { ⌜ 1 ≤ date .month ⌝ }
+    ensures { λ r. ⌜ r ≡ addMonths date n ⌝ }
+{
+    on_month(ordinal_of(date) + (n as i64), date.day)
+}
+
+// n months earlier, BGB §188: 31 March 2024 and 1 month is 29 February 2024.
+pub fn subtract_months(date: Date, n: u32) -> Shifted
+    requires { ⌜ 1 ≤ date .month ⌝ }
+    ensures { λ r. ⌜ r ≡ subtractMonths date n ⌝ }
+{
+    on_month(ordinal_of(date) - (n as i64), date.day)
+}

@@ -1,0 +1,102 @@
+// Steps over Werktage and the count of Werktage, day by day, as in the Rust. A day is its index from 1 January 1996, 0 to
+// LAST. What a step or a count is, is defined in zaehlung for any test of a day; here the test is the holiday list's.
+ghost use mathlib.Core.Path.{_≡_};
+ghost use Prim.Native.Nat.{_≤_};
+ghost use Rattle.zaehlung.specs.Walk.{last, add, sub, between, next};
+ghost use Rattle.werktag.specs.Werktag.{werktag};
+use werktag::HolidayCalendar;
+use zaehlung::FIRST;
+use zaehlung::LAST;
+use zaehlung::Step;
+
+/// The `n`-th Werktag after `from`, or `Outside` where that would be past the calendar's last day.
+///
+/// GPKE (BK6-24-174) Teil 1: a Werktag is any day that is not a Saturday, a Sunday or a public holiday.
+///
+/// With `n = 0`: `from` unchanged, Werktag or not. The first Werktag on or after a day is `next_werktag`.
+///
+/// Monday 6 January 2025 and 5 Werktage: Tue 7, Wed 8, Thu 9, Fri 10, Mon 13 January. Thursday 2 April 2026 and 1 Werktag,
+/// over Easter: Tuesday 7 April.
+pub fn add_werktage(from: u32, n: u32, cal: HolidayCalendar) -> Step
+    requires { ⌜ from ≤ last ⌝ }
+    ensures { λ r. ⌜ r ≡ add (werktag cal) from n ⌝ }
+{
+    let mut current = from;
+    let mut remaining = n;
+    while 0 < remaining {
+        if LAST <= current {
+            return Step::Outside;
+        }
+        current += 1;
+        if werktag::is_werktag(current, cal) {
+            remaining -= 1;
+        }
+    }
+    Step::Day(current)
+}
+
+/// The `n`-th Werktag before `from`, or `Outside` where that would be before the calendar's first day: the mirror of
+/// `add_werktage`.
+///
+/// This is the arithmetic behind a Vorlauffrist: 'spätester ÜT ist der n. WT vor dem gewünschten Termin'.
+///
+/// With `n = 0`: `from` unchanged, Werktag or not.
+///
+/// Monday 13 January 2025 less 5 Werktage: Fri 10, Thu 9, Wed 8, Tue 7, and past Heilige Drei Könige Fri 3 January.
+pub fn sub_werktage(from: u32, n: u32, cal: HolidayCalendar) -> Step
+    requires { ⌜ from ≤ last ⌝ }
+    ensures { λ r. ⌜ r ≡ sub (werktag cal) from n ⌝ }
+{
+    let mut current = from;
+    let mut remaining = n;
+    while 0 < remaining {
+        if current <= FIRST {
+            return Step::Outside;
+        }
+        current -= 1;
+        if werktag::is_werktag(current, cal) {
+            remaining -= 1;
+        }
+    }
+    Step::Day(current)
+}
+
+/// The Werktage after `from` up to and including `to`: the inverse of `add_werktage`, since from `from` to its `n`-th Werktag
+/// this is `n`.
+///
+/// 0 if `to` isn't later than `from`.
+///
+/// From Monday 6 to Monday 13 January 2025: 5.
+pub fn werktage_between(from: u32, to: u32, cal: HolidayCalendar) -> u32
+    requires { ⌜ (from ≤ last) × (to ≤ last) ⌝ }
+    ensures { λ r. ⌜ r ≡ between (werktag cal) from to ⌝ }
+{
+    let mut day = from;
+    let mut count: u32 = 0;
+    while day < to {
+        day += 1;
+        if werktag::is_werktag(day, cal) {
+            count += 1;
+        }
+    }
+    count
+}
+
+/// The first Werktag on or after `from`, or `Outside` where no day up to the calendar's last is one.
+///
+/// `add_werktage` with 0 leaves a Sunday or a holiday where it is; this goes on to the next Werktag.
+///
+/// From Sunday 12 January 2025: Monday 13 January. From that Monday: the same Monday.
+pub fn next_werktag(from: u32, cal: HolidayCalendar) -> Step
+    requires { ⌜ from ≤ last ⌝ }
+    ensures { λ r. ⌜ r ≡ next (werktag cal) from ⌝ }
+{
+    let mut day = from;
+    while !werktag::is_werktag(day, cal) {
+        if LAST <= day {
+            return Step::Outside;
+        }
+        day += 1;
+    }
+    Step::Day(day)
+}

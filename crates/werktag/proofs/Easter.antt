@@ -1,0 +1,78 @@
+-- The Anonymous Gregorian algorithm in the calendar's years: no difference in it goes below 0, and it gives a date of March or April.
+--   enough, room       the difference under l does not go below 0
+--   n-bounds           n lies from 114 to 149, so the date from 22 March to 26 April
+--   easter-valid       Easter Sunday is a date of the range
+-- omega takes the remainders one at a time, so each bound has a lemma of its own.
+-- Assumes nothing.
+use Prim.Native.Nat.{ℕ, zero, suc, _+_, _-_, _*_, _/_, _%_, _≤_, _<_}
+use mathlib.Core.Bool.{Bool, true, false}
+use mathlib.Core.Path.{_≡_, refl, ap}
+use native.Mathlib.Omega.{arith}
+use mir.Syntax.{w8}
+use mir.Val.{Fits}
+use Rattle.datum.specs.declared.Date.{Date}
+use Rattle.datum.specs.Calendar.{valid, leap, monthLen}
+use Rattle.datum.proofs.Dates.{Valid, is-valid}
+use Rattle.werktag.specs.Easter.{easterSunday}
+
+pub enough : (x y : ℕ) → y % 4 ≤ 32 + 2 * x + 2 * (y / 4) - 29
+enough x y = omega arith
+
+pub room : (a b t : ℕ) → a ≤ t - 29 → b < 30 → a ≤ t - b
+room a b t h g = omega arith
+
+pub below-30 : (x : ℕ) → x % 30 < 30
+below-30 x = omega arith
+
+below-7 : (x : ℕ) → x % 7 < 7
+below-7 x = omega arith
+
+below-19 : (x : ℕ) → x % 19 < 19
+below-19 x = omega arith
+
+-- n, from a, h and l
+abbrev n : ℕ → ℕ → ℕ → ℕ
+n a h l = h + l + 114 - 7 * ((a + 11 * h + 22 * l) / 451)
+
+n-bounds : (a h l : ℕ) → a < 19 → h < 30 → l < 7 → (114 ≤ n a h l) × (n a h l ≤ 149)
+n-bounds a h l p q r = (omega arith, omega arith)
+
+pub month-fits : (a h l : ℕ) → Fits w8 (n (a % 19) (h % 30) (l % 7) / 31)
+month-fits a h l =
+    let b = n-bounds (a % 19) (h % 30) (l % 7) (below-19 a) (below-30 h) (below-7 l) in
+    let e : n (a % 19) (h % 30) (l % 7) / 31 ≤ 149 = small (n (a % 19) (h % 30) (l % 7)) (b .1) in
+    record { fits = omega arith }
+  where
+    small : (x : ℕ) → x ≤ 149 → x / 31 ≤ 149
+    small x h = omega arith
+
+days : (l : Bool) → (monthLen l 3 ≡ 31) × (monthLen l 4 ≡ 30)
+unfolding monthLen
+days l = (refl, refl)
+
+-- the date with n from 114 to 149
+dated : (y x : ℕ) → 1996 ≤ y → y ≤ 2899 → 114 ≤ x → x ≤ 149 → Valid (record { year = y; month = x / 31; day = x % 31 + 1 })
+dated y x a b p q = go (x / 31) refl
+  where
+    go : (m : ℕ) → x / 31 ≡ m → Valid (record { year = y; month = x / 31; day = x % 31 + 1 })
+    go zero e = absurd (omega arith)
+    go (suc zero) e = absurd (omega arith)
+    go (suc (suc zero)) e = absurd (omega arith)
+    go (suc (suc (suc zero))) e =
+        let k = ap (monthLen (leap y)) e in
+        record { from = a; to = b; month-from = omega arith; month-to = omega arith; day-from = omega arith; day-to = omega (arith, days (leap y)) }
+    go (suc (suc (suc (suc zero)))) e =
+        let k = ap (monthLen (leap y)) e in
+        record { from = a; to = b; month-from = omega arith; month-to = omega arith; day-from = omega arith; day-to = omega (arith, days (leap y)) }
+    go (suc (suc (suc (suc (suc m))))) e = absurd (omega arith)
+
+pub easter-valid : (y : ℕ) (d : Date) → 1996 ≤ y → y ≤ 2899 → d ≡ easterSunday y → valid d ≡ true
+unfolding easterSunday
+easter-valid y d p q e =
+    let a = y % 19 in
+    let b = y / 100 in
+    let c = y % 100 in
+    let h = (19 * a + b - b / 4 - (b - (b + 8) / 25 + 1) / 3 + 15) % 30 in
+    let l = (32 + 2 * (b % 4) + 2 * (c / 4) - h - c % 4) % 7 in
+    let k = n-bounds a h l (below-19 y) (below-30 _) (below-7 _) in
+    rw e (is-valid _ (dated y (n a h l) p q (k .0) (k .1)))

@@ -1,0 +1,4 @@
+pub mod Search
+pub mod Signed
+pub mod Easter
+pub mod Rules

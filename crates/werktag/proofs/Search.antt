@@ -1,0 +1,37 @@
+-- A table searched from its start on: laws for any list and any test of its elements.
+--   any-more     the rest of a list, by its first element
+--   search-hit   an element passes: the search ends with true
+--   search-miss  it does not: the rest decides
+--   search-none  nothing is left: the search ends with false
+-- Assumes nothing.
+use Prim.Native.Nat.{ℕ, zero, suc, _+_, _≤_, _<_}
+use mathlib.Core.Bool.{Bool, true, false, _||_}
+use mathlib.Core.List.{List, [], _∷_}
+use mathlib.Core.Path.{_≡_, refl, sym, ap, _∙_}
+use native.Mathlib.Omega.{arith}
+use native.Mathlib.Numerals.{add-one}
+use lib.ListN.{length, getD, drop}
+use lib.Seq.{drop-cons}
+use Rattle.werktag.specs.Werktag.{any}
+
+drop-all : {A : Type 0} (l : List A) (i : ℕ) → length l ≤ i → drop i l ≡ []
+drop-all [] zero h = refl
+drop-all [] (suc i) h = refl
+drop-all (x ∷ l) zero h = absurd (omega arith)
+drop-all (x ∷ l) (suc i) h = drop-all l i (omega arith)
+
+module _ {A : Type 0} (p : A → Bool) (l : List A) (z : A) (i : ℕ) where
+  pub any-more : i < length l → any p (drop i l) ≡ (p (getD l i z) || any p (drop (i + 1) l))
+  unfolding any
+  any-more h = rw (add-one, drop-cons l i z)
+
+  module _ (e : any p (drop i l) ≡ any p l) where
+    pub search-hit : i < length l → p (getD l i z) ≡ true → true ≡ any p l
+    search-hit h t = sym (ap (λ (b : Bool). b || any p (drop (i + 1) l)) t) ∙ sym (any-more h) ∙ e
+
+    pub search-miss : i < length l → p (getD l i z) ≡ false → any p (drop (i + 1) l) ≡ any p l
+    search-miss h t = sym (ap (λ (b : Bool). b || any p (drop (i + 1) l)) t) ∙ sym (any-more h) ∙ e
+
+    pub search-none : length l ≤ i → false ≡ any p l
+    unfolding any
+    search-none h = ap (any p) (sym (drop-all l i h)) ∙ e

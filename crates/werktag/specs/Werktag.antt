@@ -1,0 +1,59 @@
+-- Werktage by the list of document 01, the same in every year.
+--   fixedDays             = the fixed days, day and month
+--   isFixed m d           = whether day d of month m is one of them
+--   isBussUndBettag m d w = whether it is the Wednesday from 16 to 22 November, w being its weekday
+--   easterOffsets         = the days from Easter Sunday to each feast that moves with it
+--   isEasterFeast i y     = whether the day with index i is one of these feasts of the year y
+--   isHoliday i           = whether the day with index i is in the list
+--   werktag cal i         = whether the day with index i is a Werktag
+-- Source: GPKE Teil 1 (Werktag: 'alle Tage .., die kein Samstag, Sonntag oder gesetzlicher Feiertag sind'; a holiday of one Land counts
+-- everywhere; 24.12. and 31.12. count as holidays); document 01, 'lib.rs, calendar', for the list.
+use Prim.Native.Nat.{ℕ, _+_}
+use mathlib.Core.Bool.{Bool, true, false, not, _&&_, _||_}
+use mathlib.Core.List.{List, [], _∷_}
+use lib.Dec.{eqb, leb}
+use lib.IntN.{ℤ, pos, negsuc, negℤ, _+ℤ_}
+use Rattle.datum.specs.Calendar.{dateOf, weekdayOf}
+use Rattle.werktag.specs.declared.HolidayCalendar.{HolidayCalendar}
+use Rattle.werktag.specs.declared.HolidayCalendar.the-variants.{BdewMaKo}
+use Rattle.werktag.specs.Easter.{easterIndex}
+
+-- whether p holds of some element of a list
+unfoldable pub any : {A : Type 0} → (A → Bool) → List A → Bool
+any p [] = false
+any p (x ∷ xs) = p x || any p xs
+
+-- whether two signed numbers are equal
+abbrev pub eqZ : ℤ → ℤ → Bool
+eqZ (pos a) (pos b) = eqb a b
+eqZ (pos a) (negsuc b) = false
+eqZ (negsuc a) (pos b) = false
+eqZ (negsuc a) (negsuc b) = eqb a b
+
+-- 'The fixed days are a table: 1.1., 6.1., 8.3., 1.5., 15.8., 20.9., 3.10., 31.10., 1.11., 24.12., 25.12., 26.12., 31.12.'
+abbrev pub fixedDays : List (ℕ × ℕ)
+fixedDays =
+    (1, 1) ∷ (6, 1) ∷ (8, 3) ∷ (1, 5) ∷ (15, 8) ∷ (20, 9) ∷ (3, 10) ∷ (31, 10) ∷ (1, 11) ∷ (24, 12) ∷ (25, 12) ∷ (26, 12) ∷ (31, 12) ∷ []
+
+unfoldable pub isFixed : ℕ → ℕ → Bool
+isFixed m d = any (λ x. eqb (x .0) d && eqb (x .1) m) fixedDays
+
+-- 'Then the Wednesday from 16 to 22 November'
+unfoldable pub isBussUndBettag : ℕ → ℕ → ℕ → Bool
+isBussUndBettag m d w = eqb m 11 && (leb 16 d && (leb d 22 && eqb w 2))
+
+-- 'then Easter Sunday −2, +1, +39, +49, +50, +60 days'
+abbrev pub easterOffsets : List ℤ
+easterOffsets = negℤ (pos 2) ∷ pos 1 ∷ pos 39 ∷ pos 49 ∷ pos 50 ∷ pos 60 ∷ []
+
+unfoldable pub isEasterFeast : ℕ → ℕ → Bool
+isEasterFeast i y = any (λ o. eqZ (pos i) (pos (easterIndex y) +ℤ o)) easterOffsets
+
+unfoldable pub isHoliday : ℕ → Bool
+isHoliday i =
+    let d = dateOf i in
+    isFixed (d .month) (d .day) || (isBussUndBettag (d .month) (d .day) (weekdayOf i) || isEasterFeast i (d .year))
+
+-- 'Werktag: not Saturday, Sunday or a holiday (GPKE Teil 1).'
+unfoldable pub werktag : HolidayCalendar → ℕ → Bool
+werktag BdewMaKo i = not (leb 5 (weekdayOf i)) && not (isHoliday i)

@@ -1,0 +1,133 @@
+// Werktage: every day that is no Saturday, no Sunday and no holiday (GPKE Teil 1).
+//
+// Document 01, lib.rs (calendar). The list is the same in every year.
+ghost use mathlib.Core.Path.{_≡_};
+ghost use Prim.Native.Nat.{_≤_};
+ghost use lib.IntN.{pos, _-ℤ_};
+ghost use Rattle.zaehlung.specs.Walk.{last};
+ghost use Rattle.datum.specs.Calendar.{dateOf};
+ghost use Rattle.werktag.specs.Easter.{easterSunday, easterIndex};
+ghost use Rattle.werktag.specs.Werktag.{any, eqZ, easterOffsets, isFixed, isBussUndBettag, isEasterFeast, isHoliday, werktag};
+use datum::Date;
+
+// Whose holidays count. A holiday of any one Land counts everywhere.
+pub enum HolidayCalendar {
+    BdewMaKo,
+}
+
+const FIXED_MONTH: [u8; 13] = [1, 1, 3, 5, 8, 9, 10, 10, 11, 12, 12, 12, 12];
+
+const FIXED_DAY: [u8; 13] = [1, 6, 8, 1, 15, 20, 3, 31, 1, 24, 25, 26, 31];
+
+const EASTER_OFFSET: [i64; 6] = [-2, 1, 39, 49, 50, 60];
+
+// Whether month and day stand side by side in the two tables.
+fn is_fixed(month: u8, day: u8) -> bool
+    ensures { λ r. ⌜ r ≡ isFixed month day ⌝ }
+{
+    let mut i = 0;
+    while i < 13 {
+        let m = FIXED_MONTH[i];
+        let d = FIXED_DAY[i];
+        i += 1;
+        if m == month {
+            if d == day {
+                return true;
+            }
+        }
+    }
+    false
+}
+
+// The Wednesday from 16 to 22 November.
+fn is_buss_und_bettag(month: u8, day: u8, weekday: u32) -> bool
+    ensures { λ r. ⌜ r ≡ isBussUndBettag month day weekday ⌝ }
+{
+    if month != 11 {
+        return false;
+    }
+    if day < 16 {
+        return false;
+    }
+    if 22 < day {
+        return false;
+    }
+    weekday == 2
+}
+
+// Easter Sunday by the Anonymous Gregorian algorithm, in its own letters.
+fn easter_sunday(year: u16) -> Date
+    requires { ⌜ (1996 ≤ year) × (year ≤ 2899) ⌝ }
+    ensures { λ r. ⌜ r ≡ easterSunday year ⌝ }
+{
+    let y = year as u32;
+    let a = y % 19;
+    let b = y / 100;
+    let c = y % 100;
+    let d = b / 4;
+    let e = b % 4;
+    let f = (b + 8) / 25;
+    let g = (b - f + 1) / 3;
+    let h = (19 * a + b - d - g + 15) % 30;
+    let i = c / 4;
+    let k = c % 4;
+    let l = (32 + 2 * e + 2 * i - h - k) % 7;
+    let m = (a + 11 * h + 22 * l) / 451;
+    let n = h + l + 114 - 7 * m;
+    Date {
+        year,
+        month: (n / 31) as u8,
+        day: (n % 31 + 1) as u8,
+    }
+}
+
+// Whether a number of days from Easter Sunday is one of the table's.
+fn is_offset(distance: i64) -> bool
+    ensures { λ r. ⌜ r ≡ any (eqZ distance) easterOffsets ⌝ }
+{
+    let mut i = 0;
+    while i < 6 {
+        let offset = EASTER_OFFSET[i];
+        i += 1;
+        if offset == distance {
+            return true;
+        }
+    }
+    false
+}
+
+// Whether a day is one of the feasts that move with Easter Sunday of its year.
+fn is_easter_feast(index: u32, year: u16) -> bool
+    requires { ⌜ (index ≤ last) × (1996 ≤ year) × (year ≤ 2899) ⌝ }
+    ensures { λ r. ⌜ r ≡ isEasterFeast index year ⌝ }
+{
+    let easter = datum::days_before(easter_sunday(year));
+    is_offset((index as i64) - (easter as i64))
+}
+
+fn is_bdew_mako_holiday(index: u32) -> bool
+    requires { ⌜ index ≤ last ⌝ }
+    ensures { λ r. ⌜ r ≡ isHoliday index ⌝ }
+{
+    let date = datum::date_of(index);
+    if is_fixed(date.month, date.day) {
+        return true;
+    }
+    if is_buss_und_bettag(date.month, date.day, datum::weekday(index)) {
+        return true;
+    }
+    is_easter_feast(index, date.year)
+}
+
+// Whether a day, given by its index, is a Werktag: 18 November 2026, Buß- und Bettag, is none.
+pub fn is_werktag(day: u32, cal: HolidayCalendar) -> bool
+    requires { ⌜ day ≤ last ⌝ }
+    ensures { λ r. ⌜ r ≡ werktag cal day ⌝ }
+{
+    if 5 <= datum::weekday(day) {
+        return false;
+    }
+    match cal {
+        HolidayCalendar::BdewMaKo => !is_bdew_mako_holiday(day),
+    }
+}
