@@ -11,14 +11,11 @@ use lib.IntN.{ℤ, pos, negsuc, negℤ, natAbs, _+ℤ_, _-ℤ_, +ℤ-one, +ℤ-i
 use lib.Signed.{ltZ, nonNeg}
 use borrow.Author.Tests.{ltb-true}
 use mir.Syntax.{w64}
-use mir.Val.{Fits, SFits, toZ, ofZ}
+use mir.Val.{Fits, SFits}
 use mir.Facts.{toZ-ofZ}
+use Rattle.datum.proofs.Signed.{back}
 use Rattle.antwortsatz.specs.declared.Answer.{Answer}
 use Rattle.antwortsatz.specs.Bytes.{bitsOf, laid, bytesOf}
-
--- a signed local, read back
-abbrev back : ℤ → ℤ
-back z = toZ w64 (ofZ w64 z)
 
 -- -(n + 1) + 1 is -n
 next : (n : ℕ) → negsuc n +ℤ pos 1 ≡ negℤ (pos n)

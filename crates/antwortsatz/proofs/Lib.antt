@@ -1,2 +1,3 @@
--- The bits of a signed number, for the proofs of `bits_of` and `record_bytes`.
 pub mod Bits
+pub mod AnswerBytes
+pub mod Rules

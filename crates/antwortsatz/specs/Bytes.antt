@@ -4,7 +4,6 @@
 --   dateBytes d         = year (2 bytes), month, day
 --   laid a s            = the 32 bytes of the answer a, with s for the bits of its seconds
 --   bytesOf a           = the 32 bytes of the answer a
---   pick b x y          = x if b, else y
 --   repliedTo l a       = the number returned and the slice at exit, for a slice that held l at entry and the answer a
 -- Source: document 01, "Host calls and their refusals": "an answer of 32 bytes, little-endian, no header: byte 0 refusal
 -- number or 0; 1 kind; 2 and 3 zero; 4 to 7 count; 8 to 15 seconds, signed; 16 to 19 nanoseconds; 20 to 23 a date (year 2
@@ -12,7 +11,7 @@
 -- slice untouched".
 -- Assumes nothing.
 use Prim.Native.Nat.{ℕ, suc, _-_, _/_, _%_}
-use mathlib.Core.Bool.{Bool, true, false}
+use mathlib.Core.Bool.{cond}
 use mathlib.Core.List.{List, [], _∷_, _++_}
 use lib.Dec.{eqb}
 use lib.IntN.{ℤ, pos, negsuc}
@@ -48,9 +47,5 @@ laid a s =
 unfoldable pub bytesOf : Answer → List ℕ
 bytesOf a = laid a (bitsOf (a .seconds))
 
-abbrev pub pick : {A : Type 0} → Bool → A → A → A
-pick true x y = x
-pick false x y = y
-
 unfoldable pub repliedTo : List ℕ → Answer → ℕ × List ℕ
-repliedTo l a = pick (eqb (length l) 32) (a .refusal, bytesOf a) (1, l)
+repliedTo l a = cond (eqb (length l) 32) (a .refusal, bytesOf a) (1, l)

@@ -1,4 +1,2 @@
 pub mod Bytes
 pub mod Answers
-pub mod Layout
-pub mod Rules

@@ -1,4 +1,3 @@
-pub mod Every
 pub mod Years
 pub mod Dates
 pub mod RoundTrip
@@ -6,3 +5,4 @@ pub mod Signed
 pub mod FloorLaws
 pub mod Rules
 pub mod MonthRules
+pub mod OutsideValues

@@ -16,7 +16,7 @@ use Rattle.zaehlung.specs.Blocks.{start, at, at-sum, at-below}
 use Rattle.datum.specs.declared.Date.{Date}
 use Rattle.datum.specs.declared.Index.the-variants.{Day, NoDate}
 use Rattle.datum.specs.Calendar.{leap, yearLen, yearStart, yearOf, months, monthLen, monthStart, monthOf, dateIn, dateOf, daysBefore, indexOf, valid}
-use Rattle.datum.proofs.Every.{run, run-at}
+use Rattle.zaehlung.specs.Every.{run, run-at}
 use Rattle.datum.proofs.Years.{closed, year-found, year-le, start-none, year-rest}
 use Rattle.datum.proofs.Dates.{all-le, at-most, len-le, months-sum, month-first, start-month, month-found, valid-is, index-below, year-below}
 

@@ -2,3 +2,4 @@ pub mod Search
 pub mod Signed
 pub mod Easter
 pub mod Rules
+pub mod OutsideValues

@@ -15,7 +15,7 @@ use mir.Facts.{toZ-ofZ}
 use Rattle.zaehlung.specs.Walk.{last}
 use Rattle.datum.specs.declared.Date.{Date}
 use Rattle.datum.specs.Calendar.{dateOf, daysBefore, weekdayOf}
-use Rattle.datum.proofs.Every.{run, run-at}
+use Rattle.zaehlung.specs.Every.{run, run-at}
 use Rattle.datum.proofs.Dates.{and-left, and-right, index-date}
 use Rattle.datum.proofs.Signed.{back, pos-fits, neg-fits, back-pos, sub-fits, same-bits}
 use Rattle.werktag.specs.declared.HolidayCalendar.{HolidayCalendar}

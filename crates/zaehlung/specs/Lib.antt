@@ -4,3 +4,4 @@ pub mod Count
 pub mod Reach
 pub mod Laws
 pub mod Blocks
+pub mod Every

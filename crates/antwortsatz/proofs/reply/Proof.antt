@@ -5,7 +5,7 @@ use Prim.Native.Nat.{_≤_, _-_}
 use mathlib.Core.Path.{_≡_}
 use borrow.Author.Needs.{needs}
 use lib.ListN.{length, take}
-use Rattle.antwortsatz.specs.Rules.{reply-rules}
+use Rattle.antwortsatz.proofs.Rules.{reply-rules}
 use Rattle.antwortsatz.proofs.reply.Statement.{statement}
 use Rattle.antwortsatz.proofs.reply.Tie as tie
 

@@ -6,7 +6,7 @@ use mathlib.Core.Path.{_≡_}
 use borrow.Author.Needs.{needs}
 use Rattle.zaehlung.specs.Walk.{last, add}
 use Rattle.werktag.specs.Werktag.{werktag}
-use Rattle.schritte.specs.Rules.{rules}
+use Rattle.schritte.proofs.Rules.{rules}
 use Rattle.schritte.proofs.add_werktage.Statement.{statement}
 use Rattle.schritte.proofs.add_werktage.Tie as tie
 

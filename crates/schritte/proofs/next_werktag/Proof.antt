@@ -6,7 +6,7 @@ use mathlib.Core.Path.{_≡_}
 use borrow.Author.Needs.{needs}
 use Rattle.zaehlung.specs.Walk.{last, next}
 use Rattle.werktag.specs.Werktag.{werktag}
-use Rattle.schritte.specs.Rules.{rules}
+use Rattle.schritte.proofs.Rules.{rules}
 use Rattle.schritte.proofs.next_werktag.Statement.{statement}
 use Rattle.schritte.proofs.next_werktag.Tie as tie
 

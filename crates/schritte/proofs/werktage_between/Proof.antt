@@ -6,7 +6,7 @@ use mathlib.Core.Path.{_≡_}
 use borrow.Author.Needs.{needs}
 use Rattle.zaehlung.specs.Walk.{between}
 use Rattle.werktag.specs.Werktag.{werktag}
-use Rattle.schritte.specs.Rules.{rules}
+use Rattle.schritte.proofs.Rules.{rules}
 use Rattle.schritte.proofs.werktage_between.Statement.{statement}
 use Rattle.schritte.proofs.werktage_between.Tie as tie
 

@@ -13,7 +13,7 @@ use lib.ListN.{length, getD, set, take, length-set}
 use lib.Seq.{take-all, take-suc, take-suc-set}
 use Rattle.antwortsatz.specs.declared.Answer.{Answer}
 use Rattle.antwortsatz.specs.Bytes.{bytesOf, repliedTo}
-use Rattle.antwortsatz.specs.Layout.{bytes-length}
+use Rattle.antwortsatz.proofs.AnswerBytes.{bytes-length}
 
 pub call-replied :
     (l l′ : List ℕ) (a b : Answer) (r : ℕ) →

@@ -1,0 +1,37 @@
+-- The list's definitions against values from outside: Easter Sundays of published tables (Physikalisch-Technische Bundesanstalt; the earliest and
+-- the latest possible date among them), and days whose holidays of 2026 are published.
+-- Assumes nothing.
+use Prim.Native.Nat.{ℕ, _+_}
+use mathlib.Core.Bool.{Bool, true, false}
+use mathlib.Core.List.{List, [], _∷_}
+use mathlib.Core.Path.{_≡_, refl}
+use Rattle.zaehlung.specs.Blocks.{start, at}
+use Rattle.datum.specs.declared.Date.{Date}
+use Rattle.datum.specs.Calendar.{leap, yearLen, monthLen, dateIn, dateOf, daysBefore}
+use Rattle.werktag.specs.declared.HolidayCalendar.the-variants.{BdewMaKo}
+use Rattle.werktag.specs.Easter.{easterSunday, easterIndex}
+use Rattle.werktag.specs.Werktag.{any, isFixed, isBussUndBettag, isEasterFeast, isHoliday, werktag}
+
+abbrev on : ℕ → ℕ → ℕ → Date
+on y m d = record { year = y; month = m; day = d }
+
+pub easters :
+    easterSunday 1996 ∷ easterSunday 2000 ∷ easterSunday 2008 ∷ easterSunday 2019 ∷ easterSunday 2026 ∷ easterSunday 2038 ∷ easterSunday 2049
+    ∷ easterSunday 2100 ∷ easterSunday 2285 ∷ easterSunday 2353 ∷ easterSunday 2500 ∷ easterSunday 2899 ∷ []
+    ≡ on 1996 4 7 ∷ on 2000 4 23 ∷ on 2008 3 23 ∷ on 2019 4 21 ∷ on 2026 4 5 ∷ on 2038 4 25 ∷ on 2049 4 18
+    ∷ on 2100 3 28 ∷ on 2285 3 22 ∷ on 2353 3 22 ∷ on 2500 4 18 ∷ on 2899 4 19 ∷ []
+unfolding easterSunday
+easters = refl
+
+abbrev w : Date → Bool
+w d = werktag BdewMaKo (daysBefore d)
+
+-- 2026: Karfreitag 3 April, Ostermontag 6 April, Christi Himmelfahrt 14 May, Pfingstmontag 25 May, Fronleichnam 4 June, Buß- und Bettag
+-- 18 November; then the Tuesday after Easter, the Wednesday before and the Wednesday after Buß- und Bettag, and a Saturday
+pub year-2026 :
+    w (on 2026 4 3) ∷ w (on 2026 4 6) ∷ w (on 2026 5 14) ∷ w (on 2026 5 25) ∷ w (on 2026 6 4) ∷ w (on 2026 11 18)
+    ∷ w (on 2026 4 7) ∷ w (on 2026 11 11) ∷ w (on 2026 11 25) ∷ w (on 2026 4 4) ∷ []
+    ≡ false ∷ false ∷ false ∷ false ∷ false ∷ false
+    ∷ true ∷ true ∷ true ∷ false ∷ []
+unfolding werktag isHoliday isFixed isBussUndBettag isEasterFeast any easterIndex easterSunday dateOf dateIn at start yearLen monthLen leap
+year-2026 = refl

@@ -1,0 +1,116 @@
+use crate::{Date, Refusal};
+use std::fmt;
+
+const REFUSAL: usize = 0;
+const KIND: usize = 1;
+const COUNT: usize = 4;
+const SECONDS: usize = 8;
+const NANOS: usize = 16;
+const DATE: usize = 20;
+const LAST_DATE: usize = 24;
+
+/// The 32 bytes of an answer, little-endian, laid out as document 01 says. What a call does not
+/// fill is zero.
+#[derive(Clone, Copy, Debug, Default, PartialEq, Eq)]
+pub struct Answer {
+    bytes: [u8; Answer::LEN],
+}
+
+impl Answer {
+    pub const LEN: usize = 32;
+
+    #[must_use]
+    pub const fn from_bytes(bytes: [u8; Answer::LEN]) -> Answer {
+        Answer { bytes }
+    }
+
+    #[must_use]
+    pub const fn as_bytes(&self) -> &[u8; Answer::LEN] {
+        &self.bytes
+    }
+
+    /// The refusal number, or 0.
+    #[must_use]
+    pub const fn number(&self) -> u8 {
+        self.bytes[REFUSAL]
+    }
+
+    #[must_use]
+    pub const fn kind(&self) -> u8 {
+        self.bytes[KIND]
+    }
+
+    #[must_use]
+    pub fn count(&self) -> u32 {
+        u32::from_le_bytes(self.field(COUNT))
+    }
+
+    /// Whole seconds since 1970-01-01T00:00Z.
+    #[must_use]
+    pub fn seconds(&self) -> i64 {
+        i64::from_le_bytes(self.field(SECONDS))
+    }
+
+    #[must_use]
+    pub fn nanos(&self) -> u32 {
+        u32::from_le_bytes(self.field(NANOS))
+    }
+
+    #[must_use]
+    pub fn date(&self) -> Date {
+        Date::from_bytes(self.field(DATE))
+    }
+
+    /// The span's last date.
+    #[must_use]
+    pub fn last_date(&self) -> Date {
+        Date::from_bytes(self.field(LAST_DATE))
+    }
+
+    /// A refusal's answer: its number, and nothing else.
+    #[must_use]
+    pub fn refused(refusal: Refusal) -> Answer {
+        Answer::default().with(REFUSAL, &[refusal.number()])
+    }
+
+    #[must_use]
+    pub fn with_kind(self, kind: u8) -> Answer {
+        self.with(KIND, &[kind])
+    }
+
+    #[must_use]
+    pub fn with_count(self, count: u32) -> Answer {
+        self.with(COUNT, &count.to_le_bytes())
+    }
+
+    #[must_use]
+    pub fn with_instant(self, seconds: i64, nanos: u32) -> Answer {
+        self.with(SECONDS, &seconds.to_le_bytes()).with(NANOS, &nanos.to_le_bytes())
+    }
+
+    #[must_use]
+    pub fn with_date(self, date: Date) -> Answer {
+        self.with(DATE, &date.to_bytes())
+    }
+
+    #[must_use]
+    pub fn with_last_date(self, date: Date) -> Answer {
+        self.with(LAST_DATE, &date.to_bytes())
+    }
+
+    fn field<const N: usize>(&self, at: usize) -> [u8; N] {
+        std::array::from_fn(|i| self.bytes[at + i])
+    }
+
+    fn with(mut self, at: usize, field: &[u8]) -> Answer {
+        self.bytes[at..at + field.len()].copy_from_slice(field);
+        self
+    }
+}
+
+/// The bytes as 64 hexadecimal digits.
+impl fmt::LowerHex for Answer {
+    fn fmt(&self, f: &mut fmt::Formatter<'_>) -> fmt::Result {
+        self.bytes.iter().try_for_each(|byte| write!(f, "{byte:02x}"))
+    }
+}

@@ -1,0 +1,55 @@
+//! Writes the replay list: a sample of the original's answers, some 350 for each call, from all
+//! rows of the comparison. A line is the question's 32 bytes, a space and the answer's 32 bytes,
+//! in hexadecimal. The same seed gives the same file. Options: `--seed N`, `--out PATH`.
+
+use harness::options::{self, DEFAULT_SEED};
+use harness::original;
+use harness::random::Random;
+use harness::rows::{self, Row};
+use harness::run::hex;
+use mako_fristen_host::{Answer, Call, Question};
+use std::collections::HashSet;
+use std::fs;
+use std::process::ExitCode;
+
+const PER_CALL: usize = 352;
+/// Of each random row; how long a row is does not matter here.
+const RANDOM: u64 = 1_000_000;
+
+fn main() -> ExitCode {
+    options::only(&["--seed", "--out"]);
+    let seed = options::option("--seed", DEFAULT_SEED);
+    let path = options::option("--out", String::from("vectors.txt"));
+    original::silence();
+    let rows = rows::rows(seed, RANDOM);
+    let questions: Vec<Question> =
+        Call::ALL.into_iter().flat_map(|call| sample(call, &rows, seed)).collect();
+    let text: String = questions.iter().map(line).collect();
+    if let Err(error) = fs::write(&path, text) {
+        eprintln!("{path}: {error}");
+        return ExitCode::FAILURE;
+    }
+    println!("{} answers of {} calls in {path}", questions.len(), Call::ALL.len());
+    ExitCode::SUCCESS
+}
+
+/// Different questions of the call, taken from its rows in turn.
+fn sample(call: Call, rows: &[Row], seed: u64) -> Vec<Question> {
+    let rows: Vec<&Row> = rows.iter().filter(|row| row.call == call).collect();
+    let mut random = Random::at(seed, u64::from(call.number()), u64::MAX);
+    let (mut seen, mut questions) = (HashSet::new(), Vec::new());
+    for row in rows.iter().cycle() {
+        let probe = (row.probe)(random.number() % row.len);
+        if probe.len == Answer::LEN && seen.insert(probe.question) {
+            questions.push(probe.question);
+        }
+        if questions.len() == PER_CALL {
+            break;
+        }
+    }
+    questions
+}
+
+fn line(question: &Question) -> String {
+    format!("{} {:x}\n", hex(&question.to_bytes()), original::expected(question))
+}
