@@ -6,27 +6,27 @@ use datum::Date;
 
 // The refusals of document 01, "Host calls and their refusals".
 
-// The answer isn't 32 bytes long.
+/// The answer isn't 32 bytes long.
 pub const WRONG_LENGTH: u8 = 1;
-// A code is unknown.
+/// A code is unknown.
 pub const UNKNOWN_CODE: u8 = 2;
-// A given date is no date of the range.
+/// A given date is no date of the range.
 pub const NO_DATE: u8 = 3;
-// An instant lies outside its limits.
+/// An instant lies outside its limits.
 pub const NO_INSTANT: u8 = 4;
-// Hour over 23, minute or second over 59, nanoseconds over 999,999,999.
+/// Hour over 23, minute or second over 59, nanoseconds over 999,999,999.
 pub const NO_CLOCK: u8 = 5;
-// The local time is absent.
+/// The local time is absent.
 pub const ABSENT_TIME: u8 = 6;
-// The instant is not the beginning of a day in that Sparte.
+/// The instant is not the beginning of a day in that Sparte.
 pub const NO_TAGESBEGINN: u8 = 7;
-// A result leaves the calendar.
+/// A result leaves the calendar.
 pub const LEFT_CALENDAR: u8 = 8;
 
-// The answer's length in bytes.
+/// The answer's length in bytes.
 const ANSWER_BYTES: usize = 32;
 
-// The fields of an answer, in the order of their bytes. A field that a call does not use is 0.
+/// The fields of an answer, in the order of their bytes. A field that a call does not use is 0.
 pub struct Answer {
     pub refusal: u8,
     pub kind: u8,
@@ -37,7 +37,7 @@ pub struct Answer {
     pub last: Date,
 }
 
-// "Unused fields are zero": where every answer starts.
+/// "Unused fields are zero": where every answer starts.
 fn blank() -> Answer
     ensures { λ r. ⌜ r ≡ zeroAnswer ⌝ }
 {
@@ -60,7 +60,7 @@ fn blank() -> Answer
     }
 }
 
-// "A refusal leaves bytes 1 to 31 zero."
+/// "A refusal leaves bytes 1 to 31 zero."
 pub fn refused(number: u8) -> Answer
     ensures { λ r. ⌜ r ≡ refusedWith number ⌝ }
 {
@@ -69,7 +69,7 @@ pub fn refused(number: u8) -> Answer
     a
 }
 
-// A kind alone: a day test, a deregistration reason.
+/// A kind alone: a day test, a deregistration reason.
 pub fn of_kind(kind: u8) -> Answer
     ensures { λ r. ⌜ r ≡ kindAnswer kind ⌝ }
 {
@@ -78,7 +78,7 @@ pub fn of_kind(kind: u8) -> Answer
     a
 }
 
-// A count alone.
+/// A count alone.
 pub fn counted(count: u32) -> Answer
     ensures { λ r. ⌜ r ≡ countAnswer count ⌝ }
 {
@@ -87,7 +87,7 @@ pub fn counted(count: u32) -> Answer
     a
 }
 
-// A date alone: a step.
+/// A date alone: a step.
 pub fn dated(date: Date) -> Answer
     ensures { λ r. ⌜ r ≡ dateAnswer date ⌝ }
 {
@@ -96,8 +96,8 @@ pub fn dated(date: Date) -> Answer
     a
 }
 
-// The 64 bits of a signed number, two's complement: what its eight bytes are made of. Only a cast that loses nothing is
-// allowed, so a negative number -(y + 1) goes through y.
+/// The 64 bits of a signed number, two's complement: what its eight bytes are made of. Only a cast that loses nothing is
+/// allowed, so a negative number -(y + 1) goes through y.
 pub fn bits_of(x: i64) -> u64
     ensures { λ r. ⌜ r ≡ bitsOf x ⌝ }
 {
@@ -108,7 +108,7 @@ pub fn bits_of(x: i64) -> u64
     x as u64
 }
 
-// The 32 bytes of an answer, little-endian, no header.
+/// The 32 bytes of an answer, little-endian, no header.
 pub fn record_bytes(a: Answer) -> [u8; 32]
     ensures { λ r. ⌜ r ≡ bytesOf a ⌝ }
 {
@@ -153,8 +153,8 @@ pub fn record_bytes(a: Answer) -> [u8; 32]
     ]
 }
 
-// Writes the answer and returns its refusal number, if the slice has 32 bytes; else returns 1, and the slice stays.
-// The one writer: every host call ends in it.
+/// Writes the answer and returns its refusal number, if the slice has 32 bytes; else returns 1, and the slice stays.
+/// The one writer: every host call ends in it.
 pub fn reply(answer: &mut [u8], a: Answer) -> u8
     ensures { λ r. ⌜ (r, now (answer .exit)) ≡ repliedTo (now (answer .entry)) a ⌝ }
 {

@@ -14,24 +14,26 @@ pub const FIRST_YEAR: u16 = 1996;
 
 pub const LAST_YEAR: u16 = 2899;
 
+/// A date by value. Any three numbers may stand in it; `index_of` says which are a date of the range.
 pub struct Date {
     pub year: u16,
     pub month: u8,
     pub day: u8,
 }
 
-// The index of a date, or that it is no date of the range.
+/// The index of a date, or that it is no date of the range.
 pub enum Index {
     Day(u32),
     NoDate,
 }
 
-// A date shifted by months, or that it leaves the calendar.
+/// A date shifted by months, or that it leaves the calendar.
 pub enum Shifted {
     On(Date),
     Outside,
 }
 
+/// Every fourth year, of the full hundreds every fourth: 2000 was one, 2100 is none.
 pub fn is_leap(year: u16) -> bool
     ensures { λ r. ⌜ r ≡ leap year ⌝ }
 {
@@ -46,7 +48,7 @@ pub fn is_leap(year: u16) -> bool
 
 const DAYS_IN_MONTH: [u8; 13] = [0, 31, 28, 31, 30, 31, 30, 31, 31, 30, 31, 30, 31];
 
-// Months 0 and above 12 have no days.
+/// Months 0 and above 12 have no days.
 pub fn days_in_month(leap: bool, month: u8) -> u8
     ensures { λ r. ⌜ (r ≡ monthLen leap month) × (r ≤ 31) ⌝ }
 {
@@ -80,7 +82,7 @@ const DAYS_BEFORE_MONTH: [u32; 14] = [
     365,
 ];
 
-// Days of the year before a month; month 13 stands for the year's end.
+/// Days of the year before a month; month 13 stands for the year's end.
 fn month_start(leap: bool, month: u32) -> u32
     requires { ⌜ month ≤ 13 ⌝ }
     ensures { λ r. ⌜ (r ≡ monthStart leap month) × (r ≤ 366) ⌝ }
@@ -95,7 +97,7 @@ fn month_start(leap: bool, month: u32) -> u32
     common
 }
 
-// The index of 1 January of the year 1996 + k, without a loop.
+/// The index of 1 January of the year 1996 + k, without a loop.
 fn year_start(k: u32) -> u32
     requires { ⌜ k ≤ 904 ⌝ }
     ensures { λ r. ⌜ (r ≡ yearStart k) × (r ≤ 331000) ⌝ }
@@ -104,13 +106,13 @@ fn year_start(k: u32) -> u32
     365 * k + (y / 4 + y / 400 - y / 100) - 483
 }
 
-// A year, counted from 1996, and a day of it, counted from 0.
+/// A year, counted from 1996, and a day of it, counted from 0.
 struct YearDay {
     year: u32,
     day: u32,
 }
 
-// The year of a day. The guess is never proved to be good: the two loops set it right.
+/// The year of a day. The guess is never proved to be good: the two loops set it right.
 fn year_of(index: u32) -> YearDay
     requires { ⌜ index ≤ last ⌝ }
     ensures { λ r. ⌜ (r .year ≡ yearOf index .0) × (r .day ≡ yearOf index .1) × (r .year ≤ 903) ⌝ }
@@ -128,7 +130,7 @@ fn year_of(index: u32) -> YearDay
     }
 }
 
-// The month of a day of the year. No month has 32 days, so the guess is never too late.
+/// The month of a day of the year. No month has 32 days, so the guess is never too late.
 fn month_of(leap: bool, day: u32) -> u32
     requires { ⌜ day < 365 + bit leap ⌝ }
     ensures { λ r. ⌜ (r ≡ monthOf leap day .0) × (1 ≤ r) × (r ≤ 12) ⌝ }
@@ -140,7 +142,7 @@ fn month_of(leap: bool, day: u32) -> u32
     month
 }
 
-// The index of a date of the range.
+/// The index of a date of the range.
 pub fn days_before(date: Date) -> u32
     requires { ⌜ valid date ≡ true ⌝ }
     ensures { λ r. ⌜ (r ≡ daysBefore date) × (r ≤ last) ⌝ }
@@ -152,6 +154,7 @@ pub fn days_before(date: Date) -> u32
     year_start(k) + month_start(leap, month) + (day - 1)
 }
 
+/// The index of a date: 1 January 1996 is 0, 31 December 2899 is 330,179. 29 February 2026 is no date.
 pub fn index_of(date: Date) -> Index
     ensures { λ r. ⌜ r ≡ indexOf date ⌝ }
 {
@@ -179,6 +182,7 @@ pub fn index_of(date: Date) -> Index
     Index::Day(days_before(date))
 }
 
+/// The date of an index: what `index_of` undoes.
 pub fn date_of(index: u32) -> Date
     requires { ⌜ index ≤ last ⌝ }
     ensures { λ r. ⌜ r ≡ dateOf index ⌝ }
@@ -195,20 +199,20 @@ pub fn date_of(index: u32) -> Date
     }
 }
 
-// Monday is 0: 1 January 1996 was a Monday.
+/// Monday is 0: 1 January 1996 was a Monday.
 pub fn weekday(index: u32) -> u32
     ensures { λ r. ⌜ r ≡ weekdayOf index ⌝ }
 {
     index % 7
 }
 
-// A month of a year: the month is counted from 0, and either may lie before year 0.
+/// A month of a year: the month is counted from 0, and either may lie before year 0.
 struct YearMonth {
     year: i64,
     month: i64,
 }
 
-// The month numbered t from January of year 0: division that rounds down, below zero too.
+/// The month numbered t from January of year 0: division that rounds down, below zero too.
 fn split_months(t: i64) -> YearMonth
     ensures { λ r. ⌜ (r .year ≡ floorDiv t 12) × (r .month ≡ floorMod t 12) ⌝ }
 {
@@ -223,7 +227,7 @@ fn split_months(t: i64) -> YearMonth
     YearMonth { year, month }
 }
 
-// The day in a month of the calendar; one that the month lacks becomes its last.
+/// The day in a month of the calendar; one that the month lacks becomes its last.
 fn in_month(year: u16, month: u8, day: u8) -> Shifted
     requires { ⌜ (1996 ≤ year) × (year ≤ 2899) ⌝ }
     ensures { λ r. ⌜ r ≡ inMonth year month day ⌝ }
@@ -239,7 +243,7 @@ fn in_month(year: u16, month: u8, day: u8) -> Shifted
     Shifted::On(Date { year, month, day })
 }
 
-// The day in the month numbered t from January of year 0.
+/// The day in the month numbered t from January of year 0.
 fn on_month(t: i64, day: u8) -> Shifted
     ensures { λ r. ⌜ r ≡ onMonth t day ⌝ }
 {
@@ -255,7 +259,7 @@ fn on_month(t: i64, day: u8) -> Shifted
     in_month(year as u16, (month + 1) as u8, day)
 }
 
-// The number of a date's month, counted from January of year 0.
+/// The number of a date's month, counted from January of year 0.
 fn ordinal_of(date: Date) -> i64
     requires { ⌜ 1 ≤ date .month ⌝ }
     ensures { λ r. ⌜ r ≡ pos (ordinal date) ⌝ }
@@ -264,7 +268,7 @@ fn ordinal_of(date: Date) -> i64
     months as i64
 }
 
-// n months later, BGB §188: 31 January 2026 and 1 month is 28 February 2026.
+/// n months later, BGB §188: 31 January 2026 and 1 month is 28 February 2026.
 pub fn add_months(date: Date, n: u32) -> Shifted
     requires { ⌜ 1 ≤ date .month ⌝ }
     ensures { λ r. ⌜ r ≡ addMonths date n ⌝ }
@@ -272,7 +276,7 @@ pub fn add_months(date: Date, n: u32) -> Shifted
     on_month(ordinal_of(date) + (n as i64), date.day)
 }
 
-// n months earlier, BGB §188: 31 March 2024 and 1 month is 29 February 2024.
+/// n months earlier, BGB §188: 31 March 2024 and 1 month is 29 February 2024.
 pub fn subtract_months(date: Date, n: u32) -> Shifted
     requires { ⌜ 1 ≤ date .month ⌝ }
     ensures { λ r. ⌜ r ≡ subtractMonths date n ⌝ }

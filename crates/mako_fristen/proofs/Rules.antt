@@ -21,7 +21,7 @@ use Rattle.werktag.specs.declared.HolidayCalendar.the-variants.{BdewMaKo}
 use Rattle.werktag.specs.Werktag.{werktag}
 use Rattle.antwortsatz.specs.declared.Answer.{Answer}
 use Rattle.antwortsatz.specs.Answers.{refusedWith, kindAnswer, countAnswer, dateAnswer}
-use Rattle.mako_fristen.specs.Calls.{inside, onDate, stepAnswer, shiftAnswer}
+use Rattle.mako_fristen.specs.Reading.{inside, onDate, stepAnswer, shiftAnswer}
 
 -- x is what `index_of` returned for d
 module _ (d : Date) (x : Index) where

@@ -10,7 +10,7 @@ ghost use Rattle.werktag.specs.Easter.{easterSunday, easterIndex};
 ghost use Rattle.werktag.specs.Werktag.{any, eqZ, easterOffsets, isFixed, isBussUndBettag, isEasterFeast, isHoliday, werktag};
 use datum::Date;
 
-// Whose holidays count. A holiday of any one Land counts everywhere.
+/// Whose holidays count. A holiday of any one Land counts everywhere.
 pub enum HolidayCalendar {
     BdewMaKo,
 }
@@ -21,7 +21,7 @@ const FIXED_DAY: [u8; 13] = [1, 6, 8, 1, 15, 20, 3, 31, 1, 24, 25, 26, 31];
 
 const EASTER_OFFSET: [i64; 6] = [-2, 1, 39, 49, 50, 60];
 
-// Whether month and day stand side by side in the two tables.
+/// Whether month and day stand side by side in the two tables.
 fn is_fixed(month: u8, day: u8) -> bool
     ensures { λ r. ⌜ r ≡ isFixed month day ⌝ }
 {
@@ -39,7 +39,7 @@ fn is_fixed(month: u8, day: u8) -> bool
     false
 }
 
-// The Wednesday from 16 to 22 November.
+/// The Wednesday from 16 to 22 November.
 fn is_buss_und_bettag(month: u8, day: u8, weekday: u32) -> bool
     ensures { λ r. ⌜ r ≡ isBussUndBettag month day weekday ⌝ }
 {
@@ -55,7 +55,7 @@ fn is_buss_und_bettag(month: u8, day: u8, weekday: u32) -> bool
     weekday == 2
 }
 
-// Easter Sunday by the Anonymous Gregorian algorithm, in its own letters.
+/// Easter Sunday by the Anonymous Gregorian algorithm, in its own letters.
 fn easter_sunday(year: u16) -> Date
     requires { ⌜ (1996 ≤ year) × (year ≤ 2899) ⌝ }
     ensures { λ r. ⌜ r ≡ easterSunday year ⌝ }
@@ -81,7 +81,7 @@ fn easter_sunday(year: u16) -> Date
     }
 }
 
-// Whether a number of days from Easter Sunday is one of the table's.
+/// Whether a number of days from Easter Sunday is one of the table's.
 fn is_offset(distance: i64) -> bool
     ensures { λ r. ⌜ r ≡ any (eqZ distance) easterOffsets ⌝ }
 {
@@ -96,7 +96,7 @@ fn is_offset(distance: i64) -> bool
     false
 }
 
-// Whether a day is one of the feasts that move with Easter Sunday of its year.
+/// Whether a day is one of the feasts that move with Easter Sunday of its year.
 fn is_easter_feast(index: u32, year: u16) -> bool
     requires { ⌜ (index ≤ last) × (1996 ≤ year) × (year ≤ 2899) ⌝ }
     ensures { λ r. ⌜ r ≡ isEasterFeast index year ⌝ }
@@ -105,6 +105,7 @@ fn is_easter_feast(index: u32, year: u16) -> bool
     is_offset((index as i64) - (easter as i64))
 }
 
+/// Whether a day stands in the list: the fixed days, Buß- und Bettag, the feasts that move with Easter.
 fn is_bdew_mako_holiday(index: u32) -> bool
     requires { ⌜ index ≤ last ⌝ }
     ensures { λ r. ⌜ r ≡ isHoliday index ⌝ }
@@ -119,7 +120,7 @@ fn is_bdew_mako_holiday(index: u32) -> bool
     is_easter_feast(index, date.year)
 }
 
-// Whether a day, given by its index, is a Werktag: 18 November 2026, Buß- und Bettag, is none.
+/// Whether a day, given by its index, is a Werktag: 18 November 2026, Buß- und Bettag, is none.
 pub fn is_werktag(day: u32, cal: HolidayCalendar) -> bool
     requires { ⌜ day ≤ last ⌝ }
     ensures { λ r. ⌜ r ≡ werktag cal day ⌝ }

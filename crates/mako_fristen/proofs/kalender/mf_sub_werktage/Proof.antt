@@ -1,0 +1,22 @@
+-- `mako_fristen::kalender::mf_sub_werktage` meets its contract: its answer is what the definition gives, and `reply` writes it.
+-- Assumes nothing.
+use Rattle.antwortsatz.proofs.Rules.{call-rules}
+use borrow.Author.Needs.{needs}
+use Rattle.mako_fristen.proofs.kalender.mf_sub_werktage.Statement.{statement}
+use Rattle.mako_fristen.proofs.kalender.mf_sub_werktage.Tie as tie
+
+sub-werktage-answer-requires : tie.Need-sub-werktage-answer-requires
+sub-werktage-answer-requires c κs = search needs
+
+reply-requires : tie.Need-reply-requires
+reply-requires c κs = search needs
+
+same-length : tie.Need-same-length
+same-length c = search needs
+
+returns : tie.Need-returns
+returns c = search (needs, call-rules)
+
+pub mf-sub-werktage-spec : {M : Type 1} → statement M
+mf-sub-werktage-spec =
+    tie.close (tie.spec sub-werktage-answer-requires reply-requires same-length returns)
