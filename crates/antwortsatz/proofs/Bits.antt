@@ -4,18 +4,19 @@
 -- Assumes nothing.
 use Prim.Native.Nat.{ℕ, zero, suc, _-_, _^_, _≤_, _<_}
 use mathlib.Core.Bool.{true, false}
-use mathlib.Core.Path.{_≡_, refl, _∙_, subst}
+use mathlib.Core.Path.{_≡_, refl, sym, ap, _∙_, subst}
 use native.Mathlib.Omega.{arith}
+use native.Mathlib.Decide.{decLt}
 use lib.Dec.{T}
 use lib.IntN.{ℤ, pos, negsuc, negℤ, natAbs, _+ℤ_, _-ℤ_, +ℤ-one, +ℤ-idl, negℤ-negℤ}
 use lib.Signed.{ltZ, nonNeg}
-use borrow.Author.Tests.{ltb-true}
+use borrow.Author.Tests.{ltb-true, lt-ltb, le-ltb}
 use mir.Syntax.{w64}
-use mir.Val.{Fits, SFits}
+use mir.Val.{Fits, SFits, toZ}
 use mir.Facts.{toZ-ofZ}
-use Rattle.datum.proofs.Signed.{back}
+use Rattle.datum.proofs.Signed.{back, back-pos, neg-fits}
 use Rattle.antwortsatz.specs.declared.Answer.{Answer}
-use Rattle.antwortsatz.specs.Bytes.{bitsOf, laid, bytesOf}
+use Rattle.antwortsatz.specs.Bytes.{bitsOf, signedOf, laid, bytesOf}
 
 -- -(n + 1) + 1 is -n
 next : (n : ℕ) → negsuc n +ℤ pos 1 ≡ negℤ (pos n)
@@ -91,3 +92,41 @@ pub ruleset bits-rules = (add-asks, sub-asks, cast-sign, cast-fits, top-asks, bi
 pub bytes-are : (a : Answer) (s : ℕ) → SFits w64 (a .seconds) → s ≡ bitsOf (back (a .seconds)) → laid a s ≡ bytesOf a
 unfolding bytesOf
 bytes-are a s f e = rw (e, toZ-ofZ f)
+
+-- signed_of: x is the bits of a number below zero, y how far that is below -1
+below : (k : ℕ) → negℤ (pos k) -ℤ pos 1 ≡ negsuc k
+below zero = refl
+below (suc k) = ap negsuc (omega arith)
+
+module _ (x : ℕ) where
+  pub signed-small : x < 9223372036854775808 → toZ w64 x ≡ signedOf x
+  unfolding signedOf
+  signed-small h = let e : signedOf x ≡ pos x = (rw (lt-ltb x 9223372036854775808 h)) in back-pos x (omega arith) ∙ sym e
+
+  module _ (h : 9223372036854775808 ≤ x) where
+    first : pos 0 -ℤ toZ w64 (18446744073709551615 - x) ≡ negℤ (pos (18446744073709551615 - x))
+    first = rw (back-pos (18446744073709551615 - x) (omega arith)) (+ℤ-idl (negℤ (pos (18446744073709551615 - x))))
+
+    pub minus-fits : SFits w64 (pos 0 -ℤ toZ w64 (18446744073709551615 - x))
+    minus-fits = rw first (next-fits (18446744073709551615 - x) (omega arith))
+
+    second : back (pos 0 -ℤ toZ w64 (18446744073709551615 - x)) -ℤ pos 1 ≡ negsuc (18446744073709551615 - x)
+    second = rw (toZ-ofZ minus-fits, first) (below (18446744073709551615 - x))
+
+    pub below-fits : SFits w64 (back (pos 0 -ℤ toZ w64 (18446744073709551615 - x)) -ℤ pos 1)
+    below-fits = rw second (neg-fits (18446744073709551615 - x) (omega arith))
+
+    pub signed-large : back (back (pos 0 -ℤ toZ w64 (18446744073709551615 - x)) -ℤ pos 1) ≡ signedOf x
+    unfolding signedOf
+    signed-large = rw (le-ltb x 9223372036854775808 h) (toZ-ofZ below-fits ∙ second)
+
+pub ruleset signed-rules = (signed-small, minus-fits, below-fits, signed-large)
+
+-- the two undo each other
+pub signed-bits : (x : ℕ) → x < 18446744073709551616 → bitsOf (signedOf x) ≡ x
+unfolding signedOf
+signed-bits x h =
+    elim (decLt x 9223372036854775808) [
+      | yes l ↦ rw (lt-ltb x 9223372036854775808 l) (unfold bitsOf in refl)
+      | no l ↦ rw (le-ltb x 9223372036854775808 (omega arith)) (unfold bitsOf in (omega arith))
+    ]

@@ -1,14 +1,15 @@
--- The answers of the host calls that fill one field, and of those that refuse.
+-- The answers of the host calls that fill one field or an instant, and of those that refuse.
 --   zeroDate       = the date of a field that is not used: zero
 --   zeroAnswer     = every field zero
 --   refusedWith x  = refusal x, all else zero: "A refusal leaves bytes 1 to 31 zero"
 --   kindAnswer k   = kind k alone: "a day test has kind 1 for a Werktag, else 0"
 --   countAnswer n  = count n alone: "a count [fills] the count"
 --   dateAnswer d   = date d alone: "A step fills the date"
+--   instantAnswer k s x = seconds s and nanoseconds x beside kind k: "a Gas due instant [has] kind 1 for the initial process, else 0"
 -- Source: document 01, "Host calls and their refusals"; "Unused fields are zero".
 -- Assumes nothing.
 use Prim.Native.Nat.{ℕ}
-use lib.IntN.{pos}
+use lib.IntN.{ℤ, pos}
 use Rattle.datum.specs.declared.Date.{Date}
 use Rattle.antwortsatz.specs.declared.Answer.{Answer}
 
@@ -29,3 +30,6 @@ countAnswer n = record { refusal = 0; kind = 0; count = n; seconds = pos 0; nano
 
 unfoldable pub dateAnswer : Date → Answer
 dateAnswer d = record { refusal = 0; kind = 0; count = 0; seconds = pos 0; nanos = 0; date = d; last = zeroDate }
+
+unfoldable pub instantAnswer : ℕ → ℤ → ℕ → Answer
+instantAnswer k s x = record { refusal = 0; kind = k; count = 0; seconds = s; nanos = x; date = zeroDate; last = zeroDate }

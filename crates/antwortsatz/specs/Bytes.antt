@@ -1,6 +1,7 @@
 -- The 32 bytes of an answer, and what a host call with that answer returns and leaves in the slice.
 --   le2 x, le4 x, le8 x = the 2, 4, 8 lowest bytes of the number x, lowest first
 --   bitsOf z            = the 64 bits of the signed number z, two's complement, as a natural number
+--   signedOf x          = the signed number whose 64 bits are x
 --   dateBytes d         = year (2 bytes), month, day
 --   laid a s            = the 32 bytes of the answer a, with s for the bits of its seconds
 --   bytesOf a           = the 32 bytes of the answer a
@@ -13,7 +14,7 @@
 use Prim.Native.Nat.{ℕ, suc, _-_, _/_, _%_}
 use mathlib.Core.Bool.{cond}
 use mathlib.Core.List.{List, [], _∷_, _++_}
-use lib.Dec.{eqb}
+use lib.Dec.{eqb, ltb}
 use lib.IntN.{ℤ, pos, negsuc}
 use lib.ListN.{length}
 use Rattle.datum.specs.declared.Date.{Date}
@@ -34,6 +35,9 @@ le8 x =
 unfoldable pub bitsOf : ℤ → ℕ
 bitsOf (pos n) = n
 bitsOf (negsuc n) = 18446744073709551616 - suc n
+
+unfoldable pub signedOf : ℕ → ℤ
+signedOf x = cond (ltb x 9223372036854775808) (pos x) (negsuc (18446744073709551615 - x))
 
 abbrev pub dateBytes : Date → List ℕ
 dateBytes d = le2 (d .year) ++ (d .month ∷ d .day ∷ [])

@@ -1,7 +1,7 @@
 // The answer of a host call: its fields, its 32 bytes, and the one function that writes them. It knows no calendar.
 ghost use mathlib.Core.Path.{_≡_};
-ghost use Rattle.antwortsatz.specs.Bytes.{bitsOf, bytesOf, repliedTo};
-ghost use Rattle.antwortsatz.specs.Answers.{zeroAnswer, refusedWith, kindAnswer, countAnswer, dateAnswer};
+ghost use Rattle.antwortsatz.specs.Bytes.{bitsOf, signedOf, bytesOf, repliedTo};
+ghost use Rattle.antwortsatz.specs.Answers.{zeroAnswer, refusedWith, kindAnswer, countAnswer, dateAnswer, instantAnswer};
 use datum::Date;
 
 // The refusals of document 01, "Host calls and their refusals".
@@ -96,6 +96,17 @@ pub fn dated(date: Date) -> Answer
     a
 }
 
+/// An instant beside a kind: a clock on a date, a due instant.
+pub fn at_instant(kind: u8, seconds: i64, nanos: u32) -> Answer
+    ensures { λ r. ⌜ r ≡ instantAnswer kind seconds nanos ⌝ }
+{
+    let mut a = blank();
+    a.kind = kind;
+    a.seconds = seconds;
+    a.nanos = nanos;
+    a
+}
+
 /// The 64 bits of a signed number, two's complement: what its eight bytes are made of. Only a cast that loses nothing is
 /// allowed, so a negative number -(y + 1) goes through y.
 pub fn bits_of(x: i64) -> u64
@@ -106,6 +117,17 @@ pub fn bits_of(x: i64) -> u64
         return u64::MAX - (y as u64);
     }
     x as u64
+}
+
+/// The signed number of 64 bits: what `bits_of` undoes.
+pub fn signed_of(bits: u64) -> i64
+    ensures { λ r. ⌜ r ≡ signedOf bits ⌝ }
+{
+    if bits < 9223372036854775808 {
+        return bits as i64;
+    }
+    let y = (u64::MAX - bits) as i64;
+    -y - 1
 }
 
 /// The 32 bytes of an answer, little-endian, no header.

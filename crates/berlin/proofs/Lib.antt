@@ -1,0 +1,4 @@
+pub mod SummerTime
+pub mod LocalTime
+pub mod Instants
+pub mod Rules

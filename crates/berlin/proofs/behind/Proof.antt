@@ -1,0 +1,24 @@
+-- `berlin::behind` meets its contract: the seconds go below zero at most once.
+-- Assumes nothing.
+use Rattle.berlin.proofs.Rules.{behind-rules}
+use borrow.Author.Needs.{needs}
+use Rattle.berlin.proofs.behind.Statement.{statement}
+use Rattle.berlin.proofs.behind.Tie as tie
+
+add-t5 : tie.Need-add-t5
+add-t5 c = search needs
+
+sub-t6 : tie.Need-sub-t6
+sub-t6 c = search needs
+
+returns : tie.Need-returns
+returns c = search (needs, behind-rules)
+
+add-t7 : tie.Need-add-t7
+add-t7 c = search needs
+
+returns-2 : tie.Need-returns-2
+returns-2 c = search (needs, behind-rules)
+
+pub behind-spec : {M : Type 1} → statement M
+behind-spec = tie.close (tie.spec add-t5 sub-t6 returns add-t7 returns-2)

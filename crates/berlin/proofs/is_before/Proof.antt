@@ -1,0 +1,18 @@
+-- `berlin::is_before` meets its contract: the days decide, or the seconds where the days are the same.
+-- Assumes nothing.
+use Rattle.berlin.proofs.Rules.{before-rules}
+use borrow.Author.Needs.{needs}
+use Rattle.berlin.proofs.is_before.Statement.{statement}
+use Rattle.berlin.proofs.is_before.Tie as tie
+
+returns : tie.Need-returns
+returns c = search (needs, before-rules)
+
+returns-2 : tie.Need-returns-2
+returns-2 c = search (needs, before-rules)
+
+returns-3 : tie.Need-returns-3
+returns-3 c = search (needs, before-rules)
+
+pub is-before-spec : {M : Type 1} → statement M
+is-before-spec = tie.close (tie.spec returns returns-2 returns-3)

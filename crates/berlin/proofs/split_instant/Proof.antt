@@ -1,0 +1,33 @@
+-- `berlin::split_instant` meets its contract: floor division from division toward zero.
+-- Assumes nothing.
+use Rattle.datum.proofs.FloorLaws.{split-asks, split-day-fits, split-second-fits, split-day-down, split-second-down, split-day, split-second}
+use Rattle.berlin.proofs.Instants.{by-86400}
+use Rattle.berlin.proofs.split_instant.Statement.{statement}
+use Rattle.berlin.proofs.split_instant.Tie as tie
+
+div-day : tie.Need-div-day
+div-day c = split-asks 86400 by-86400 (c .args .s) (c .fits .s)
+
+rem-second : tie.Need-rem-second
+rem-second c = split-asks 86400 by-86400 (c .args .s) (c .fits .s)
+
+sub-t5 : tie.Need-sub-t5
+sub-t5 c = split-day-fits 86400 by-86400 (c .before .args .s) (c .before .fits .s) (c .if1 .taken)
+
+add-t6 : tie.Need-add-t6
+add-t6 c = split-second-fits 86400 by-86400 (c .before .args .s) (c .before .fits .s) (c .if1 .taken)
+
+returns : tie.Need-returns
+returns c = (
+  split-day-down 86400 by-86400 (c .before .args .s) (c .before .fits .s) (c .if1 .taken),
+  split-second-down 86400 by-86400 (c .before .args .s) (c .before .fits .s) (c .if1 .taken),
+)
+
+returns-2 : tie.Need-returns-2
+returns-2 c = (
+  split-day 86400 by-86400 (c .before .args .s) (c .before .fits .s) (c .if1 .left),
+  split-second 86400 by-86400 (c .before .args .s) (c .before .fits .s) (c .if1 .left),
+)
+
+pub split-instant-spec : {M : Type 1} → statement M
+split-instant-spec = tie.close (tie.spec div-day rem-second sub-t5 add-t6 returns returns-2)
