@@ -1,4 +1,4 @@
-use crate::{Date, Refusal};
+use crate::{Date, Instant, Refusal};
 use std::fmt;
 
 const REFUSAL: usize = 0;
@@ -45,15 +45,10 @@ impl Answer {
         u32::from_le_bytes(self.field(COUNT))
     }
 
-    /// Whole seconds since 1970-01-01T00:00Z.
     #[must_use]
-    pub fn seconds(&self) -> i64 {
-        i64::from_le_bytes(self.field(SECONDS))
-    }
-
-    #[must_use]
-    pub fn nanos(&self) -> u32 {
-        u32::from_le_bytes(self.field(NANOS))
+    pub fn instant(&self) -> Instant {
+        let seconds = i64::from_le_bytes(self.field(SECONDS));
+        Instant::new(seconds, u32::from_le_bytes(self.field(NANOS)))
     }
 
     #[must_use]
@@ -84,7 +79,7 @@ impl Answer {
     }
 
     #[must_use]
-    pub fn with_instant(self, seconds: i64, nanos: u32) -> Answer {
+    pub fn with_instant(self, Instant { seconds, nanos }: Instant) -> Answer {
         self.with(SECONDS, &seconds.to_le_bytes()).with(NANOS, &nanos.to_le_bytes())
     }
 

@@ -4,7 +4,7 @@
 //! that docs/host-calls.md gives before `answer`.
 
 #![allow(unsafe_code)]
-// The parameters of a call are the paper's, and two dates are six.
+// The parameters of a call are the paper's: two dates are six, a clock and an instant as well.
 #![allow(clippy::too_many_arguments)]
 
 macro_rules! calls {
@@ -33,4 +33,35 @@ calls! {
     mf_werktage_between(year: u16, month: u8, day: u8, year2: u16, month2: u8, day2: u8);
     mf_add_months(year: u16, month: u8, day: u8, n: u32);
     mf_subtract_months(year: u16, month: u8, day: u8, n: u32);
+    mf_berlin_at(
+        year: u16, month: u8, day: u8,
+        hour: u8, minute: u8, second: u8, nanos_of_second: u32
+    );
+    mf_berlin_midnight(year: u16, month: u8, day: u8);
+    mf_end_of_day_berlin(year: u16, month: u8, day: u8);
+    mf_tagesbeginn_utc(year: u16, month: u8, day: u8, sparte: u8);
+    mf_berlin_date(seconds: i64, nanos: u32);
+    mf_tag_des_beginns(seconds: i64, nanos: u32, sparte: u8);
+    mf_contrl_due_at(seconds: i64, nanos: u32, anlass: u8);
+    mf_aperak_strom_due_at(seconds: i64, nanos: u32);
+    mf_aperak_strom_allgemein_due_at(seconds: i64, nanos: u32);
+    mf_aperak_gas_folgeprozess_due_at(seconds: i64, nanos: u32);
+    mf_aperak_gas_initialprozess_due_at(seconds: i64, nanos: u32);
+    mf_aperak_gas_due_at(pid: u32, seconds: i64, nanos: u32);
+    mf_add_hours(seconds: i64, nanos: u32, hours: u32);
+    mf_deadline_at_werktage(seconds: i64, nanos: u32, werktage: u32);
+    mf_end_of_werktag_after(seconds: i64, nanos: u32, werktage: u32);
+    mf_next_werktag_at(
+        seconds: i64, nanos: u32,
+        hour: u8, minute: u8, second: u8, nanos_of_second: u32
+    );
+    mf_nth_werktag_at(
+        seconds: i64, nanos: u32, n: u32,
+        hour: u8, minute: u8, second: u8, nanos_of_second: u32
+    );
+    mf_frist_due_at(
+        shape: u8, werktage: u32,
+        hour: u8, minute: u8, second: u8, nanos_of_second: u32,
+        seconds: i64, nanos: u32
+    );
 }

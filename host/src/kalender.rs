@@ -10,7 +10,7 @@ use crate::{Call, Date, Question, Refusal};
 ///
 /// [`Refusal::NoDate`].
 pub fn is_werktag(date: Date) -> Result<bool, Refusal> {
-    Ok(Question::new(Call::IsWerktag, date).answer()?.kind() == 1)
+    Ok(Question::on(Call::IsWerktag, date).answer()?.kind() == 1)
 }
 
 /// The first Werktag on or after `from`.
@@ -19,7 +19,7 @@ pub fn is_werktag(date: Date) -> Result<bool, Refusal> {
 ///
 /// [`Refusal::NoDate`], [`Refusal::LeavesCalendar`].
 pub fn next_werktag(from: Date) -> Result<Date, Refusal> {
-    Ok(Question::new(Call::NextWerktag, from).answer()?.date())
+    Ok(Question::on(Call::NextWerktag, from).answer()?.date())
 }
 
 /// The `n`-th Werktag after `from`; `from` itself, Werktag or not, for 0.
@@ -46,7 +46,7 @@ pub fn sub_werktage(from: Date, n: u32) -> Result<Date, Refusal> {
 ///
 /// [`Refusal::NoDate`], for either date.
 pub fn werktage_between(from: Date, to: Date) -> Result<u32, Refusal> {
-    Ok(Question::new(Call::WerktageBetween, from).with_second(to).answer()?.count())
+    Ok(Question::on(Call::WerktageBetween, from).with_second(to).answer()?.count())
 }
 
 /// `n` months after `date`; a day that the month lacks becomes its last (BGB §188).
@@ -68,5 +68,5 @@ pub fn subtract_months(date: Date, n: u32) -> Result<Date, Refusal> {
 }
 
 fn step(call: Call, from: Date, n: u32) -> Result<Date, Refusal> {
-    Ok(Question::new(call, from).with_count(n).answer()?.date())
+    Ok(Question::on(call, from).with_count(n).answer()?.date())
 }

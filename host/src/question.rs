@@ -1,83 +1,55 @@
-use crate::{ffi, Answer, Date, Refusal};
+use crate::{call, Answer, Call, Clock, Date, Instant, Parameter, Refusal};
 use std::fmt;
-
-/// A host call. The order is that of docs/host-calls.md, and a call's number is its place in it.
-#[derive(Clone, Copy, Debug, PartialEq, Eq, Hash)]
-#[repr(u8)]
-pub enum Call {
-    IsWerktag,
-    NextWerktag,
-    AddWerktage,
-    SubWerktage,
-    WerktageBetween,
-    AddMonths,
-    SubtractMonths,
-}
-
-/// What a call takes before its answer.
-#[derive(Clone, Copy, Debug, PartialEq, Eq)]
-pub enum Parameters {
-    Date,
-    DateAndCount,
-    TwoDates,
-}
-
-impl Call {
-    pub const ALL: [Call; 7] = [
-        Call::IsWerktag,
-        Call::NextWerktag,
-        Call::AddWerktage,
-        Call::SubWerktage,
-        Call::WerktageBetween,
-        Call::AddMonths,
-        Call::SubtractMonths,
-    ];
-
-    #[must_use]
-    pub const fn number(self) -> u8 {
-        self as u8
-    }
-
-    #[must_use]
-    pub const fn name(self) -> &'static str {
-        match self {
-            Call::IsWerktag => "mf_is_werktag",
-            Call::NextWerktag => "mf_next_werktag",
-            Call::AddWerktage => "mf_add_werktage",
-            Call::SubWerktage => "mf_sub_werktage",
-            Call::WerktageBetween => "mf_werktage_between",
-            Call::AddMonths => "mf_add_months",
-            Call::SubtractMonths => "mf_subtract_months",
-        }
-    }
-
-    #[must_use]
-    pub const fn parameters(self) -> Parameters {
-        match self {
-            Call::IsWerktag | Call::NextWerktag => Parameters::Date,
-            Call::AddWerktage | Call::SubWerktage | Call::AddMonths | Call::SubtractMonths => {
-                Parameters::DateAndCount
-            }
-            Call::WerktageBetween => Parameters::TwoDates,
-        }
-    }
-}
 
 /// A call with its arguments. What the call does not take is zero.
 #[derive(Clone, Copy, Debug, PartialEq, Eq, Hash)]
 pub struct Question {
     pub call: Call,
+    /// The Anlass, the Sparte or the shape.
+    pub code: u8,
     pub date: Date,
     pub date2: Date,
+    /// The count or the pid.
     pub n: u32,
+    pub instant: Instant,
+    pub clock: Clock,
 }
 
 impl Question {
     pub const LEN: usize = 32;
 
+    /// With zero in every place.
     #[must_use]
-    pub fn new(call: Call, date: Date) -> Question {
-        Question { call, date, date2: Date::default(), n: 0 }
+    pub fn new(call: Call) -> Question {
+        Question {
+            call,
+            code: 0,
+            date: Date::default(),
+            date2: Date::default(),
+            n: 0,
+            instant: Instant::default(),
+            clock: Clock::default(),
+        }
+    }
+
+    #[must_use]
+    pub fn on(call: Call, date: Date) -> Question {
+        Question { date, ..Question::new(call) }
+    }
+
+    #[must_use]
+    pub fn at(call: Call, instant: Instant) -> Question {
+        Question { instant, ..Question::new(call) }
+    }
+
+    #[must_use]
+    pub fn with_code(self, code: u8) -> Question {
+        Question { code, ..self }
+    }
+
+    #[must_use]
+    pub fn with_second(self, date2: Date) -> Question {
+        Question { date2, ..self }
     }
 
     #[must_use]
@@ -86,26 +58,13 @@ impl Question {
     }
 
     #[must_use]
-    pub fn with_second(self, date2: Date) -> Question {
-        Question { date2, ..self }
+    pub fn with_clock(self, clock: Clock) -> Question {
+        Question { clock, ..self }
     }
 
     /// Puts the question with a lent answer of any length; returns the refusal number or 0.
     pub fn ask(&self, answer: &mut [u8]) -> u8 {
-        let Date { year, month, day } = self.date;
-        let Date { year: year2, month: month2, day: day2 } = self.date2;
-        let n = self.n;
-        match self.call {
-            Call::IsWerktag => ffi::mf_is_werktag(year, month, day, answer),
-            Call::NextWerktag => ffi::mf_next_werktag(year, month, day, answer),
-            Call::AddWerktage => ffi::mf_add_werktage(year, month, day, n, answer),
-            Call::SubWerktage => ffi::mf_sub_werktage(year, month, day, n, answer),
-            Call::WerktageBetween => {
-                ffi::mf_werktage_between(year, month, day, year2, month2, day2, answer)
-            }
-            Call::AddMonths => ffi::mf_add_months(year, month, day, n, answer),
-            Call::SubtractMonths => ffi::mf_subtract_months(year, month, day, n, answer),
-        }
+        call::put(self, answer)
     }
 
     /// The answer, unless the call refuses.
@@ -121,15 +80,23 @@ impl Question {
         }
     }
 
-    /// The question as a line of the replay list holds it: byte 0 the call, 4 to 7 the first date,
-    /// 8 to 11 the second, 12 to 15 the count, the rest zero.
+    /// The question as a line of the replay list holds it, little-endian: byte 0 the call, 1 the
+    /// code, 4 to 7 the first date, 8 to 11 the second or the clock's nanoseconds, 12 to 15 the
+    /// count or pid, 16 to 23 the instant's seconds, 24 to 27 its nanoseconds, 28 to 30 the clock's
+    /// hour, minute and second, the rest zero.
     #[must_use]
     pub fn to_bytes(&self) -> [u8; Question::LEN] {
+        let with_clock = self.call.takes(Parameter::Clock);
+        let Clock { hour, minute, second, nanos } = self.clock;
         let mut bytes = [0; Question::LEN];
-        bytes[0] = self.call.number();
+        bytes[..2].copy_from_slice(&[self.call.number(), self.code]);
         bytes[4..8].copy_from_slice(&self.date.to_bytes());
-        bytes[8..12].copy_from_slice(&self.date2.to_bytes());
+        let shared = if with_clock { nanos.to_le_bytes() } else { self.date2.to_bytes() };
+        bytes[8..12].copy_from_slice(&shared);
         bytes[12..16].copy_from_slice(&self.n.to_le_bytes());
+        bytes[16..24].copy_from_slice(&self.instant.seconds.to_le_bytes());
+        bytes[24..28].copy_from_slice(&self.instant.nanos.to_le_bytes());
+        bytes[28..31].copy_from_slice(&[hour, minute, second]);
         bytes
     }
 }
@@ -137,11 +104,22 @@ impl Question {
 /// As it is written in code: `mf_add_werktage(2026-04-02, 1)`.
 impl fmt::Display for Question {
     fn fmt(&self, f: &mut fmt::Formatter<'_>) -> fmt::Result {
-        write!(f, "{}({}", self.call.name(), self.date)?;
-        match self.call.parameters() {
-            Parameters::Date => write!(f, ")"),
-            Parameters::DateAndCount => write!(f, ", {})", self.n),
-            Parameters::TwoDates => write!(f, ", {})", self.date2),
+        write!(f, "{}(", self.call.name())?;
+        for (place, parameter) in self.call.parameters().iter().enumerate() {
+            if place > 0 {
+                write!(f, ", ")?;
+            }
+            match parameter {
+                Parameter::Date => write!(f, "{}", self.date)?,
+                Parameter::SecondDate => write!(f, "{}", self.date2)?,
+                Parameter::Count | Parameter::Pid => write!(f, "{}", self.n)?,
+                Parameter::Instant => write!(f, "{}", self.instant)?,
+                Parameter::Clock => write!(f, "{}", self.clock)?,
+                Parameter::Anlass | Parameter::Sparte | Parameter::Shape => {
+                    write!(f, "{}", self.code)?;
+                }
+            }
         }
+        write!(f, ")")
     }
 }

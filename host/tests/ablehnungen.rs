@@ -1,6 +1,6 @@
 //! Refusals: which, in which order, and what they leave in the slice.
 
-use mako_fristen_host::{Answer, Call, Date, Parameters, Question, Refusal};
+use mako_fristen_host::{Answer, Call, Clock, Date, Instant, Parameter, Question, Refusal};
 
 const GUARD: usize = 40;
 const LONGEST: usize = 70;
@@ -33,14 +33,46 @@ fn no_dates() -> impl Iterator<Item = Date> {
     NO_DATES.into_iter().map(|(year, month, day)| Date::new(year, month, day))
 }
 
-/// The call with one good date in every place and a count.
-fn ordinary(call: Call, n: u32) -> Question {
-    let question = Question::new(call, Date::new(2026, 4, 2));
-    match call.parameters() {
-        Parameters::Date => question,
-        Parameters::DateAndCount => question.with_count(n),
-        Parameters::TwoDates => question.with_second(Date::new(2026, 4, 7)),
+/// The call with something good in every place. The instant is 2 April 2026, 00:00 in Berlin, which
+/// begins a day of Strom, and the shape has a clock.
+fn ordinary(call: Call) -> Question {
+    Question {
+        call,
+        code: 0,
+        date: Date::new(2026, 4, 2),
+        date2: Date::new(2026, 4, 7),
+        n: 1,
+        instant: Instant::new(1_775_080_800, 0),
+        clock: Clock::new(12, 0, 0, 0),
     }
+}
+
+/// The question with something refused in the place of the parameter; nothing changes for a pid,
+/// which is never refused.
+fn spoiled(question: Question, parameter: Parameter) -> Question {
+    match parameter {
+        Parameter::Date => Question { date: Date::new(2026, 2, 29), ..question },
+        Parameter::SecondDate => question.with_second(Date::new(2900, 1, 1)),
+        Parameter::Count | Parameter::Pid => question.with_count(u32::MAX),
+        Parameter::Instant => Question { instant: Instant::new(i64::MIN, 0), ..question },
+        Parameter::Clock => question.with_clock(Clock::new(24, 0, 0, 0)),
+        Parameter::Anlass | Parameter::Sparte | Parameter::Shape => question.with_code(255),
+    }
+}
+
+fn refusal_of(parameter: Parameter) -> Option<Refusal> {
+    match parameter {
+        Parameter::Anlass | Parameter::Sparte | Parameter::Shape => Some(Refusal::UnknownCode),
+        Parameter::Date | Parameter::SecondDate => Some(Refusal::NoDate),
+        Parameter::Instant => Some(Refusal::InstantOutside),
+        Parameter::Clock => Some(Refusal::NoClock),
+        Parameter::Count => Some(Refusal::LeavesCalendar),
+        Parameter::Pid => None,
+    }
+}
+
+fn taking(parameter: Parameter) -> impl Iterator<Item = Call> {
+    Call::ALL.into_iter().filter(move |call| call.takes(parameter))
 }
 
 fn refused(question: &Question) -> Option<Refusal> {
@@ -57,11 +89,43 @@ fn watched(question: &Question, len: usize, fill: u8) -> (u8, Vec<u8>) {
     (number, buffer[GUARD..GUARD + len].to_vec())
 }
 
+/// Every set of parameters is spoiled, and the lowest number is given.
+#[test]
+fn refusals_come_in_the_order_of_their_numbers() {
+    for call in Call::ALL {
+        let parameters = call.parameters();
+        for set in 0..1 << parameters.len() {
+            let chosen = || (0..).zip(parameters).filter(|(bit, _)| set >> bit & 1 == 1);
+            let question = chosen().fold(ordinary(call), |question, (_, &p)| spoiled(question, p));
+            let first = chosen().filter_map(|(_, &p)| refusal_of(p)).min_by_key(|r| r.number());
+            assert_eq!(refused(&question), first, "{question}");
+        }
+    }
+}
+
+#[test]
+fn refusal_2_from_one_past_the_last_code() {
+    for call in Call::ALL {
+        let Some(codes) = call.codes() else { continue };
+        for code in 0..codes {
+            let refusal = refused(&ordinary(call).with_code(code));
+            assert_ne!(refusal, Some(Refusal::UnknownCode), "{call:?} {code}");
+        }
+        for code in codes..=u8::MAX {
+            let question = ordinary(call).with_code(code);
+            assert_eq!(refused(&question), Some(Refusal::UnknownCode), "{question}");
+        }
+    }
+    let codes = [Call::TagesbeginnUtc, Call::TagDesBeginns, Call::ContrlDueAt, Call::FristDueAt]
+        .map(Call::codes);
+    assert_eq!(codes, [Some(2), Some(2), Some(3), Some(4)]);
+}
+
 #[test]
 fn refusal_3_for_what_is_no_date() {
-    for call in Call::ALL {
+    for call in taking(Parameter::Date) {
         for date in no_dates() {
-            let question = Question { date, ..ordinary(call, 1) };
+            let question = Question { date, ..ordinary(call) };
             assert_eq!(refused(&question), Some(Refusal::NoDate), "{question}");
         }
     }
@@ -70,29 +134,104 @@ fn refusal_3_for_what_is_no_date() {
 #[test]
 fn refusal_3_for_the_second_date() {
     for date in no_dates() {
-        let question = ordinary(Call::WerktageBetween, 0).with_second(date);
+        let question = ordinary(Call::WerktageBetween).with_second(date);
         assert_eq!(refused(&question), Some(Refusal::NoDate), "{question}");
         let both = Question { date, ..question };
         assert_eq!(refused(&both), Some(Refusal::NoDate), "{both}");
     }
 }
 
+/// One second and one nanosecond beyond either limit, and the ends of the numbers.
 #[test]
-fn refusal_3_comes_before_8() {
-    for call in Call::ALL {
-        for date in no_dates() {
-            let question = Question { date, ..ordinary(call, u32::MAX) };
-            assert_eq!(refused(&question), Some(Refusal::NoDate), "{question}");
+fn refusal_4_outside_the_limits() {
+    let (first, last) = (Instant::FIRST.seconds, Instant::LAST.seconds);
+    let outside = [
+        Instant::new(first - 1, 0),
+        Instant::new(first - 1, 999_999_999),
+        Instant::new(last + 1, 0),
+        Instant::new(last + 1, 999_999_999),
+        Instant::new(first, 1_000_000_000),
+        Instant::new(last, 1_000_000_000),
+        Instant::new(1_774_951_200, u32::MAX),
+        Instant::new(-1, 0),
+        Instant::new(0, 0),
+        Instant::new(i64::MIN, 0),
+        Instant::new(i64::MIN, u32::MAX),
+        Instant::new(i64::MAX, 0),
+        Instant::new(i64::MAX, u32::MAX),
+    ];
+    for call in taking(Parameter::Instant) {
+        for instant in outside {
+            let question = Question { instant, ..ordinary(call) };
+            assert_eq!(refused(&question), Some(Refusal::InstantOutside), "{question}");
+        }
+        for instant in [Instant::FIRST, Instant::LAST] {
+            let question = Question { instant, ..ordinary(call) };
+            assert_ne!(refused(&question), Some(Refusal::InstantOutside), "{question}");
         }
     }
 }
 
-/// A date that would be refused with 3, a count with 8, and a good question: the length decides.
+/// Each number of the clock one past its last.
+#[test]
+fn refusal_5_for_what_is_no_clock() {
+    let last = Clock::new(23, 59, 59, 999_999_999);
+    let past = [
+        Clock { hour: 24, ..last },
+        Clock { minute: 60, ..last },
+        Clock { second: 60, ..last },
+        Clock { nanos: 1_000_000_000, ..last },
+        Clock::new(255, 255, 255, u32::MAX),
+    ];
+    for call in taking(Parameter::Clock) {
+        assert_eq!(refused(&ordinary(call).with_clock(last)), None, "{call:?}");
+        for clock in past {
+            let question = ordinary(call).with_clock(clock);
+            assert_eq!(refused(&question), Some(Refusal::NoClock), "{question}");
+        }
+    }
+}
+
+/// `EndOfWerktag` and `SameDay` have no clock, `SameDayAt` and `SameDay` no count.
+#[test]
+fn what_a_shape_does_not_use_is_not_checked() {
+    const END_OF_WERKTAG: u8 = 1;
+    const SAME_DAY_AT: u8 = 2;
+    const SAME_DAY: u8 = 3;
+    let no_clock = Clock::new(255, 255, 255, u32::MAX);
+    let question = ordinary(Call::FristDueAt);
+    for code in [END_OF_WERKTAG, SAME_DAY] {
+        let plain = question.with_code(code);
+        assert!(plain.answer().is_ok());
+        assert_eq!(plain.with_clock(no_clock).answer(), plain.answer(), "{code}");
+    }
+    for code in [SAME_DAY_AT, SAME_DAY] {
+        let plain = question.with_code(code);
+        assert!(plain.answer().is_ok());
+        assert_eq!(plain.with_count(u32::MAX).answer(), plain.answer(), "{code}");
+    }
+    // 29 March 2026 lacks 02:30.
+    let sunday = Question { instant: Instant::new(1_774_778_400, 0), ..question };
+    let absent = sunday.with_clock(Clock::new(2, 30, 0, 0));
+    assert_eq!(refused(&absent.with_code(SAME_DAY_AT)), Some(Refusal::LocalTimeAbsent));
+    for code in [0, END_OF_WERKTAG, SAME_DAY] {
+        assert_eq!(refused(&absent.with_code(code)), None, "{code}");
+    }
+}
+
+/// A good question, one at the upper edge with the largest count, and one where all is refused.
+fn three_questions(call: Call) -> [Question; 3] {
+    let (date, instant, n) = (Date::LAST, Instant::LAST, u32::MAX);
+    let edge = Question { date, instant, n, ..ordinary(call) };
+    let spoil = |question, &parameter| spoiled(question, parameter);
+    let bad = call.parameters().iter().fold(ordinary(call), spoil);
+    [ordinary(call), edge, bad]
+}
+
 #[test]
 fn refusal_1_comes_first_and_leaves_the_slice_untouched() {
     for call in Call::ALL {
-        let no_date = Question { date: Date::new(0, 0, 0), ..ordinary(call, 1) };
-        for question in [ordinary(call, 1), ordinary(call, u32::MAX), no_date] {
+        for question in three_questions(call) {
             for len in (0..=LONGEST).filter(|&len| len != Answer::LEN) {
                 for fill in [0x00, 0xa5, 0xff] {
                     let (number, slice) = watched(&question, len, fill);
@@ -108,10 +247,12 @@ fn refusal_1_comes_first_and_leaves_the_slice_untouched() {
 #[test]
 fn an_answer_of_32_bytes_fills_just_these() {
     for call in Call::ALL {
-        let no_date = Question { date: Date::new(0, 0, 0), ..ordinary(call, 1) };
-        for question in [ordinary(call, 1), ordinary(call, u32::MAX), no_date] {
+        for question in three_questions(call) {
             let (number, zero_filled) = watched(&question, Answer::LEN, 0x00);
             assert_eq!(number, zero_filled[0], "{question}");
+            if number != 0 {
+                assert_eq!(zero_filled[1..], [0; 31], "{question}");
+            }
             assert_eq!(watched(&question, Answer::LEN, 0xff), (number, zero_filled), "{question}");
         }
     }

@@ -1,7 +1,7 @@
 // The answer of a host call: its fields, its 32 bytes, and the one function that writes them. It knows no calendar.
 ghost use mathlib.Core.Path.{_≡_};
 ghost use Rattle.antwortsatz.specs.Bytes.{bitsOf, signedOf, bytesOf, repliedTo};
-ghost use Rattle.antwortsatz.specs.Answers.{zeroAnswer, refusedWith, kindAnswer, countAnswer, dateAnswer, instantAnswer};
+ghost use Rattle.antwortsatz.specs.Answers.{zeroAnswer, refusedWith, kindAnswer, countAnswer, dateAnswer, instantAnswer, verdictAnswer, spanAnswer};
 use datum::Date;
 
 // The refusals of document 01, "Host calls and their refusals".
@@ -104,6 +104,28 @@ pub fn at_instant(kind: u8, seconds: i64, nanos: u32) -> Answer
     a.kind = kind;
     a.seconds = seconds;
     a.nanos = nanos;
+    a
+}
+
+/// A kind, a count of Werktage and a date: a verdict.
+pub fn judged(kind: u8, count: u32, date: Date) -> Answer
+    ensures { λ r. ⌜ r ≡ verdictAnswer kind count date ⌝ }
+{
+    let mut a = blank();
+    a.kind = kind;
+    a.count = count;
+    a.date = date;
+    a
+}
+
+/// A kind and two dates: a span.
+pub fn spanned(kind: u8, first: Date, last: Date) -> Answer
+    ensures { λ r. ⌜ r ≡ spanAnswer kind first last ⌝ }
+{
+    let mut a = blank();
+    a.kind = kind;
+    a.date = first;
+    a.last = last;
     a
 }
 

@@ -2,22 +2,21 @@
 --   by-86400     the facts of the divisor 86,400, for floor division
 --   InLimits     seconds inside the limits: they are a natural number, and day and second are those of unsigned division
 -- Assumes nothing.
-use Prim.Native.Nat.{ℕ, _+_, _-_, _*_, _/_, _%_, _^_, _≤_, _<_}
-use mathlib.Core.Bool.{Bool, true, false, _&&_}
+use Prim.Native.Nat.{ℕ, _+_, _-_, _*_, _/_, _%_, _≤_, _<_}
+use mathlib.Core.Bool.{true, false}
 use mathlib.Core.Path.{_≡_, refl, sym, ap, _∙_}
 use native.Mathlib.Omega.{arith}
-use lib.Dec.{T, leb}
+use lib.Dec.{T}
 use lib.IntN.{ℤ, pos, negsuc, natAbs, _-ℤ_}
 use lib.Signed.{ltZ, nonNeg}
 use borrow.Author.Tests.{ltb-true, ltb-false, le-leb, lt-leb}
 use mir.Syntax.{w32, w64}
-use mir.Val.{Fits, SFits, toZ, ofZ}
+use mir.Val.{Fits, SFits, toZ}
 use mir.Facts.{toZ-ofZ}
 use Rattle.datum.specs.Floor.{floorDiv, floorMod}
-use Rattle.datum.proofs.Signed.{back, clash, pos-fits, back-pos, sub-pos, sub-fits}
+use Rattle.datum.proofs.Signed.{back, clash, back-pos, sub-pos, sub-fits}
 use Rattle.datum.proofs.FloorLaws.{Steps}
 use Rattle.berlin.specs.declared.Moment.{Moment}
-use Rattle.berlin.specs.declared.Reading.{Reading}
 use Rattle.berlin.specs.declared.Reading.the-variants.{At, NoInstant}
 use Rattle.berlin.specs.Berlin.{momentOf, secondsOf, first, final, Proper, readInstant}
 

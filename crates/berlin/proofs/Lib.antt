@@ -2,3 +2,9 @@ pub mod SummerTime
 pub mod LocalTime
 pub mod Instants
 pub mod Rules
+pub mod Found
+pub mod Proper
+pub mod Tiling
+pub mod Zeit
+pub mod Tagesbeginn
+pub mod OutsideValues

@@ -1,30 +1,27 @@
 -- What the proofs of this crate's functions cite: a lemma for each return, with premises in the form in which they stand there.
 -- Assumes nothing.
-use Prim.Native.Nat.{ℕ, zero, suc, _+_, _-_, _*_, _/_, _%_, _≤_, _<_}
-use mathlib.Core.Bool.{Bool, true, false, _&&_}
+use Prim.Native.Nat.{ℕ, _+_, _-_, _*_, _/_, _%_, _≤_, _<_}
+use mathlib.Core.Bool.{Bool, true, false}
 use mathlib.Core.Path.{_≡_, refl, sym, ap, _∙_}
 use native.Mathlib.Omega.{arith}
-use native.Mathlib.Decide.{decLe, decLt}
-use lib.Dec.{eqb, leb, ltb}
+use native.Mathlib.Decide.{decLt}
+use lib.Dec.{ltb}
 use borrow.Author.Tests.{eq-eqb, ne-eqb, le-leb, lt-leb, lt-ltb, le-ltb, ltb-true, ltb-false}
 use Rattle.zaehlung.specs.Walk.{last}
-use Rattle.datum.specs.declared.Date.{Date}
-use Rattle.datum.specs.Calendar.{leap, monthLen, daysBefore, dateOf, weekdayOf, valid}
-use Rattle.datum.proofs.Dates.{is-valid, index-date}
+use Rattle.datum.specs.Calendar.{leap, monthLen, daysBefore, weekdayOf, valid}
+use Rattle.datum.proofs.Dates.{is-valid}
 use Rattle.berlin.specs.declared.Moment.{Moment}
 use Rattle.berlin.specs.declared.Clock.{Clock}
 use Rattle.berlin.specs.declared.Local.{Local}
-use Rattle.berlin.specs.declared.ClockReading.{ClockReading}
 use Rattle.berlin.specs.declared.ClockReading.the-variants.{At as ClockAt, NoClock}
 use Rattle.berlin.specs.declared.Resolved.{Resolved}
 use Rattle.berlin.specs.declared.Resolved.the-variants.{At, Absent}
 use Rattle.berlin.specs.declared.Sparte.{Sparte}
 use Rattle.berlin.specs.declared.Sparte.the-variants.{Strom, Gas}
-use Rattle.berlin.specs.declared.Beginn.{Beginn}
 use Rattle.berlin.specs.declared.Beginn.the-variants.{Day, NoBeginning}
-use Rattle.berlin.specs.Berlin.{dayStart, momentOf, secondsOf, Proper, ProperClock, readClock, lastSunday, summerFrom, summerTo, yearAt, offset, berlinDay, localOf, berlinAt, resolvedOr, berlinMidnight, endOfDayBerlin, tagesbeginnUtc, tagDesBeginns}
-use Rattle.berlin.proofs.SummerTime.{parts, year-at, before-summer, in-summer, after-summer}
-use Rattle.berlin.proofs.LocalTime.{early, gap, summer, twice, late, at-two, at-one, at-none, clock-from, clock-to}
+use Rattle.berlin.specs.Berlin.{dayStart, momentOf, secondsOf, Proper, ProperClock, readClock, lastSunday, offset, berlinDay, localOf, berlinAt, resolvedOr, berlinMidnight, endOfDayBerlin, tagesbeginnUtc, tagDesBeginns}
+use Rattle.berlin.proofs.SummerTime.{parts, start-3, start-10, guessed, summer-in, winter-late}
+use Rattle.berlin.proofs.LocalTime.{early, gap, late, at-two, at-one, at-none, clock-to}
 
 -- read_clock
 module _ (h m s x : ℕ) where
@@ -50,85 +47,64 @@ module _ (h m s x : ℕ) where
 
 pub ruleset clock-rules = (clock-hour, clock-minute, clock-second, clock-nanos, clock-at)
 
--- last_sunday: n is what `days_before` returned, v its weekday
-module _ (y m n v : ℕ) (e : n ≡ daysBefore (record { year = y; month = m; day = 31 })) (f : v ≡ weekdayOf n) where
-  pub sunday-is : n - (v + 1) % 7 ≡ lastSunday y m
-  unfolding lastSunday
-  sunday-is = rw (f, e)
+abbrev guess : ℕ → ℕ
+guess i = i * 400 / 146097
 
-  pub sunday-le : n ≤ last → n - (v + 1) % 7 ≤ last
-  sunday-le h = omega arith
+-- switches_by: n is what `days_before` returned for 31 March, a and b what `sunday_by` returned
+guess-few : (i : ℕ) → i ≤ last → 1996 + i * 400 / 146097 ≤ 2899
+guess-few i h = let n = guessed i h in omega (arith, n .few)
 
-pub ruleset sunday-rules = (sunday-is, sunday-le)
-
--- the 31st of either month is a date of every year of the calendar
 len-3 : (l : Bool) → monthLen l 3 ≡ 31
 unfolding monthLen
 len-3 l = refl
 
-len-10 : (l : Bool) → monthLen l 10 ≡ 31
-unfolding monthLen
-len-10 l = refl
+march-valid : (y : ℕ) → 1996 ≤ y → y ≤ 2899 → valid (record { year = y; month = 3; day = 31 }) ≡ true
+march-valid y h g =
+    is-valid (record { year = y; month = 3; day = 31 })
+    (record { from = h; to = g; month-from = omega arith; month-to = omega arith; day-from = omega arith; day-to = omega (arith, len-3 (leap y)) })
 
-module _ (i : ℕ) (d : Date) (h : i ≤ last) (e : d ≡ dateOf i) where
-  year-from : 1996 ≤ d .year
-  year-from = rw e (index-date i h .0 .from)
+pub guess-valid : (i : ℕ) → i ≤ last → valid (record { year = 1996 + i * 400 / 146097; month = 3; day = 31 }) ≡ true
+guess-valid i h = march-valid (1996 + guess i) (omega arith) (guess-few i h)
 
-  year-to : d .year ≤ 2899
-  year-to = rw e (index-date i h .0 .to)
+module _ (y n : ℕ) (e : n ≡ daysBefore (record { year = y; month = 3; day = 31 })) where
+  pub march-is : (a : ℕ) → a ≡ n - (weekdayOf n + 1) % 7 → a ≡ lastSunday y 3
+  unfolding lastSunday
+  march-is a p = rw e at p
 
-  pub march-valid : valid (record { year = d .year; month = 3; day = 31 }) ≡ true
-  march-valid =
-      is-valid (record { year = d .year; month = 3; day = 31 })
-      (record { from = year-from; to = year-to; month-from = omega arith; month-to = omega arith; day-from = omega arith; day-to = omega (arith, len-3 (leap (d .year))) })
+  pub october-is : (b : ℕ) → b ≡ n + 214 - (weekdayOf (n + 214) + 1) % 7 → b ≡ lastSunday y 10
+  unfolding lastSunday
+  october-is b p =
+      let q : n + 214 ≡ daysBefore (record { year = y; month = 10; day = 31 }) = omega (arith, start-3 (leap y), start-10 (leap y)) in
+      rw q at p
 
-  pub october-valid : valid (record { year = d .year; month = 10; day = 31 }) ≡ true
-  october-valid =
-      is-valid (record { year = d .year; month = 10; day = 31 })
-      (record { from = year-from; to = year-to; month-from = omega arith; month-to = omega arith; day-from = omega arith; day-to = omega (arith, len-10 (leap (d .year))) })
+pub ruleset switch-rules = (guess-valid, march-is, october-is)
 
 -- is_before
-module _ (i t j u : ℕ) (f : t < 86400) (g : u < 86400) where
-  pub earlier-day : i < j → true ≡ ltb (dayStart i + t) (dayStart j + u)
-  earlier-day h = sym (lt-ltb (dayStart i + t) (dayStart j + u) (omega arith))
+pub before-is : (i t j u : ℕ) → ltb (i * 86400 + t) (j * 86400 + u) ≡ ltb (dayStart i + t) (dayStart j + u)
+before-is i t j u =
+    elim (decLt (i * 86400 + t) (j * 86400 + u)) [
+      | yes l ↦ lt-ltb (i * 86400 + t) (j * 86400 + u) l ∙ sym (lt-ltb (dayStart i + t) (dayStart j + u) (omega arith))
+      | no l ↦ le-ltb (i * 86400 + t) (j * 86400 + u) (omega arith) ∙ sym (le-ltb (dayStart i + t) (dayStart j + u) (omega arith))
+    ]
 
-  pub later-day : j < i → false ≡ ltb (dayStart i + t) (dayStart j + u)
-  later-day h = sym (le-ltb (dayStart i + t) (dayStart j + u) (omega arith))
+-- offset_at: a and b are what `switches_by` returned, f and g what `is_before` returned
+module _ (i t : ℕ) (h : i ≤ last) (v : t < 86400) where
+  pub offset-early : (a : ℕ) (f : Bool) → a ≡ lastSunday (1996 + i * 400 / 146097) 3 → f ≡ ltb (dayStart i + t) (dayStart a + 7200) → f ≡ true → 3600 ≡ offset (dayStart i + t - 3600)
+  offset-early a f p q y =
+      let l = ltb-true (dayStart i + t) (dayStart a + 7200) (sym q ∙ y) in
+      sym (early i t (guess i) h (guessed i h) v (omega arith) .1)
 
-  pub same-day : j ≤ i → i ≤ j → ltb t u ≡ ltb (dayStart i + t) (dayStart j + u)
-  same-day h k =
-      elim (decLt t u) [
-        | yes l ↦ lt-ltb t u l ∙ sym (lt-ltb (dayStart i + t) (dayStart j + u) (omega arith))
-        | no l ↦ le-ltb t u (omega arith) ∙ sym (le-ltb (dayStart i + t) (dayStart j + u) (omega arith))
-      ]
+  pub offset-summer : (a b : ℕ) (f g : Bool) → a ≡ lastSunday (1996 + i * 400 / 146097) 3 → f ≡ ltb (dayStart i + t) (dayStart a + 7200) → f ≡ false → b ≡ lastSunday (1996 + i * 400 / 146097) 10 → g ≡ ltb (dayStart i + t) (dayStart b + 7200) → g ≡ true → 7200 ≡ offset (dayStart i + t - 3600)
+  offset-summer a b f g p q y r s z =
+      let k = ltb-false (dayStart i + t) (dayStart a + 7200) (sym q ∙ y) in
+      let l = ltb-true (dayStart i + t) (dayStart b + 7200) (sym s ∙ z) in
+      sym (summer-in (guess i) (dayStart i + t - 3600) (guessed i h .few) (omega arith) (omega arith))
 
-pub ruleset before-rules = (earlier-day, later-day, same-day)
-
--- offset_at: d is the date of the day i, a and b the two Sundays of its year
-module _ (i t : ℕ) (d : Date) (h : t < 86400) (e : d ≡ dateOf i) (a : ℕ) (p : a ≡ lastSunday (d .year) 3) (f : Bool) (q : f ≡ ltb (dayStart i + t) (dayStart a + 7200)) where
-  abbrev s : ℕ
-  s = dayStart i + t - 3600
-
-  its-year : yearAt s ≡ d .year
-  its-year = year-at s i t (d .year) (omega arith) h (ap (λ (x : Date). x .year) (sym e))
-
-  pub offset-early : f ≡ true → 3600 ≡ offset (dayStart i + t - 3600)
-  offset-early g = sym (before-summer s (d .year) its-year (omega (arith, ltb-true (dayStart i + t) (dayStart a + 7200) (sym q ∙ g))))
-
-  module _ (b : ℕ) (p′ : b ≡ lastSunday (d .year) 10) (f′ : Bool) (q′ : f′ ≡ ltb (dayStart i + t) (dayStart b + 7200)) where
-    pub offset-summer : f ≡ false → f′ ≡ true → 7200 ≡ offset (dayStart i + t - 3600)
-    offset-summer g g′ =
-        let k = ltb-false (dayStart i + t) (dayStart a + 7200) (sym q ∙ g) in
-        let l = ltb-true (dayStart i + t) (dayStart b + 7200) (sym q′ ∙ g′) in
-        sym (in-summer s (d .year) its-year (omega arith) (omega arith))
-
-    pub offset-late : f ≡ false → f′ ≡ false → 3600 ≡ offset (dayStart i + t - 3600)
-    offset-late g g′ =
-        let k = ltb-false (dayStart i + t) (dayStart a + 7200) (sym q ∙ g) in
-        let l = ltb-false (dayStart i + t) (dayStart b + 7200) (sym q′ ∙ g′) in
-        sym (after-summer s (d .year) its-year (omega arith) (omega arith))
-
-pub ruleset offset-rules = (march-valid, october-valid, offset-early, offset-summer, offset-late)
+  pub offset-late : (b : ℕ) (g : Bool) → b ≡ lastSunday (1996 + i * 400 / 146097) 10 → g ≡ ltb (dayStart i + t) (dayStart b + 7200) → g ≡ false → 3600 ≡ offset (dayStart i + t - 3600)
+  offset-late b g p q y =
+      let n = guessed i h in
+      let l = ltb-false (dayStart i + t) (dayStart b + 7200) (sym q ∙ y) in
+      sym (winter-late (guess i) (dayStart i + t - 3600) (n .few) (omega arith) (omega arith) (omega arith))
 
 -- local_of: w is what the clock shows that never changes, o what `offset_at` returned, r what the Berlin clock shows
 pub local-is : (m : Moment) (w r : Local) (o : ℕ) → dayStart (w .day) + w .second ≡ secondsOf m + 3600 → o ≡ offset (dayStart (w .day) + w .second - 3600) → dayStart (r .day) + r .second ≡ secondsOf m + o → r .second < 86400 → r ≡ localOf (secondsOf m)
@@ -167,50 +143,33 @@ module _ (i a : ℕ) (c : Clock) (f : c .second < 86400) (g : a ≤ 7200) where
 
 pub ruleset behind-rules = (day-before, day-same)
 
--- berlin_at: d is the date of the day i, a and b the two Sundays of its year, m what `behind` returned
-module _ (i : ℕ) (c : Clock) (d : Date) (h : i ≤ last) (u : ProperClock c) (e : d ≡ dateOf i) (a : ℕ) (p : a ≡ lastSunday (d .year) 3) (f : Bool) (q : f ≡ ltb (dayStart i + c .second) (dayStart a + 7200)) where
-  march-is : a ≡ lastSunday (dateOf i .year) 3
-  march-is = rw e at p
+-- berlin_at: a and b are what `switches_by` returned, f and g what `is_before` returned, m what `behind` returned
+module _ (i : ℕ) (c : Clock) (h : i ≤ last) (u : ProperClock c) where
+  pub at-early : (a : ℕ) (f : Bool) (m : Moment) → a ≡ lastSunday (1996 + i * 400 / 146097) 3 → f ≡ ltb (dayStart i + c .second) (dayStart a + 7200) → f ≡ true → m ≡ momentOf (dayStart i + c .second - 3600) (c .nanos) → At m ≡ berlinAt i c
+  at-early a f m p q y e =
+      let l = ltb-true (dayStart i + c .second) (dayStart a + 7200) (sym q ∙ y) in
+      let v = early i (c .second) (guess i) h (guessed i h) (u .second-lt) (omega arith) in
+      rw e (sym (at-one i c (v .0) (v .1)))
 
-  pub at-early : (m : Moment) → f ≡ true → m ≡ momentOf (dayStart i + c .second - 3600) (c .nanos) → At m ≡ berlinAt i c
-  at-early m g k =
-      let r = march-is in
-      let v = early i (c .second) h (u .second-lt) (omega (arith, ltb-true (dayStart i + c .second) (dayStart a + 7200) (sym q ∙ g))) in
-      rw k (sym (at-one i c (v .0) (v .1)))
+  pub at-gap : (a : ℕ) (f g : Bool) → a ≡ lastSunday (1996 + i * 400 / 146097) 3 → f ≡ ltb (dayStart i + c .second) (dayStart a + 7200) → f ≡ false → g ≡ ltb (dayStart i + c .second) (dayStart a + 10800) → g ≡ true → Absent ≡ berlinAt i c
+  at-gap a f g p q y s z =
+      let k = ltb-false (dayStart i + c .second) (dayStart a + 7200) (sym q ∙ y) in
+      let l = ltb-true (dayStart i + c .second) (dayStart a + 10800) (sym s ∙ z) in
+      let v = gap i (c .second) (guess i) h (guessed i h) (u .second-lt) (omega arith) (omega arith) in
+      sym (at-none i c (v .0) (v .1))
 
-  module _ (f′ : Bool) (q′ : f′ ≡ ltb (dayStart i + c .second) (dayStart a + 10800)) where
-    pub at-gap : f ≡ false → f′ ≡ true → Absent ≡ berlinAt i c
-    at-gap g g′ =
-        let r = march-is in
-        let k = ltb-false (dayStart i + c .second) (dayStart a + 7200) (sym q ∙ g) in
-        let l = ltb-true (dayStart i + c .second) (dayStart a + 10800) (sym q′ ∙ g′) in
-        let v = gap i (c .second) h (u .second-lt) (omega arith) (omega arith) in
-        sym (at-none i c (v .0) (v .1))
+  -- x is 03:00, or earlier: up to then the earlier instant is the one by UTC+2
+  pub at-summer : (a b x : ℕ) (f g : Bool) (m : Moment) → a ≡ lastSunday (1996 + i * 400 / 146097) 3 → f ≡ ltb (dayStart i + c .second) (dayStart a + 10800) → f ≡ false → b ≡ lastSunday (1996 + i * 400 / 146097) 10 → g ≡ ltb (dayStart i + c .second) (dayStart b + x) → g ≡ true → x ≤ 10800 → m ≡ momentOf (dayStart i + c .second - 7200) (c .nanos) → At m ≡ berlinAt i c
+  at-summer a b x f g m p q y r s z w e =
+      let k = ltb-false (dayStart i + c .second) (dayStart a + 10800) (sym q ∙ y) in
+      let l = ltb-true (dayStart i + c .second) (dayStart b + x) (sym s ∙ z) in
+      rw e (sym (at-two i c (summer-in (guess i) (dayStart i + c .second - 7200) (guessed i h .few) (omega arith) (omega arith))))
 
-    module _ (b : ℕ) (p′ : b ≡ lastSunday (d .year) 10) (f″ : Bool) (q″ : f″ ≡ ltb (dayStart i + c .second) (dayStart b + 10800)) (m : Moment) where
-      october-is : b ≡ lastSunday (dateOf i .year) 10
-      october-is = rw e at p′
-
-      pub at-summer : f′ ≡ false → f″ ≡ true → m ≡ momentOf (dayStart i + c .second - 7200) (c .nanos) → At m ≡ berlinAt i c
-      at-summer g g′ z =
-          let r = march-is in
-          let o = october-is in
-          let k = ltb-false (dayStart i + c .second) (dayStart a + 10800) (sym q′ ∙ g) in
-          let l = ltb-true (dayStart i + c .second) (dayStart b + 10800) (sym q″ ∙ g′) in
-          let v : offset (dayStart i + c .second - 7200) ≡ 7200 =
-          elim (decLt (dayStart i + c .second) (dayStart b + 7200)) [
-            | yes x ↦ summer i (c .second) h (u .second-lt) (omega arith) (omega arith) .0
-            | no x ↦ twice i (c .second) h (u .second-lt) (omega arith) (omega arith) .0
-          ] in
-          rw z (sym (at-two i c v))
-
-      pub at-late : f″ ≡ false → m ≡ momentOf (dayStart i + c .second - 3600) (c .nanos) → At m ≡ berlinAt i c
-      at-late g z =
-          let o = october-is in
-          let v = late i (c .second) h (u .second-lt) (omega (arith, ltb-false (dayStart i + c .second) (dayStart b + 10800) (sym q″ ∙ g))) in
-          rw z (sym (at-one i c (v .0) (v .1)))
-
-pub ruleset at-rules = (march-valid, october-valid, at-early, at-gap, at-summer, at-late)
+  pub at-late : (b : ℕ) (g : Bool) (m : Moment) → b ≡ lastSunday (1996 + i * 400 / 146097) 10 → g ≡ ltb (dayStart i + c .second) (dayStart b + 10800) → g ≡ false → m ≡ momentOf (dayStart i + c .second - 3600) (c .nanos) → At m ≡ berlinAt i c
+  at-late b g m p q y e =
+      let l = ltb-false (dayStart i + c .second) (dayStart b + 10800) (sym q ∙ y) in
+      let v = late i (c .second) (guess i) h (guessed i h) (u .second-lt) (omega arith) in
+      rw e (sym (at-one i c (v .0) (v .1)))
 
 -- resolved_or, berlin_midnight, end_of_day_berlin, tagesbeginn_utc: f is what `berlin_at` returned, m what `resolved_or` returned
 pub none-given : (f : Resolved) → f ≡ Absent → _≡_ {A = Moment} (record { day = 0; second = 0; nanos = 0 }) (resolvedOr f)

@@ -2,21 +2,20 @@
 -- two days.
 --   parts        quotient and remainder of a number of seconds that is given as days and seconds
 --   Sundays k    where the last Sundays of March and October of the year 1996 + k lie
---   InYear i k   the day with index i lies in the year 1996 + k
+--   InYear i k   the day with index i lies in the year 1996 + k; Near i k: in it or at most two days beside it
+--   guessed      the year that a day lies near, by the average length of a year
 --   winter-early winter-late summer-in   the offset before, after and in summer time
 -- Assumes nothing.
 use Prim.Native.Nat.{ℕ, zero, suc, _+_, _-_, _*_, _/_, _%_, _≤_, _<_}
-use mathlib.Core.Bool.{Bool, true, false, _&&_, cond}
-use mathlib.Core.Path.{_≡_, refl, sym, ap, _∙_}
+use mathlib.Core.Bool.{Bool, true, false}
+use mathlib.Core.Path.{_≡_, refl, ap, _∙_}
 use native.Mathlib.Omega.{arith}
-use native.Mathlib.Decide.{decLe}
-use lib.Dec.{leb, ltb}
+use native.Mathlib.Decide.{decLe, decLt}
 use borrow.Author.Tests.{le-leb, lt-leb, lt-ltb, le-ltb}
 use Rattle.zaehlung.specs.Walk.{bit, last}
 use Rattle.zaehlung.specs.Blocks.{start, start-suc, at-is, at-sum, at-below}
-use Rattle.datum.specs.declared.Date.{Date}
-use Rattle.datum.specs.Calendar.{leap, yearLen, yearStart, yearOf, monthLen, monthStart, daysBefore, dateIn, dateOf, weekdayOf}
-use Rattle.datum.proofs.Years.{yearLen-bounds, start-all, start-none}
+use Rattle.datum.specs.Calendar.{leap, yearLen, yearStart, yearOf, monthLen, monthStart, daysBefore, dateIn, dateOf}
+use Rattle.datum.proofs.Years.{closed, yearLen-bounds, start-all, start-none}
 use Rattle.berlin.specs.Berlin.{dayStart, lastSunday, summerFrom, summerTo, yearAt, offset}
 
 pub parts : (x q r : ℕ) → x ≡ q * 86400 + r → r < 86400 → (x / 86400 ≡ q) × (x % 86400 ≡ r)
@@ -29,12 +28,12 @@ back-days i = omega arith
 back-sunday : (i b : ℕ) → b ≡ (i % 7 + 1) % 7 → b ≤ i → (i - b) % 7 ≡ 6
 back-sunday i b e h = omega arith
 
-start-3 : (l : Bool) → monthStart l 3 ≡ 59 + bit l
+pub start-3 : (l : Bool) → monthStart l 3 ≡ 59 + bit l
 unfolding start monthLen
 start-3 true = refl
 start-3 false = refl
 
-start-10 : (l : Bool) → monthStart l 10 ≡ 273 + bit l
+pub start-10 : (l : Bool) → monthStart l 10 ≡ 273 + bit l
 unfolding start monthLen
 start-10 true = refl
 start-10 false = refl
@@ -135,11 +134,12 @@ module _ (k s : ℕ) (f : k ≤ 903) where
   pub summer-in : summerFrom (1996 + k) ≤ s → s < summerTo (1996 + k) → offset s ≡ 7200
   summer-in h g = let n = sundays k in in-summer s (1996 + k) (year-by s k f (omega arith) (omega arith)) h g
 
-  pub winter-late : summerTo (1996 + k) ≤ s → s + 3600 < dayStart (yearStart (suc k)) → offset s ≡ 3600
-  winter-late h g = let n = sundays k in after-summer s (1996 + k) (year-by s k f (omega arith) g) (omega arith) h
+  -- to the year's end
+  winter-end : summerTo (1996 + k) ≤ s → s + 3600 < dayStart (yearStart (suc k)) → offset s ≡ 3600
+  winter-end h g = let n = sundays k in after-summer s (1996 + k) (year-by s k f (omega arith) g) (omega arith) h
 
--- up to a day before the year begins
-pub winter-early : (k s : ℕ) → k ≤ 903 → dayStart (yearStart k) ≤ s + 86400 → s < summerFrom (1996 + k) → offset s ≡ 3600
+-- from some days before the year
+pub winter-early : (k s : ℕ) → k ≤ 903 → dayStart (yearStart k) ≤ s + 604800 → s < summerFrom (1996 + k) → offset s ≡ 3600
 winter-early k s f a h =
     let n = sundays k in
     elim (decLe (dayStart (yearStart k)) (s + 3600)) [
@@ -147,6 +147,61 @@ winter-early k s f a h =
       | no l ↦ go k f a h (omega arith)
     ]
   where
-    go : (k : ℕ) → k ≤ 903 → dayStart (yearStart k) ≤ s + 86400 → s < summerFrom (1996 + k) → s + 3600 < dayStart (yearStart k) → offset s ≡ 3600
+    go : (k : ℕ) → k ≤ 903 → dayStart (yearStart k) ≤ s + 604800 → s < summerFrom (1996 + k) → s + 3600 < dayStart (yearStart k) → offset s ≡ 3600
     go zero f a h l = before-summer s 1996 (year-first s (omega (arith, start-none))) h
-    go (suc k) f a h l = let n = sundays k in winter-late k s (omega arith) (omega arith) l
+    go (suc k) f a h l = let n = sundays k in winter-end k s (omega arith) (omega arith) l
+
+-- to some days after the year, but inside the calendar
+pub winter-late : (k s : ℕ) → k ≤ 903 → summerTo (1996 + k) ≤ s → s + 3600 < dayStart (yearStart (suc k)) + 604800 → s + 3600 < dayStart 330180 → offset s ≡ 3600
+winter-late k s f h g b =
+    elim (decLt (s + 3600) (dayStart (yearStart (suc k)))) [
+      | yes l ↦ winter-end k s f h l
+      | no l ↦
+          elim (decLe (suc k) 903) [
+            | yes m ↦ let n = sundays (suc k) in winter-early (suc k) s m (omega arith) (omega arith)
+            | no m ↦ let e : suc k ≡ 904 = omega arith in absurd (omega (arith, start-all, ap yearStart e))
+          ]
+    ]
+
+-- a year whose days, and two more on each side, hold the day with index i
+pub record Near (i k : ℕ) : Type 0 where
+  pub few : k ≤ 903
+  pub from : yearStart k ≤ i + 2
+  pub to : i < yearStart (suc k) + 2
+
+pub own-year : (i : ℕ) → i ≤ last → Near i (yearOf i .0)
+own-year i h = let y = in-year i h in record { few = y .few; from = omega arith; to = omega arith }
+
+-- 146,097 days in 400 years; s is the year's first day, p, q and r the quotients of its closed form
+average : (s k p q r : ℕ) → s + 483 + q ≡ 365 * k + (p + r) → 4 * p ≤ k + 1995 → k + 1995 < 4 * p + 4 → 100 * q ≤ k + 1995 → k + 1995 < 100 * q + 100 → 400 * r ≤ k + 1995 → k + 1995 < 400 * r + 400 → (400 * s ≤ 146097 * k + 715) × (146097 * k ≤ 400 * s + 485)
+average s k p q r e a b c d f g = (omega arith, omega arith)
+
+by-4 : (y : ℕ) → (4 * (y / 4) ≤ y) × (y < 4 * (y / 4) + 4)
+by-4 y = omega arith
+
+by-100 : (y : ℕ) → (100 * (y / 100) ≤ y) × (y < 100 * (y / 100) + 100)
+by-100 y = omega arith
+
+by-400 : (y : ℕ) → (400 * (y / 400) ≤ y) × (y < 400 * (y / 400) + 400)
+by-400 y = omega arith
+
+start-near : (k : ℕ) → (400 * yearStart k ≤ 146097 * k + 715) × (146097 * k ≤ 400 * yearStart k + 485)
+start-near k =
+    let y : ℕ = k + 1995 in
+    let a = by-4 y in
+    let b = by-100 y in
+    let c = by-400 y in
+    average (yearStart k) k (y / 4) (y / 100) (y / 400) (closed k) (a .0) (a .1) (b .0) (b .1) (c .0) (c .1)
+
+by-cycle : (x : ℕ) → (146097 * (x / 146097) ≤ x) × (x < 146097 * (x / 146097) + 146097)
+by-cycle x = omega arith
+
+-- the guess, with the quotient as an unknown
+guess-near : (i k : ℕ) → i ≤ last → 146097 * k ≤ i * 400 → i * 400 < 146097 * k + 146097 → Near i k
+guess-near i k h a b =
+    let f = start-near k in
+    let g = start-near (suc k) in
+    record { few = omega arith; from = omega arith; to = omega arith }
+
+pub guessed : (i : ℕ) → i ≤ last → Near i (i * 400 / 146097)
+guessed i h = let a = by-cycle (i * 400) in guess-near i (i * 400 / 146097) h (a .0) (a .1)

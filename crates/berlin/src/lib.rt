@@ -2,13 +2,12 @@
 //
 // Document 01, lib.rs (Berlin) and tagesbeginn.rs. A host's signed seconds are taken apart once, at the edge; behind it an instant is its UTC day
 // and the second of that day.
-ghost use mathlib.Core.Bool.{true};
 ghost use mathlib.Core.Path.{_≡_};
-ghost use Prim.Native.Nat.{_+_, _-_, _*_, _≤_, _<_};
+ghost use Prim.Native.Nat.{_+_, _-_, _*_, _/_, _%_, _≤_, _<_};
 ghost use lib.Dec.{ltb};
 ghost use lib.IntN.{pos};
 ghost use Rattle.zaehlung.specs.Walk.{last};
-ghost use Rattle.datum.specs.Calendar.{valid};
+ghost use Rattle.datum.specs.Calendar.{weekdayOf};
 ghost use Rattle.datum.specs.Floor.{floorDiv, floorMod};
 ghost use Rattle.berlin.specs.Berlin.{dayStart, momentOf, secondsOf, Proper, ProperClock, lastSunday, offset, readInstant, readClock, localOf, berlinDay, berlinAt, resolvedOr, berlinMidnight, endOfDayBerlin, tagesbeginnUtc, tagDesBeginns};
 use datum::Date;
@@ -69,7 +68,7 @@ const WINTER: u32 = 3600;
 
 const SUMMER: u32 = 7200;
 
-// The clock that jumps: in March from 02:00 to 03:00, in October from 03:00 to 02:00.
+// In March the clock jumps from 02:00 to 03:00, in October from 03:00 to 02:00.
 const TWO: u32 = 7200;
 
 const THREE: u32 = 10800;
@@ -155,31 +154,43 @@ pub fn seconds_of(at: Moment) -> i64
     seconds as i64
 }
 
-// The last Sunday of March or October.
-fn last_sunday(year: u16, month: u8) -> u32
-    requires { ⌜ valid (record { year = year; month = month; day = 31 }) ≡ true ⌝ }
-    ensures { λ r. ⌜ (r ≡ lastSunday year month) × (r ≤ last) ⌝ }
+// The Sunday on or before a day.
+fn sunday_by(day: u32) -> u32
+    requires { ⌜ 6 ≤ day ⌝ }
+    ensures { λ r. ⌜ (r ≡ day - (weekdayOf day + 1) % 7) × (r ≤ day) ⌝ }
 {
+    day - (datum::weekday(day) + 1) % 7
+}
+
+// The days on which the clock changes.
+struct Switches {
+    march: u32,
+    october: u32,
+}
+
+// The last Sundays of March and October; the two months end 214 days apart. The year is guessed by the average length of a year. Near the turn of a
+// year the guess can be the year beside: there it is winter by either.
+fn switches_by(day: u32) -> Switches
+    requires { ⌜ day ≤ last ⌝ }
+    ensures { λ r. ⌜ (r .march ≡ lastSunday (1996 + day * 400 / 146097) 3) × (r .october ≡ lastSunday (1996 + day * 400 / 146097) 10) ⌝ }
+{
+    let year = 1996 + day * 400 / 146097;
     let end = datum::days_before(Date {
-        year,
-        month,
+        year: year as u16,
+        month: 3,
         day: 31,
     });
-    end - (datum::weekday(end) + 1) % 7
+    Switches {
+        march: sunday_by(end),
+        october: sunday_by(end + 214),
+    }
 }
 
 // Whether a time of one day is before a time of another.
 fn is_before(day: u32, second: u32, other: u32, until: u32) -> bool
-    requires { ⌜ (second < 86400) × (until < 86400) ⌝ }
     ensures { λ r. ⌜ r ≡ ltb (dayStart day + second) (dayStart other + until) ⌝ }
 {
-    if day < other {
-        return true;
-    }
-    if other < day {
-        return false;
-    }
-    second < until
+    (day as u64) * 86400 + (second as u64) < (other as u64) * 86400 + (until as u64)
 }
 
 // What a clock shows that is so many seconds ahead of UTC.
@@ -205,11 +216,11 @@ fn offset_at(winter: Local) -> u32
     requires { ⌜ (winter .day ≤ last) × (winter .second < 86400) ⌝ }
     ensures { λ r. ⌜ (r ≡ offset (dayStart (winter .day) + winter .second - 3600)) × (3600 ≤ r) × (r ≤ 7200) ⌝ }
 {
-    let year = datum::date_of(winter.day).year;
-    if is_before(winter.day, winter.second, last_sunday(year, 3), TWO) {
+    let sundays = switches_by(winter.day);
+    if is_before(winter.day, winter.second, sundays.march, TWO) {
         return WINTER;
     }
-    if is_before(winter.day, winter.second, last_sunday(year, 10), TWO) {
+    if is_before(winter.day, winter.second, sundays.october, TWO) {
         return SUMMER;
     }
     WINTER
@@ -252,22 +263,21 @@ pub fn berlin_at(day: u32, at: Clock) -> Resolved
     requires { ⌜ (day ≤ last) × ProperClock at ⌝ }
     ensures { λ r. ⌜ r ≡ berlinAt day at ⌝ }
 {
-    let year = datum::date_of(day).year;
-    let march = last_sunday(year, 3);
-    if is_before(day, at.second, march, TWO) {
+    let sundays = switches_by(day);
+    if is_before(day, at.second, sundays.march, TWO) {
         return Resolved::At(behind(day, at, WINTER));
     }
-    if is_before(day, at.second, march, THREE) {
+    if is_before(day, at.second, sundays.march, THREE) {
         return Resolved::Absent;
     }
-    if is_before(day, at.second, last_sunday(year, 10), THREE) {
+    if is_before(day, at.second, sundays.october, THREE) {
         return Resolved::At(behind(day, at, SUMMER));
     }
     Resolved::At(behind(day, at, WINTER))
 }
 
 // The instant of a time that is never absent.
-fn resolved_or(found: Resolved) -> Moment
+pub fn resolved_or(found: Resolved) -> Moment
     ensures { λ r. ⌜ r ≡ resolvedOr found ⌝ }
 {
     match found {

@@ -2,8 +2,22 @@
 //
 // Each call's promise is one equation: the number that it returns and the slice as it leaves it are what a definition of
 // specs/ gives. Refusal 1 is the writer's; every other is decided in the answer.
+mod frist;
 mod kalender;
+mod uhrzeit;
 
+pub use frist::mf_add_hours;
+pub use frist::mf_aperak_gas_due_at;
+pub use frist::mf_aperak_gas_folgeprozess_due_at;
+pub use frist::mf_aperak_gas_initialprozess_due_at;
+pub use frist::mf_aperak_strom_allgemein_due_at;
+pub use frist::mf_aperak_strom_due_at;
+pub use frist::mf_contrl_due_at;
+pub use frist::mf_deadline_at_werktage;
+pub use frist::mf_end_of_werktag_after;
+pub use frist::mf_frist_due_at;
+pub use frist::mf_next_werktag_at;
+pub use frist::mf_nth_werktag_at;
 pub use kalender::mf_add_months;
 pub use kalender::mf_add_werktage;
 pub use kalender::mf_is_werktag;
@@ -11,3 +25,9 @@ pub use kalender::mf_next_werktag;
 pub use kalender::mf_sub_werktage;
 pub use kalender::mf_subtract_months;
 pub use kalender::mf_werktage_between;
+pub use uhrzeit::mf_berlin_at;
+pub use uhrzeit::mf_berlin_date;
+pub use uhrzeit::mf_berlin_midnight;
+pub use uhrzeit::mf_end_of_day_berlin;
+pub use uhrzeit::mf_tag_des_beginns;
+pub use uhrzeit::mf_tagesbeginn_utc;

@@ -2,8 +2,9 @@
 // each line whose answer differs, then how many answers there were and how many were equal.
 //
 // A line is 64 lower-case hexadecimal digits of a question, a space, 64 of its answer, and a line end. A question has 32
-// bytes, its numbers little-endian: 0 the call; 1 to 3 zero; 4 to 7 a date (year 2 bytes, month, day); 8 to 11 a second
-// date; 12 to 15 a count; 16 to 31 zero. A line of another form counts as different.
+// bytes, its numbers little-endian: 0 the call; 1 a code; 2 and 3 zero; 4 to 7 a date (year 2 bytes, month, day); 8 to 11 a
+// second date, or a clock's nanoseconds; 12 to 15 a count; 16 to 23 seconds, signed; 24 to 27 nanoseconds; 28 to 30 hour,
+// minute and second of a clock; 31 zero. A line of another form counts as different.
 ghost use mathlib.Core.Bool.{true};
 ghost use mathlib.Core.Path.{_≡_};
 ghost use Prim.Native.Nat.{_+_, _*_, _≤_};
@@ -89,32 +90,166 @@ fn join4(a: u8, b: u8, c: u8, d: u8) -> u32
     (a as u32) + 256 * (b as u32) + 65536 * (c as u32) + 16777216 * (d as u32)
 }
 
+fn join8(low: u32, high: u32) -> u64
+    ensures { λ r. ⌜ r ≡ low + 4294967296 * high ⌝ }
+{
+    (low as u64) + 4294967296 * (high as u64)
+}
+
 // Whether the bytes of a question that no call reads are zero.
 fn is_spare_zero(q: &[u8; 32]) -> bool {
-    let s = &q[..];
-    check::same(&s[1..4], &[0u8; 3]) && check::same(&s[16..], &[0u8; 16])
+    if q[2] != 0 {
+        return false;
+    }
+    if q[3] != 0 {
+        return false;
+    }
+    q[31] == 0
+}
+
+// A question's numbers.
+struct Question {
+    call: u8,
+    code: u8,
+    year: u16,
+    month: u8,
+    day: u8,
+    year2: u16,
+    month2: u8,
+    day2: u8,
+    nanos_of_second: u32,
+    n: u32,
+    seconds: i64,
+    nanos: u32,
+    hour: u8,
+    minute: u8,
+    second: u8,
+}
+
+fn question_of(q: &[u8; 32]) -> Question {
+    let low = join4(q[16], q[17], q[18], q[19]);
+    let high = join4(q[20], q[21], q[22], q[23]);
+    Question {
+        call: q[0],
+        code: q[1],
+        year: join2(q[4], q[5]),
+        month: q[6],
+        day: q[7],
+        year2: join2(q[8], q[9]),
+        month2: q[10],
+        day2: q[11],
+        nanos_of_second: join4(q[8], q[9], q[10], q[11]),
+        n: join4(q[12], q[13], q[14], q[15]),
+        seconds: antwortsatz::signed_of(join8(low, high)),
+        nanos: join4(q[24], q[25], q[26], q[27]),
+        hour: q[28],
+        minute: q[29],
+        second: q[30],
+    }
+}
+
+// Calendar steps and counts: calls 0 to 6.
+fn ask_kalender(q: Question, answer: &mut [u8]) -> u8 {
+    let call = q.call;
+    match call {
+        0 => mako_fristen::mf_is_werktag(q.year, q.month, q.day, answer),
+        1 => mako_fristen::mf_next_werktag(q.year, q.month, q.day, answer),
+        2 => mako_fristen::mf_add_werktage(q.year, q.month, q.day, q.n, answer),
+        3 => mako_fristen::mf_sub_werktage(q.year, q.month, q.day, q.n, answer),
+        4 => mako_fristen::mf_werktage_between(
+            q.year,
+            q.month,
+            q.day,
+            q.year2,
+            q.month2,
+            q.day2,
+            answer,
+        ),
+        5 => mako_fristen::mf_add_months(q.year, q.month, q.day, q.n, answer),
+        6 => mako_fristen::mf_subtract_months(q.year, q.month, q.day, q.n, answer),
+        _ => NO_CALL,
+    }
+}
+
+// Clock on a date, day of an instant: calls 7 to 12.
+fn ask_uhrzeit(q: Question, answer: &mut [u8]) -> u8 {
+    let call = q.call;
+    match call {
+        7 => mako_fristen::mf_berlin_at(
+            q.year,
+            q.month,
+            q.day,
+            q.hour,
+            q.minute,
+            q.second,
+            q.nanos_of_second,
+            answer,
+        ),
+        8 => mako_fristen::mf_berlin_midnight(q.year, q.month, q.day, answer),
+        9 => mako_fristen::mf_end_of_day_berlin(q.year, q.month, q.day, answer),
+        10 => mako_fristen::mf_tagesbeginn_utc(q.year, q.month, q.day, q.code, answer),
+        11 => mako_fristen::mf_berlin_date(q.seconds, q.nanos, answer),
+        12 => mako_fristen::mf_tag_des_beginns(q.seconds, q.nanos, q.code, answer),
+        _ => NO_CALL,
+    }
+}
+
+// Due instants: calls 13 to 24.
+fn ask_frist(q: Question, answer: &mut [u8]) -> u8 {
+    let call = q.call;
+    match call {
+        13 => mako_fristen::mf_contrl_due_at(q.seconds, q.nanos, q.code, answer),
+        14 => mako_fristen::mf_aperak_strom_due_at(q.seconds, q.nanos, answer),
+        15 => mako_fristen::mf_aperak_strom_allgemein_due_at(q.seconds, q.nanos, answer),
+        16 => mako_fristen::mf_aperak_gas_folgeprozess_due_at(q.seconds, q.nanos, answer),
+        17 => mako_fristen::mf_aperak_gas_initialprozess_due_at(q.seconds, q.nanos, answer),
+        18 => mako_fristen::mf_aperak_gas_due_at(q.n, q.seconds, q.nanos, answer),
+        19 => mako_fristen::mf_add_hours(q.seconds, q.nanos, q.n, answer),
+        20 => mako_fristen::mf_deadline_at_werktage(q.seconds, q.nanos, q.n, answer),
+        21 => mako_fristen::mf_end_of_werktag_after(q.seconds, q.nanos, q.n, answer),
+        22 => mako_fristen::mf_next_werktag_at(
+            q.seconds,
+            q.nanos,
+            q.hour,
+            q.minute,
+            q.second,
+            q.nanos_of_second,
+            answer,
+        ),
+        23 => mako_fristen::mf_nth_werktag_at(
+            q.seconds,
+            q.nanos,
+            q.n,
+            q.hour,
+            q.minute,
+            q.second,
+            q.nanos_of_second,
+            answer,
+        ),
+        24 => mako_fristen::mf_frist_due_at(
+            q.code,
+            q.n,
+            q.hour,
+            q.minute,
+            q.second,
+            q.nanos_of_second,
+            q.seconds,
+            q.nanos,
+            answer,
+        ),
+        _ => NO_CALL,
+    }
 }
 
 // Asks the call that the question names, and returns what the call returns.
-fn ask(q: &[u8; 32], answer: &mut [u8]) -> u8 {
-    let year = join2(q[4], q[5]);
-    let month = q[6];
-    let day = q[7];
-    let year2 = join2(q[8], q[9]);
-    let month2 = q[10];
-    let day2 = q[11];
-    let n = join4(q[12], q[13], q[14], q[15]);
-    let call = q[0];
-    match call {
-        0 => mako_fristen::mf_is_werktag(year, month, day, answer),
-        1 => mako_fristen::mf_next_werktag(year, month, day, answer),
-        2 => mako_fristen::mf_add_werktage(year, month, day, n, answer),
-        3 => mako_fristen::mf_sub_werktage(year, month, day, n, answer),
-        4 => mako_fristen::mf_werktage_between(year, month, day, year2, month2, day2, answer),
-        5 => mako_fristen::mf_add_months(year, month, day, n, answer),
-        6 => mako_fristen::mf_subtract_months(year, month, day, n, answer),
-        _ => NO_CALL,
+fn ask(q: Question, answer: &mut [u8]) -> u8 {
+    if q.call < 7 {
+        return ask_kalender(q, answer);
     }
+    if q.call < 13 {
+        return ask_uhrzeit(q, answer);
+    }
+    ask_frist(q, answer)
 }
 
 // Whether an answer is the one that is expected, all 32 bytes, and the number that was returned is its first.
@@ -144,7 +279,7 @@ fn is_equal(line: &[u8; 129]) -> bool {
         return false;
     }
     let mut answer = [UNWRITTEN; 32];
-    let number = ask(&question, &mut answer);
+    let number = ask(question_of(&question), &mut answer);
     is_expected(number, &answer, &expected)
 }
 

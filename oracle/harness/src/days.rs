@@ -22,6 +22,12 @@ pub fn index(day: time::Date) -> u32 {
     (day.to_julian_day() - FIRST.to_julian_day()) as u32
 }
 
+/// How many days of the calendar come after.
+#[must_use]
+pub fn left(day: time::Date) -> u32 {
+    DAYS - 1 - index(day)
+}
+
 /// The host's form of a date, if the calendar has it.
 #[must_use]
 pub fn to_host(day: time::Date) -> Option<Date> {

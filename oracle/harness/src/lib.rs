@@ -3,15 +3,19 @@
 //! | module | what |
 //! |---|---|
 //! | [`days`] | the dates of the calendar in the original's date type |
+//! | [`instants`] | instants and clock times in its types, and where its answers change |
 //! | [`original`] | what the original answers to a question, in document 01's terms |
+//! | [`zone`] | what the system's tz database answers |
 //! | [`random`] | seeded numbers |
 //! | [`rows`] | the questions, in rows: a new call is a new set of rows |
 //! | [`run`] | puts the questions of a row to both sides |
 //! | [`options`] | `--name value` of the programs |
 
 pub mod days;
+pub mod instants;
 pub mod options;
 pub mod original;
 pub mod random;
 pub mod rows;
 pub mod run;
+pub mod zone;

@@ -1,12 +1,15 @@
 //! What the original answers to a question, in document 01's terms: the one place where an expected
 //! answer is made.
 
-use crate::days;
+use crate::{days, instants};
+use mako_fristen::antwort::FristShape;
 use mako_fristen::HolidayCalendar::BdewMaKo;
+use mako_fristen::{ContrlAnlass, Sparte};
 use mako_fristen_host::{Answer, Call, Question, Refusal};
+use std::any::Any;
 use std::cell::Cell;
 use std::panic::{self, UnwindSafe};
-use time::Date;
+use time::{Date, OffsetDateTime};
 
 /// The last year of the original's date type, on either side of 0.
 const LAST_YEAR_OF_TYPE: i64 = 9999;
@@ -24,30 +27,8 @@ pub fn expected_uncapped(question: &Question) -> Answer {
     answered(question, |n, _| n).unwrap_or_else(Answer::refused)
 }
 
-fn answered(question: &Question, cap: fn(u32, u32) -> u32) -> Result<Answer, Refusal> {
-    let Question { call, n, .. } = *question;
-    let date = days::given(question.date)?;
-    let before = days::index(date);
-    let after = days::DAYS - 1 - before;
-    match call {
-        Call::IsWerktag => {
-            let werktag = mako_fristen::is_werktag(date, BdewMaKo);
-            Ok(Answer::default().with_kind(werktag.into()))
-        }
-        Call::NextWerktag => step(|| mako_fristen::next_werktag(date, BdewMaKo)),
-        Call::AddWerktage => step(|| mako_fristen::add_werktage(date, cap(n, after), BdewMaKo)),
-        Call::SubWerktage => step(|| mako_fristen::sub_werktage(date, cap(n, before), BdewMaKo)),
-        Call::WerktageBetween => {
-            let to = days::given(question.date2)?;
-            let count = mako_fristen::werktage_between(date, to, BdewMaKo);
-            Ok(Answer::default().with_count(count))
-        }
-        Call::AddMonths => shift(date, n.into(), || mako_fristen::add_months(date, n)),
-        Call::SubtractMonths => {
-            shift(date, -i64::from(n), || mako_fristen::subtract_months(date, n))
-        }
-    }
-}
+/// What is put to the original for a count of Werktage, with so many days left.
+type Cap = fn(u32, u32) -> u32;
 
 /// Each Werktag is a day further. So a count over the days that are left leaves the calendar, and
 /// one more than these days is the same question, without a walk of millions of days.
@@ -55,10 +36,60 @@ fn capped(n: u32, days_left: u32) -> u32 {
     n.min(days_left + 1)
 }
 
+fn answered(question: &Question, cap: Cap) -> Result<Answer, Refusal> {
+    if question.call.codes().is_some_and(|codes| question.code >= codes) {
+        return Err(Refusal::UnknownCode);
+    }
+    match question.call {
+        Call::IsWerktag | Call::NextWerktag | Call::AddWerktage | Call::SubWerktage => {
+            werktage(question, cap)
+        }
+        Call::WerktageBetween | Call::AddMonths | Call::SubtractMonths => spans(question),
+        Call::BerlinAt | Call::BerlinMidnight | Call::EndOfDayBerlin | Call::TagesbeginnUtc => {
+            clock_on_a_date(question)
+        }
+        Call::BerlinDate | Call::TagDesBeginns => day_of_an_instant(question),
+        Call::AddHours | Call::DeadlineAtWerktage | Call::EndOfWerktagAfter => {
+            after_an_instant(question, cap)
+        }
+        Call::NextWerktagAt | Call::NthWerktagAt => clock_on_a_werktag(question, cap),
+        Call::FristDueAt => answer_due(question, cap),
+        _ => message_due(question),
+    }
+}
+
+fn werktage(question: &Question, cap: Cap) -> Result<Answer, Refusal> {
+    let date = days::given(question.date)?;
+    let back = cap(question.n, days::index(date));
+    let on = cap(question.n, days::left(date));
+    match question.call {
+        Call::IsWerktag => {
+            let werktag = mako_fristen::is_werktag(date, BdewMaKo);
+            Ok(Answer::default().with_kind(werktag.into()))
+        }
+        Call::NextWerktag => step(|| mako_fristen::next_werktag(date, BdewMaKo)),
+        Call::AddWerktage => step(|| mako_fristen::add_werktage(date, on, BdewMaKo)),
+        _ => step(|| mako_fristen::sub_werktage(date, back, BdewMaKo)),
+    }
+}
+
+fn spans(question: &Question) -> Result<Answer, Refusal> {
+    let (date, n) = (days::given(question.date)?, question.n);
+    match question.call {
+        Call::WerktageBetween => {
+            let to = days::given(question.date2)?;
+            let count = mako_fristen::werktage_between(date, to, BdewMaKo);
+            Ok(Answer::default().with_count(count))
+        }
+        Call::AddMonths => shift(date, n.into(), || mako_fristen::add_months(date, n)),
+        _ => shift(date, -i64::from(n), || mako_fristen::subtract_months(date, n)),
+    }
+}
+
 /// The date of a step. Where the original panics, it has walked past the year 9999 or below the
 /// year 0, so out of the calendar.
 fn step(original: impl FnOnce() -> Date + UnwindSafe) -> Result<Answer, Refusal> {
-    let date = quietly(original).and_then(days::to_host).ok_or(Refusal::LeavesCalendar)?;
+    let date = days::to_host(quietly(original)?).ok_or(Refusal::LeavesCalendar)?;
     Ok(Answer::default().with_date(date))
 }
 
@@ -76,6 +107,110 @@ fn shift(
     step(original)
 }
 
+fn clock_on_a_date(question: &Question) -> Result<Answer, Refusal> {
+    let date = days::given(question.date)?;
+    match question.call {
+        Call::BerlinAt => {
+            let at = instants::given_clock(question.clock)?;
+            due(|| mako_fristen::berlin_at(date, at))
+        }
+        Call::BerlinMidnight => due(|| mako_fristen::berlin_midnight(date)),
+        Call::EndOfDayBerlin => due(|| mako_fristen::end_of_day_berlin(date)),
+        _ => due(|| mako_fristen::tagesbeginn_utc(date, sparte(question.code))),
+    }
+}
+
+fn day_of_an_instant(question: &Question) -> Result<Answer, Refusal> {
+    let instant = instants::given(question.instant)?;
+    if question.call == Call::BerlinDate {
+        return step(|| mako_fristen::berlin_date(instant));
+    }
+    let day = mako_fristen::tag_des_beginns(instant, sparte(question.code));
+    let day = day.map_err(|_| Refusal::NoBeginning)?;
+    step(|| day)
+}
+
+fn message_due(question: &Question) -> Result<Answer, Refusal> {
+    let received = instants::given(question.instant)?;
+    match question.call {
+        Call::ContrlDueAt => due(|| mako_fristen::contrl_due_at(received, anlass(question.code))),
+        Call::AperakStromDueAt => due(|| mako_fristen::aperak_strom_due_at(received)),
+        Call::AperakStromAllgemeinDueAt => {
+            due(|| mako_fristen::aperak_strom_allgemein_due_at(received))
+        }
+        Call::AperakGasFolgeprozessDueAt => {
+            due(|| mako_fristen::aperak_gas_folgeprozess_due_at(received))
+        }
+        Call::AperakGasInitialprozessDueAt => {
+            Ok(due(|| mako_fristen::aperak_gas_initialprozess_due_at(received))?.with_kind(1))
+        }
+        Call::AperakGasDueAt => {
+            let (label, _) = mako_fristen::aperak_gas_due_at(question.n, received);
+            let initial = label == mako_fristen::APERAK_GAS_INITIALPROZESS_LABEL;
+            let answer = due(|| mako_fristen::aperak_gas_due_at(question.n, received).1)?;
+            Ok(answer.with_kind(initial.into()))
+        }
+        other => unreachable!("{} is no message", other.name()),
+    }
+}
+
+fn after_an_instant(question: &Question, cap: Cap) -> Result<Answer, Refusal> {
+    let (from, n) = (instants::given(question.instant)?, question.n);
+    let werktage = cap(n, days::left(mako_fristen::berlin_date(from)));
+    match question.call {
+        Call::AddHours => due(|| mako_fristen::add_hours(from, n)),
+        Call::DeadlineAtWerktage => {
+            due(|| mako_fristen::deadline_at_werktage(from, werktage, BdewMaKo))
+        }
+        _ => due(|| mako_fristen::end_of_werktag_after(from, werktage, BdewMaKo)),
+    }
+}
+
+fn clock_on_a_werktag(question: &Question, cap: Cap) -> Result<Answer, Refusal> {
+    let received = instants::given(question.instant)?;
+    let at = instants::given_clock(question.clock)?;
+    if question.call == Call::NextWerktagAt {
+        return due(|| mako_fristen::next_werktag_at(received, at, BdewMaKo));
+    }
+    let n = cap(question.n, days::left(mako_fristen::berlin_date(received)));
+    due(|| mako_fristen::nth_werktag_at(received, n, at, BdewMaKo))
+}
+
+/// A clock or count that the shape does not have is not looked at.
+fn answer_due(question: &Question, cap: Cap) -> Result<Answer, Refusal> {
+    let received = instants::given(question.instant)?;
+    let werktage = cap(question.n, days::left(mako_fristen::berlin_date(received)));
+    let at = instants::given_clock(question.clock);
+    let shape = match question.code {
+        0 => FristShape::WerktagAt { werktage, at: at? },
+        1 => FristShape::EndOfWerktag(werktage),
+        2 => FristShape::SameDayAt(at?),
+        _ => FristShape::SameDay,
+    };
+    due(|| shape.due_at(received, BdewMaKo))
+}
+
+/// An instant whose Berlin day must be one of the calendar. The original panics on an absent local
+/// time, and where an instant passes the year 9999, so the calendar.
+fn due(original: impl FnOnce() -> OffsetDateTime + UnwindSafe) -> Result<Answer, Refusal> {
+    let with_day = || {
+        let due = original();
+        (due, mako_fristen::berlin_date(due))
+    };
+    let (due, day) = quietly(with_day)?;
+    days::to_host(day).ok_or(Refusal::LeavesCalendar)?;
+    Ok(Answer::default().with_instant(instants::to_host(due)))
+}
+
+fn anlass(code: u8) -> ContrlAnlass {
+    use ContrlAnlass::{GasAlocat, Regelfall, StromUtilmdOderOrders};
+    [Regelfall, StromUtilmdOderOrders, GasAlocat][usize::from(code)]
+}
+
+fn sparte(code: u8) -> Sparte {
+    [Sparte::Strom, Sparte::Gas][usize::from(code)]
+}
+
 thread_local! {
     static QUIET: Cell<bool> = const { Cell::new(false) };
 }
@@ -90,9 +225,18 @@ pub fn silence() {
     }));
 }
 
-fn quietly<T>(original: impl FnOnce() -> T + UnwindSafe) -> Option<T> {
+/// What the original gives, or the refusal that its panic stands for.
+fn quietly<T>(original: impl FnOnce() -> T + UnwindSafe) -> Result<T, Refusal> {
     QUIET.set(true);
     let result = panic::catch_unwind(original);
     QUIET.set(false);
-    result.ok()
+    result.map_err(|panic| refusal_of(&*panic))
+}
+
+/// `berlin_at` says what it could not resolve; every other panic is of a date past its type.
+fn refusal_of(panic: &(dyn Any + Send)) -> Refusal {
+    match panic.downcast_ref::<String>() {
+        Some(text) if text.contains("could not resolve") => Refusal::LocalTimeAbsent,
+        _ => Refusal::LeavesCalendar,
+    }
 }

@@ -1,6 +1,5 @@
 //! Puts the questions of a row to both sides.
 
-use crate::original;
 use crate::rows::{Probe, Row, LONGEST};
 use mako_fristen_host::{Answer, Refusal};
 use std::sync::atomic::{AtomicU64, Ordering};
@@ -56,7 +55,7 @@ fn difference(row: &Row, probe: &Probe) -> Option<String> {
     let mut expected = got;
     let number = probe.question.ask(&mut got[slice.clone()]);
     let expected_number = if probe.len == Answer::LEN {
-        let answer = expected_answer(row, probe);
+        let answer = (row.expected)(&probe.question);
         expected[slice].copy_from_slice(answer.as_bytes());
         answer.number()
     } else {
@@ -64,14 +63,6 @@ fn difference(row: &Row, probe: &Probe) -> Option<String> {
     };
     let same = number == expected_number && got == expected;
     (!same).then(|| told(probe, (expected_number, &expected), (number, &got)))
-}
-
-fn expected_answer(row: &Row, probe: &Probe) -> Answer {
-    if row.uncapped {
-        original::expected_uncapped(&probe.question)
-    } else {
-        original::expected(&probe.question)
-    }
 }
 
 fn told(probe: &Probe, expected: (u8, &Lent), got: (u8, &Lent)) -> String {

@@ -1,10 +1,11 @@
 //! Where the original's answer is not document 01's, each with its smallest input. `original.rs`
-//! turns these into the refusal 8. If one of them changes, that module has to be read again.
+//! turns these into the refusals 6 and 8. If one of them changes, that module has to be read again.
 
+use mako_fristen::antwort::FristShape;
 use mako_fristen::HolidayCalendar::BdewMaKo;
-use mako_fristen_host::{Call, Date, Question};
+use mako_fristen_host::{Call, Clock, Date, Instant, Question};
 use std::panic::{catch_unwind, UnwindSafe};
-use time::macros::date;
+use time::macros::{date, datetime, time};
 
 fn panics<T>(original: impl FnOnce() -> T + UnwindSafe) -> bool {
     catch_unwind(original).is_err()
@@ -23,7 +24,7 @@ fn a_month_shift_past_the_date_type_is_no_shift() {
         (Call::SubtractMonths, Date::FIRST, 143_941),
         (Call::AddMonths, Date::LAST, u32::MAX),
     ] {
-        let question = Question::new(call, date).with_count(n);
+        let question = Question::on(call, date).with_count(n);
         assert_eq!(harness::original::expected(&question).number(), 8, "{question}");
     }
 }
@@ -49,4 +50,52 @@ fn steps_and_day_tests_can_panic() {
     assert!(panics(|| mako_fristen::next_werktag(date!(9999 - 12 - 31), BdewMaKo)));
     assert!(panics(|| mako_fristen::is_werktag(date!(-0002 - 12 - 30), BdewMaKo)));
     assert!(!panics(|| mako_fristen::is_werktag(date!(-0001 - 01 - 01), BdewMaKo)));
+}
+
+/// 02:00 up to 03:00 on the last Sunday of March; 31 March 1996 is the first.
+#[test]
+fn an_absent_local_time_is_a_panic() {
+    let sunday = date!(1996 - 03 - 31);
+    for (at, absent) in [
+        (time!(1:59:59.999999999), false),
+        (time!(2:00), true),
+        (time!(2:59:59.999999999), true),
+        (time!(3:00), false),
+    ] {
+        assert_eq!(panics(|| mako_fristen::berlin_at(sunday, at)), absent, "{at}");
+    }
+    let two = Clock::new(2, 0, 0, 0);
+    let question = Question::on(Call::BerlinAt, Date::new(1996, 3, 31)).with_clock(two);
+    assert_eq!(harness::original::expected(&question).number(), 6);
+}
+
+/// It reads its clock on the receipt day first, also if that is a Sunday, on which nothing is due.
+#[test]
+fn same_day_at_an_absent_time_is_a_panic() {
+    let two = FristShape::SameDayAt(time!(2:00));
+    for (received, absent) in [
+        (datetime!(1996-03-30 22:59:59.999999999 UTC), false),
+        (datetime!(1996-03-30 23:00 UTC), true),
+        (datetime!(1996-03-31 21:59:59.999999999 UTC), true),
+        (datetime!(1996-03-31 22:00 UTC), false),
+    ] {
+        assert_eq!(panics(|| two.due_at(received, BdewMaKo)), absent, "{received}");
+    }
+    let sunday = harness::instants::to_host(datetime!(1996-03-30 23:00 UTC));
+    let two = Clock::new(2, 0, 0, 0);
+    let question = Question::at(Call::FristDueAt, sunday).with_code(2).with_clock(two);
+    assert_eq!(harness::original::expected(&question).number(), 6);
+}
+
+/// The first hour past the year 9999, from the calendar's last instant.
+#[test]
+fn hours_past_the_date_type_are_a_panic() {
+    let last = datetime!(2899-12-31 22:59:59.999999999 UTC);
+    let to_9999 = mako_fristen::add_hours(last, 62_237_305);
+    assert_eq!(to_9999, datetime!(9999-12-31 23:59:59.999999999 UTC));
+    assert!(panics(|| mako_fristen::add_hours(last, 62_237_306)));
+    for hours in [1, 62_237_305, 62_237_306, u32::MAX] {
+        let question = Question::at(Call::AddHours, Instant::LAST).with_count(hours);
+        assert_eq!(harness::original::expected(&question).number(), 8, "{question}");
+    }
 }

@@ -1,7 +1,7 @@
 //! Europe/Berlin by the rule of Directive 2000/84/EC, in every year: UTC+1, and UTC+2 from the last
 //! Sunday of March 01:00 UTC to the last Sunday of October 01:00 UTC. Names are those of `time_tz`.
 
-use time::{Date, Month, OffsetDateTime, PrimitiveDateTime, Time, UtcOffset, Weekday};
+use time::{Date, Duration, Month, OffsetDateTime, PrimitiveDateTime, UtcOffset};
 
 pub struct Berlin;
 
@@ -56,11 +56,9 @@ fn offset_at(instant: OffsetDateTime) -> UtcOffset {
 
 /// 01:00 UTC of the last Sunday of a month with 31 days.
 fn change(year: i32, month: Month) -> OffsetDateTime {
-    let mut day = Date::from_calendar_date(year, month, 31).expect("a month with 31 days");
-    while day.weekday() != Weekday::Sunday {
-        day = day.previous_day().expect("a Sunday of the same month");
-    }
-    day.with_time(Time::MIDNIGHT).assume_utc() + time::Duration::HOUR
+    let last = Date::from_calendar_date(year, month, 31).expect("a month with 31 days");
+    let sunday = last - Duration::days(last.weekday().number_days_from_sunday().into());
+    sunday.midnight().assume_utc() + Duration::HOUR
 }
 
 fn hours_east(hours: i8) -> UtcOffset {

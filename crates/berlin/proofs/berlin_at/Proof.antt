@@ -1,15 +1,12 @@
 -- `berlin::berlin_at` meets its contract: the four stretches of a year that the two switches cut off, each with the offset at the instants that may show the time.
 -- Assumes nothing.
-use Rattle.berlin.proofs.Rules.{at-rules}
+use Rattle.berlin.proofs.Rules.{at-early, at-gap, at-summer, at-late}
 use borrow.Author.Needs.{needs}
 use Rattle.berlin.proofs.berlin_at.Statement.{statement}
 use Rattle.berlin.proofs.berlin_at.Tie as tie
 
-date-of-requires : tie.Need-date-of-requires
-date-of-requires c κs = search needs
-
-last-sunday-requires : tie.Need-last-sunday-requires
-last-sunday-requires c κs = search (needs, at-rules)
+switches-by-requires : tie.Need-switches-by-requires
+switches-by-requires c κs = search needs
 
 is-before-requires : tie.Need-is-before-requires
 is-before-requires c κs = search needs
@@ -18,16 +15,13 @@ behind-requires : tie.Need-behind-requires
 behind-requires c κs = search needs
 
 returns : tie.Need-returns
-returns c = search (needs, at-rules)
+returns c = search (needs, at-early)
 
 is-before-requires-2 : tie.Need-is-before-requires-2
 is-before-requires-2 c κs = search needs
 
 returns-2 : tie.Need-returns-2
-returns-2 c = search (needs, at-rules)
-
-last-sunday-requires-2 : tie.Need-last-sunday-requires-2
-last-sunday-requires-2 c κs = search (needs, at-rules)
+returns-2 c = search (needs, at-gap)
 
 is-before-requires-3 : tie.Need-is-before-requires-3
 is-before-requires-3 c κs = search needs
@@ -36,26 +30,24 @@ behind-requires-2 : tie.Need-behind-requires-2
 behind-requires-2 c κs = search needs
 
 returns-3 : tie.Need-returns-3
-returns-3 c = search (needs, at-rules)
+returns-3 c = search (needs, at-summer)
 
 behind-requires-3 : tie.Need-behind-requires-3
 behind-requires-3 c κs = search needs
 
 returns-4 : tie.Need-returns-4
-returns-4 c = search (needs, at-rules)
+returns-4 c = search (needs, at-late)
 
 pub berlin-at-spec : {M : Type 1} → statement M
 berlin-at-spec =
     tie.close
     (tie.spec
-    date-of-requires
-    last-sunday-requires
+    switches-by-requires
     is-before-requires
     behind-requires
     returns
     is-before-requires-2
     returns-2
-    last-sunday-requires-2
     is-before-requires-3
     behind-requires-2
     returns-3

@@ -1,89 +1,194 @@
 //! Times the host calls beside the original, from one run: the median of several rounds, in which
 //! the two take turns. Ours is the C call with its answer of 32 bytes.
 
-use harness::days;
 use harness::random::Random;
+use harness::{days, instants};
+use mako_fristen::antwort::FristShape;
 use mako_fristen::HolidayCalendar::BdewMaKo;
-use mako_fristen_host::{Answer, Call, Date, Question};
+use mako_fristen::{ContrlAnlass, Sparte};
+use mako_fristen_host::{Answer, Call, Clock, Date, Question};
 use std::hint::black_box;
 use std::time::Instant;
+use time::macros::time;
+use time::{Duration, OffsetDateTime};
 
 const ROUNDS: usize = 21;
 /// What one measurement takes at least, in nanoseconds.
 const LEAST: f64 = 2e6;
 
-/// A question, and its dates as the original takes them.
+/// A question, and its dates and its instant as the original takes them.
 struct Input {
     question: Question,
     from: time::Date,
     to: time::Date,
+    at: OffsetDateTime,
 }
 
 type Pass = Box<dyn Fn(&[Input])>;
 
 struct Case {
-    call: Call,
     what: String,
     inputs: Vec<Input>,
     original: Pass,
 }
 
+/// The question on every pair of dates, and at an instant of the first.
 fn case<T>(
-    call: Call,
+    question: Question,
     what: &str,
     pairs: &[(u32, u32)],
-    n: u32,
     original: impl Fn(&Input) -> T + 'static,
 ) -> Case {
-    let input = |&(from, to): &(u32, u32)| Input {
-        question: Question::new(call, days::date(from)).with_second(days::date(to)).with_count(n),
-        from: days::day(from),
-        to: days::day(to),
+    let mut random = Random::at(1, 0, 0);
+    let input = |&(from, to): &(u32, u32)| {
+        let second = Duration::seconds(random.below(86_400).into());
+        let at = mako_fristen::berlin_midnight(days::day(from)) + second;
+        let instant = instants::to_host(at);
+        let (date, date2) = (days::date(from), days::date(to));
+        let question = Question { date, date2, instant, ..question };
+        Input { question, from: days::day(from), to: days::day(to), at }
     };
+    let inputs = pairs.iter().map(input).collect();
     let original = move |inputs: &[Input]| {
         for input in inputs {
             black_box(original(black_box(input)));
         }
     };
-    let what = what.to_owned();
-    Case { call, what, inputs: pairs.iter().map(input).collect(), original: Box::new(original) }
+    Case { what: what.to_owned(), inputs, original: Box::new(original) }
 }
 
 fn cases() -> Vec<Case> {
     let mixed = mixed(&span(2020, 2030));
+    let mut cases = calendar(&mixed);
+    cases.extend(clocks(&mixed));
+    cases.extend(messages(&mixed));
+    cases.extend(after_an_instant(&mixed));
+    cases.extend(answers(&mixed));
+    cases
+}
+
+fn calendar(mixed: &[(u32, u32)]) -> Vec<Case> {
     let decades: Vec<(u32, u32)> = (2016..2046).map(ten_years_from).collect();
-    let steps = |call, what: &str, n| match call {
-        Call::AddWerktage => case(call, what, &mixed, n, move |i| {
-            mako_fristen::add_werktage(i.from, black_box(n), BdewMaKo)
-        }),
-        _ => case(call, what, &mixed, n, move |i| {
-            mako_fristen::sub_werktage(i.from, black_box(n), BdewMaKo)
-        }),
-    };
+    let new = Question::new;
     let mut cases = vec![
-        case(Call::IsWerktag, "day test", &mixed, 0, |i| {
+        case(new(Call::IsWerktag), "day test", mixed, |i| {
             mako_fristen::is_werktag(i.from, BdewMaKo)
         }),
-        case(Call::NextWerktag, "on or after", &mixed, 0, |i| {
+        case(new(Call::NextWerktag), "on or after", mixed, |i| {
             mako_fristen::next_werktag(i.from, BdewMaKo)
         }),
     ];
     for n in [1, 5, 20, 61] {
-        cases.push(steps(Call::AddWerktage, &format!("by {n}"), n));
+        let (question, what) = (new(Call::AddWerktage).with_count(n), format!("by {n}"));
+        cases.push(case(question, &what, mixed, |i| {
+            mako_fristen::add_werktage(i.from, i.question.n, BdewMaKo)
+        }));
     }
     for n in [1, 5, 20, 61] {
-        cases.push(steps(Call::SubWerktage, &format!("by {n}"), n));
+        let (question, what) = (new(Call::SubWerktage).with_count(n), format!("by {n}"));
+        cases.push(case(question, &what, mixed, |i| {
+            mako_fristen::sub_werktage(i.from, i.question.n, BdewMaKo)
+        }));
     }
-    cases.push(case(Call::WerktageBetween, "over ten years", &decades, 0, |i| {
+    cases.push(case(new(Call::WerktageBetween), "over ten years", &decades, |i| {
         mako_fristen::werktage_between(i.from, i.to, BdewMaKo)
     }));
-    cases.push(case(Call::AddMonths, "by 7", &mixed, 7, |i| {
-        mako_fristen::add_months(i.from, black_box(7))
+    cases.push(case(new(Call::AddMonths).with_count(7), "by 7", mixed, |i| {
+        mako_fristen::add_months(i.from, i.question.n)
     }));
-    cases.push(case(Call::SubtractMonths, "by 7", &mixed, 7, |i| {
-        mako_fristen::subtract_months(i.from, black_box(7))
+    cases.push(case(new(Call::SubtractMonths).with_count(7), "by 7", mixed, |i| {
+        mako_fristen::subtract_months(i.from, i.question.n)
     }));
     cases
+}
+
+fn clocks(mixed: &[(u32, u32)]) -> Vec<Case> {
+    let new = Question::new;
+    let noon = Clock::new(12, 0, 0, 0);
+    vec![
+        case(new(Call::BerlinAt).with_clock(noon), "12:00", mixed, |i| {
+            mako_fristen::berlin_at(i.from, black_box(time!(12:00)))
+        }),
+        case(new(Call::BerlinMidnight), "", mixed, |i| mako_fristen::berlin_midnight(i.from)),
+        case(new(Call::EndOfDayBerlin), "", mixed, |i| mako_fristen::end_of_day_berlin(i.from)),
+        case(new(Call::TagesbeginnUtc).with_code(1), "Gas", mixed, |i| {
+            mako_fristen::tagesbeginn_utc(i.from, Sparte::Gas)
+        }),
+        case(new(Call::BerlinDate), "", mixed, |i| mako_fristen::berlin_date(i.at)),
+        case(new(Call::TagDesBeginns), "Strom, refused", mixed, |i| {
+            mako_fristen::tag_des_beginns(i.at, Sparte::Strom)
+        }),
+    ]
+}
+
+fn messages(mixed: &[(u32, u32)]) -> Vec<Case> {
+    let new = Question::new;
+    let contrl = |code, anlass| {
+        let what = format!("{anlass:?}").chars().take(16).collect::<String>();
+        case(new(Call::ContrlDueAt).with_code(code), &what, mixed, move |i| {
+            mako_fristen::contrl_due_at(i.at, anlass)
+        })
+    };
+    vec![
+        contrl(0, ContrlAnlass::Regelfall),
+        contrl(1, ContrlAnlass::StromUtilmdOderOrders),
+        contrl(2, ContrlAnlass::GasAlocat),
+        case(new(Call::AperakStromDueAt), "", mixed, |i| mako_fristen::aperak_strom_due_at(i.at)),
+        case(new(Call::AperakStromAllgemeinDueAt), "", mixed, |i| {
+            mako_fristen::aperak_strom_allgemein_due_at(i.at)
+        }),
+        case(new(Call::AperakGasFolgeprozessDueAt), "", mixed, |i| {
+            mako_fristen::aperak_gas_folgeprozess_due_at(i.at)
+        }),
+        case(new(Call::AperakGasInitialprozessDueAt), "", mixed, |i| {
+            mako_fristen::aperak_gas_initialprozess_due_at(i.at)
+        }),
+        case(new(Call::AperakGasDueAt).with_count(44_042), "44042", mixed, |i| {
+            mako_fristen::aperak_gas_due_at(i.question.n, i.at)
+        }),
+    ]
+}
+
+fn after_an_instant(mixed: &[(u32, u32)]) -> Vec<Case> {
+    let new = Question::new;
+    let eleven = Clock::new(11, 0, 0, 0);
+    vec![
+        case(new(Call::AddHours).with_count(6), "by 6", mixed, |i| {
+            mako_fristen::add_hours(i.at, i.question.n)
+        }),
+        case(new(Call::DeadlineAtWerktage).with_count(5), "by 5", mixed, |i| {
+            mako_fristen::deadline_at_werktage(i.at, i.question.n, BdewMaKo)
+        }),
+        case(new(Call::EndOfWerktagAfter).with_count(4), "by 4", mixed, |i| {
+            mako_fristen::end_of_werktag_after(i.at, i.question.n, BdewMaKo)
+        }),
+        case(new(Call::NextWerktagAt).with_clock(eleven), "11:00", mixed, |i| {
+            mako_fristen::next_werktag_at(i.at, black_box(time!(11:00)), BdewMaKo)
+        }),
+        case(
+            new(Call::NthWerktagAt).with_count(61).with_clock(eleven),
+            "11:00 by 61",
+            mixed,
+            |i| mako_fristen::nth_werktag_at(i.at, i.question.n, black_box(time!(11:00)), BdewMaKo),
+        ),
+    ]
+}
+
+fn answers(mixed: &[(u32, u32)]) -> Vec<Case> {
+    let frist = |code, what, shape: FristShape| {
+        let clock = Clock::new(15, 0, 0, 0);
+        let question = Question::new(Call::FristDueAt).with_count(4).with_clock(clock);
+        case(question.with_code(code), what, mixed, move |i| {
+            black_box(shape).due_at(i.at, BdewMaKo)
+        })
+    };
+    let at = time!(15:00);
+    vec![
+        frist(0, "WerktagAt by 4", FristShape::WerktagAt { werktage: 4, at }),
+        frist(1, "EndOfWerktag 4", FristShape::EndOfWerktag(4)),
+        frist(2, "SameDayAt", FristShape::SameDayAt(at)),
+        frist(3, "SameDay", FristShape::SameDay),
+    ]
 }
 
 /// Every day of the years, the first date of a pair.
@@ -149,13 +254,18 @@ fn measured(case: &Case) -> [f64; 2] {
 fn main() {
     println!("Nanoseconds per call, median of {ROUNDS} rounds; a ratio over 1 is in our favour.");
     println!(
-        "Ours checks three numbers and writes 32 bytes; the original has its dates made before."
+        "Ours checks its numbers and writes 32 bytes; the original has its dates made before."
     );
     println!("Dates are all days of 2020 to 2030, mixed; of ten years, 30 different beginnings.");
-    println!("{:20} {:16} {:>12} {:>12} {:>8}", "call", "", "ours", "original", "ratio");
+    println!(
+        "Instants are one of each day. The original's times with a clock or an instant are with"
+    );
+    println!("the zone of oracle/time_tz and not with its own, whose times are not known.");
+    println!("{:36} {:16} {:>12} {:>12} {:>8}", "call", "", "ours", "original", "ratio");
     for case in cases() {
         let [ours, original] = measured(&case);
-        let (name, what, ratio) = (case.call.name(), &case.what, original / ours);
-        println!("{name:20} {what:16} {ours:12.1} {original:12.1} {ratio:8.2}");
+        let (name, what) = (case.inputs[0].question.call.name(), &case.what);
+        let ratio = original / ours;
+        println!("{name:36} {what:16} {ours:12.1} {original:12.1} {ratio:8.2}");
     }
 }

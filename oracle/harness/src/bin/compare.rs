@@ -2,7 +2,7 @@
 //! Ends with 1 on any difference. Options: `--seed N`, `--random N` (millions).
 
 use harness::options::{self, DEFAULT_SEED};
-use harness::{original, rows, run};
+use harness::{original, rows, run, zone};
 use std::process::ExitCode;
 
 const DEFAULT_MILLIONS: f64 = 2.0;
@@ -13,13 +13,20 @@ fn main() -> ExitCode {
     let millions = options::option("--random", DEFAULT_MILLIONS);
     original::silence();
     println!("seed {seed}, {millions} million random questions");
-    println!("{:20} {:32} {:>12} {:>12}", "call", "arguments", "comparisons", "differences");
-    let rows = rows::rows(seed, (millions * 1e6) as u64);
+    let mut rows = rows::rows(seed, (millions * 1e6) as u64);
+    match zone::open() {
+        Some(database) => {
+            println!("tz database {database}");
+            rows.extend(rows::zone::rows());
+        }
+        None => println!("no tz database {}: Berlin is NOT compared with it", zone::FILE),
+    }
+    println!("{:36} {:32} {:>12} {:>12}", "call", "arguments", "comparisons", "differences");
     let (mut comparisons, mut differences) = (0, 0);
     for row in &rows {
         let outcome = run::run(row);
         let (call, what, len) = (row.call.name(), row.what, row.len);
-        println!("{call:20} {what:32} {len:12} {:12}", outcome.differences);
+        println!("{call:36} {what:32} {len:12} {:12}", outcome.differences);
         outcome.shown.iter().for_each(|difference| println!("  {difference}"));
         comparisons += row.len;
         differences += outcome.differences;

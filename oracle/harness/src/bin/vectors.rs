@@ -1,5 +1,5 @@
-//! Writes the replay list: a sample of the original's answers, some 350 for each call, from all
-//! rows of the comparison. A line is the question's 32 bytes, a space and the answer's 32 bytes,
+//! Writes the replay list: a sample of the original's answers, some hundreds for each call, from
+//! all rows of the comparison. A line is the question's 32 bytes, a space and the answer's 32 bytes,
 //! in hexadecimal. The same seed gives the same file. Options: `--seed N`, `--out PATH`.
 
 use harness::options::{self, DEFAULT_SEED};
@@ -12,7 +12,8 @@ use std::collections::HashSet;
 use std::fs;
 use std::process::ExitCode;
 
-const PER_CALL: usize = 352;
+const PER_CALENDAR_CALL: usize = 352;
+const PER_OTHER_CALL: usize = 200;
 /// Of each random row; how long a row is does not matter here.
 const RANDOM: u64 = 1_000_000;
 
@@ -38,12 +39,17 @@ fn sample(call: Call, rows: &[Row], seed: u64) -> Vec<Question> {
     let rows: Vec<&Row> = rows.iter().filter(|row| row.call == call).collect();
     let mut random = Random::at(seed, u64::from(call.number()), u64::MAX);
     let (mut seen, mut questions) = (HashSet::new(), Vec::new());
+    let wanted = if call.number() <= Call::SubtractMonths.number() {
+        PER_CALENDAR_CALL
+    } else {
+        PER_OTHER_CALL
+    };
     for row in rows.iter().cycle() {
         let probe = (row.probe)(random.number() % row.len);
         if probe.len == Answer::LEN && seen.insert(probe.question) {
             questions.push(probe.question);
         }
-        if questions.len() == PER_CALL {
+        if questions.len() == wanted {
             break;
         }
     }

@@ -1,0 +1,4 @@
+pub mod Instants
+pub mod Rules
+pub mod NeverAbsent
+pub mod OutsideValues

@@ -1,0 +1,322 @@
+-- What the proofs of this crate's functions cite: a lemma for each return, with premises in the form in which they stand there.
+--   clock-rules       clock_on                          seconds-rules   contrl_seconds
+--   contrl-rules      contrl_due_at                     window-rules    in_window
+--   date-rules        the four dates of the windows     window-end-rules   toleranz_in
+--   toleranz-rules    formatumstellung_toleranz         strom-rules     aperak_strom_due_at
+--   gas-rules         aperak_gas_due_at                 werktag-rules   nth_werktag_at, end_of_werktag_after
+--   same-rules        same_day_at                       end-rules       same_day
+--   shape-rules       due_at
+--   due-proper        for the crates above: the instant of a due instant that is promised proper
+-- Assumes nothing.
+use Prim.Native.Nat.{ℕ, _+_, _-_, _*_, _≤_, _<_}
+use mathlib.Core.Bool.{Bool, true, false, not}
+use mathlib.Core.Path.{_≡_, refl, sym, ap, _∙_}
+use native.Mathlib.Omega.{arith}
+use lib.Dec.{eqb}
+use lib.ListN.{getD, drop}
+use borrow.Author.Tests.{lt-ltb, le-ltb, le-leb, eq-eqb, ne-eqb, not-true, not-false}
+use Rattle.zaehlung.specs.declared.Step.{Step}
+use Rattle.zaehlung.specs.declared.Step.the-variants.{Day, Outside as Left}
+use Rattle.zaehlung.specs.Walk.{last, add}
+use Rattle.zaehlung.specs.Laws.{add-inside}
+use Rattle.datum.specs.declared.Date.{Date}
+use Rattle.datum.specs.Calendar.{monthLen, valid, dateOf, weekdayOf}
+use Rattle.datum.proofs.Dates.{index-date}
+use Rattle.werktag.specs.declared.HolidayCalendar.{HolidayCalendar}
+use Rattle.werktag.specs.Werktag.{any, werktag}
+use Rattle.werktag.proofs.Search.{search-hit, search-miss, search-none}
+use Rattle.berlin.specs.declared.Moment.{Moment}
+use Rattle.berlin.specs.declared.Clock.{Clock}
+use Rattle.berlin.specs.declared.Resolved.{Resolved}
+use Rattle.berlin.specs.declared.Resolved.the-variants.{At as Shown, Absent as Never}
+use Rattle.berlin.specs.Berlin.{Proper, ProperClock, berlinAt, berlinMidnight, endOfDayBerlin}
+use Rattle.berlin.proofs.Proper.{at-proper, midnight-proper, end-proper}
+use Rattle.fristen.specs.declared.Due.{Due}
+use Rattle.fristen.specs.declared.Due.the-variants.{At, Absent, Outside}
+use Rattle.fristen.specs.declared.GasDue.{GasDue}
+use Rattle.fristen.specs.declared.ContrlAnlass.{ContrlAnlass}
+use Rattle.fristen.specs.declared.ContrlAnlass.the-variants.{Regelfall, StromUtilmdOderOrders, GasAlocat}
+use Rattle.fristen.specs.declared.FristShape.{FristShape}
+use Rattle.fristen.specs.declared.FristShape.the-variants.{WerktagAt, EndOfWerktag, SameDayAt, SameDay}
+use Rattle.fristen.specs.Fristen.{contrlFrist, contrlStromSchnell, contrlAlocat, aperakStrom, noon, windowOpens, receiptDay, isSaturday, before, later, resolved, dayAfter, contrlSeconds, onDate, inWindow, toleratedIn, tolerated, contrlDueAt}
+use Rattle.fristen.specs.Fristen.{atLeastOne, nthWerktagAt, nextWerktagAt, endOfWerktagAfter, aperakStromDueAt, initialPids, isInitial, aperakGasDueAt, properDue}
+use Rattle.fristen.specs.Antwort.{sameDayAt, sameDay, dueAt, properShape}
+
+-- the bounds of a window, and the clock on the receipt day, are compared with an instant
+pub midnight-second : (d : ℕ) (r : Moment) → d ≤ last → r ≡ berlinMidnight d → r .second < 86400
+midnight-second d r h e = midnight-proper d h r e .second-lt
+
+pub shown-second : (d : ℕ) (c : Clock) (x : Resolved) (a : Moment) → d ≤ last → ProperClock c → x ≡ berlinAt d c → x ≡ Shown a → a .second < 86400
+shown-second d c x a h p e q = at-proper d c x a h p e q .second-lt
+
+-- clock_on: x is what `berlin_at` returned
+module _ (d : ℕ) (c : Clock) (x : Resolved) (e : x ≡ berlinAt d c) where
+  pub clock-shown : (a : Moment) → x ≡ Shown a → At a ≡ resolved (berlinAt d c)
+  clock-shown a q = rw (sym e ∙ q)
+
+  pub clock-absent : x ≡ Never → Absent ≡ resolved (berlinAt d c)
+  clock-absent q = rw (sym e ∙ q)
+
+pub ruleset clock-rules = (clock-shown, clock-absent, at-proper)
+
+-- is_saturday: x is what `weekday` returned
+pub saturday : (d x : ℕ) → x ≡ weekdayOf d → eqb x 5 ≡ isSaturday d
+saturday d x e = rw e
+
+-- contrl_seconds: b is what `is_saturday` returned
+module _ (d : ℕ) (a : ContrlAnlass) where
+  pub regelfall : a ≡ Regelfall → contrlFrist ≡ contrlSeconds d a
+  unfolding contrlSeconds
+  regelfall e = rw e
+
+  pub strom-saturday : (b : Bool) → a ≡ StromUtilmdOderOrders → b ≡ isSaturday d → b ≡ true → contrlFrist ≡ contrlSeconds d a
+  unfolding contrlSeconds
+  strom-saturday b e p q = rw (e, sym p ∙ q)
+
+  pub strom-other : (b : Bool) → a ≡ StromUtilmdOderOrders → b ≡ isSaturday d → b ≡ false → contrlStromSchnell ≡ contrlSeconds d a
+  unfolding contrlSeconds
+  strom-other b e p q = rw (e, sym p ∙ q)
+
+  pub alocat : a ≡ GasAlocat → contrlAlocat ≡ contrlSeconds d a
+  unfolding contrlSeconds
+  alocat e = rw e
+
+pub ruleset seconds-rules = (regelfall, strom-saturday, strom-other, alocat)
+
+-- contrl_due_at: d is the receipt day, t the seconds, u the due instant before the tolerance
+module _ (m : Moment) (a : ContrlAnlass) (d t : ℕ) (u : Due) (p : d ≡ receiptDay m) (q : t ≡ contrlSeconds d a) (e : u ≡ later m (0 * 86400 + t)) where
+  contrl-is : u ≡ later m (contrlSeconds (receiptDay m) a)
+  contrl-is = let z : 0 * 86400 + t ≡ t = omega arith in e ∙ ap (later m) (z ∙ q ∙ ap (λ (x : ℕ). contrlSeconds x a) p)
+
+  pub contrl-at : (x r : Moment) → u ≡ At x → r ≡ tolerated x → At r ≡ contrlDueAt m a
+  unfolding contrlDueAt
+  contrl-at x r k l = rw (sym contrl-is ∙ k, l)
+
+  pub contrl-absent : u ≡ Absent → Absent ≡ contrlDueAt m a
+  unfolding contrlDueAt
+  contrl-absent k = rw (sym contrl-is ∙ k)
+
+  pub contrl-outside : u ≡ Outside → Outside ≡ contrlDueAt m a
+  unfolding contrlDueAt
+  contrl-outside k = rw (sym contrl-is ∙ k)
+
+pub due-proper : (u : Due) (x : Moment) → properDue u → u ≡ At x → Proper x
+due-proper (At y) x p e = let q : y ≡ x = cc in rw q at p
+due-proper Absent x p e = let z : _≡_ {A = ℕ} 0 1 = cc in absurd (omega arith)
+due-proper Outside x p e = let z : _≡_ {A = ℕ} 0 1 = cc in absurd (omega arith)
+
+pub ruleset contrl-rules = (contrl-at, contrl-absent, contrl-outside, due-proper)
+
+-- in_window: x is what `berlin_at` returned, f and g what `is_before` returned, z the midnight
+module _ (a b : ℕ) (m : Moment) (x : Resolved) (e : x ≡ berlinAt a windowOpens) where
+  pub no-opening : x ≡ Never → false ≡ inWindow a b m
+  unfolding inWindow
+  no-opening q = rw (sym e ∙ q)
+
+  module _ (o : Moment) (q : x ≡ Shown o) (f : Bool) (k : f ≡ before m o) where
+    pub before-window : f ≡ true → false ≡ inWindow a b m
+    unfolding inWindow
+    before-window y = rw (sym e ∙ q, sym k ∙ y)
+
+    pub from-window : (z : Moment) (g : Bool) → f ≡ false → z ≡ berlinMidnight b → g ≡ before m z → g ≡ inWindow a b m
+    unfolding inWindow
+    from-window z g y l n = rw (sym e ∙ q, sym k ∙ y, ← l) n
+
+pub ruleset window-rules = (no-opening, before-window, from-window)
+
+-- toleranz_in: the four dates are dates of every year of the calendar
+module _ (y : ℕ) (h : 1996 ≤ y) (k : y ≤ 2899) where
+  pub march-31 : valid (record { year = y; month = 3; day = 31 }) ≡ true
+  unfolding valid monthLen
+  march-31 = rw (le-leb 1996 y h, le-leb y 2899 k)
+
+  pub april-2 : valid (record { year = y; month = 4; day = 2 }) ≡ true
+  unfolding valid monthLen
+  april-2 = rw (le-leb 1996 y h, le-leb y 2899 k)
+
+  pub september-30 : valid (record { year = y; month = 9; day = 30 }) ≡ true
+  unfolding valid monthLen
+  september-30 = rw (le-leb 1996 y h, le-leb y 2899 k)
+
+  pub october-2 : valid (record { year = y; month = 10; day = 2 }) ≡ true
+  unfolding valid monthLen
+  october-2 = rw (le-leb 1996 y h, le-leb y 2899 k)
+
+-- a and b, v and w are the days of the windows, f and g what `in_window` returned
+module _ (m : Moment) (y a b : ℕ) (k : a ≡ onDate y 3 31) (l : b ≡ onDate y 4 2) (f : Bool) (u : f ≡ inWindow a b m) where
+  pub spring : (r : Moment) → f ≡ true → r ≡ berlinMidnight b → r ≡ toleratedIn y m
+  unfolding toleratedIn
+  spring r t q = rw (← k, ← l, sym u ∙ t) q
+
+  module _ (v w : ℕ) (n : f ≡ false) (i : v ≡ onDate y 9 30) (j : w ≡ onDate y 10 2) (g : Bool) (o : g ≡ inWindow v w m) where
+    pub autumn : (r : Moment) → g ≡ true → r ≡ berlinMidnight w → r ≡ toleratedIn y m
+    unfolding toleratedIn
+    autumn r t q = rw (← k, ← l, sym u ∙ n, ← i, ← j, sym o ∙ t) q
+
+    pub no-window : g ≡ false → m ≡ toleratedIn y m
+    unfolding toleratedIn
+    no-window t = rw (← k, ← l, sym u ∙ n, ← i, ← j, sym o ∙ t)
+
+pub ruleset date-rules = (march-31, april-2, september-30, october-2)
+
+pub ruleset window-end-rules = (spring, autumn, no-window, midnight-proper)
+
+-- formatumstellung_toleranz: t is the date of the Berlin day d
+module _ (d : ℕ) (t : Date) (e : t ≡ dateOf d) where
+  pub year-from : d ≤ last → 1996 ≤ t .year
+  year-from h = rw e (index-date d h .0 .from)
+
+  pub year-to : d ≤ last → t .year ≤ 2899
+  year-to h = rw e (index-date d h .0 .to)
+
+  pub in-year : (m r : Moment) → d ≡ receiptDay m → r ≡ toleratedIn (t .year) m → r ≡ tolerated m
+  unfolding tolerated
+  in-year m r p q = rw (← p, ← e) q
+
+pub ruleset toleranz-rules = (year-from, year-to, in-year)
+
+-- aperak_strom_due_at: d is the receipt day, b what `is_saturday` returned
+module _ (m : Moment) (d : ℕ) (b : Bool) (p : d ≡ receiptDay m) (e : b ≡ isSaturday d) where
+  saturday-is : isSaturday (receiptDay m) ≡ b
+  saturday-is = ap isSaturday (sym p) ∙ sym e
+
+  pub strom-edge : b ≡ true → last ≤ d → Outside ≡ aperakStromDueAt m
+  unfolding aperakStromDueAt dayAfter
+  strom-edge y h = rw (saturday-is ∙ y, ← p, le-ltb d last h)
+
+  pub strom-sunday : (r : Due) → b ≡ true → d < last → r ≡ resolved (berlinAt (d + 1) noon) → r ≡ aperakStromDueAt m
+  unfolding aperakStromDueAt dayAfter
+  strom-sunday r y h q = rw (saturday-is ∙ y, ← p, lt-ltb d last h) q
+
+  pub strom-day : (r : Due) → b ≡ false → r ≡ later m aperakStrom → r ≡ aperakStromDueAt m
+  unfolding aperakStromDueAt
+  strom-day r y q = rw (saturday-is ∙ y) q
+
+pub ruleset strom-rules = (strom-edge, strom-sunday, strom-day)
+
+-- is_initial
+pub pid-start : (pid : ℕ) → any (eqb pid) (drop 0 initialPids) ≡ isInitial pid
+unfolding isInitial
+pid-start pid = refl
+
+module _ (pid i : ℕ) (e : any (eqb pid) (drop i initialPids) ≡ isInitial pid) where
+  whole : any (eqb pid) (drop i initialPids) ≡ any (eqb pid) initialPids
+  unfolding isInitial
+  whole = e
+
+  pub pid-hit : i < 4 → pid ≡ getD initialPids i 0 → true ≡ isInitial pid
+  unfolding isInitial
+  pid-hit h q = search-hit (eqb pid) initialPids 0 i whole h (eq-eqb pid (getD initialPids i 0) q)
+
+  pub pid-miss : i < 4 → (pid ≡ getD initialPids i 0 → ⊥) → any (eqb pid) (drop (i + 1) initialPids) ≡ isInitial pid
+  unfolding isInitial
+  pid-miss h q = search-miss (eqb pid) initialPids 0 i whole h (ne-eqb pid (getD initialPids i 0) q)
+
+  pub pid-none : 4 ≤ i → false ≡ isInitial pid
+  unfolding isInitial
+  pid-none h = search-none (eqb pid) initialPids 0 i whole h
+
+-- aperak_gas_due_at: b is what `is_initial` returned, r the due instant
+module _ (pid : ℕ) (m : Moment) (cal : HolidayCalendar) (b : Bool) (r : Due) (e : b ≡ isInitial pid) where
+  pub gas-initial : b ≡ true → r ≡ endOfWerktagAfter m 3 cal → _≡_ {A = GasDue} (record { initial = true; due = r }) (aperakGasDueAt pid m cal)
+  unfolding aperakGasDueAt
+  gas-initial y q = rw (sym e ∙ y, q)
+
+  pub gas-folge : b ≡ false → r ≡ nextWerktagAt m noon cal → _≡_ {A = GasDue} (record { initial = false; due = r }) (aperakGasDueAt pid m cal)
+  unfolding aperakGasDueAt
+  gas-folge y q = rw (sym e ∙ y, q)
+
+pub ruleset gas-rules = (gas-initial, gas-folge)
+
+-- at_least_one
+pub one-for-none : (n : ℕ) → n ≡ 0 → 1 ≡ atLeastOne n
+one-for-none n e = rw (eq-eqb n 0 e)
+
+pub one-or-more : (n : ℕ) → (n ≡ 0 → ⊥) → n ≡ atLeastOne n
+one-or-more n h = rw (ne-eqb n 0 h)
+
+-- nth_werktag_at, end_of_werktag_after: d is the receipt day, x the step of k Werktage from it
+module _ (m : Moment) (n k d : ℕ) (cal : HolidayCalendar) (x : Step) (p : d ≡ receiptDay m) (e : x ≡ add (werktag cal) d k) where
+  pub reached : (y : ℕ) → d ≤ last → x ≡ Day y → y ≤ last
+  reached y h q = add-inside (werktag cal) d k y h (sym e ∙ q)
+
+  step-is : (y : Step) → x ≡ y → add (werktag cal) (receiptDay m) k ≡ y
+  step-is y q = ap (λ (z : ℕ). add (werktag cal) z k) (sym p) ∙ sym e ∙ q
+
+  pub nth-out : (c : Clock) → k ≡ atLeastOne n → x ≡ Left → Outside ≡ nthWerktagAt m n c cal
+  unfolding nthWerktagAt
+  nth-out c g q = rw (← g, step-is Left q)
+
+  pub nth-day : (c : Clock) (y : ℕ) (r : Due) → k ≡ atLeastOne n → x ≡ Day y → r ≡ resolved (berlinAt y c) → r ≡ nthWerktagAt m n c cal
+  unfolding nthWerktagAt
+  nth-day c y r g q l = rw (← g, step-is (Day y) q) l
+
+  pub end-out : x ≡ Left → Outside ≡ endOfWerktagAfter m k cal
+  unfolding endOfWerktagAfter
+  end-out q = rw (step-is Left q)
+
+  pub end-day : (y : ℕ) (r : Moment) → x ≡ Day y → r ≡ endOfDayBerlin y → At r ≡ endOfWerktagAfter m k cal
+  unfolding endOfWerktagAfter
+  end-day y r q l = rw (step-is (Day y) q, l)
+
+pub ruleset werktag-rules = (reached, nth-out, nth-day, end-out, end-day, end-proper)
+
+-- same_day_at: d is the receipt day, x what `berlin_at` returned, b what `is_werktag` and f what `is_before` returned
+module _ (m : Moment) (c : Clock) (cal : HolidayCalendar) (d : ℕ) (x : Resolved) (p : d ≡ receiptDay m) (e : x ≡ berlinAt d c) where
+  shown-is : (y : Resolved) → x ≡ y → berlinAt (receiptDay m) c ≡ y
+  shown-is y q = ap (λ (z : ℕ). berlinAt z c) (sym p) ∙ sym e ∙ q
+
+  pub same-absent : x ≡ Never → Absent ≡ sameDayAt m c cal
+  unfolding sameDayAt
+  same-absent q = rw (shown-is Never q)
+
+  module _ (a : Moment) (q : x ≡ Shown a) (b : Bool) (k : b ≡ werktag cal d) where
+    open-is : (y : Bool) → b ≡ y → werktag cal (receiptDay m) ≡ y
+    open-is y z = ap (werktag cal) (sym p) ∙ sym k ∙ z
+
+    pub same-shut : (r : Due) → not b ≡ true → r ≡ nextWerktagAt m c cal → r ≡ sameDayAt m c cal
+    unfolding sameDayAt
+    same-shut r y g = rw (shown-is (Shown a) q, open-is false (not-true b y)) g
+
+    module _ (f : Bool) (y : not b ≡ false) (l : f ≡ before m a) where
+      pub same-day : f ≡ true → At a ≡ sameDayAt m c cal
+      unfolding sameDayAt
+      same-day z = rw (shown-is (Shown a) q, open-is true (not-false b y), sym l ∙ z)
+
+      pub same-late : (r : Due) → f ≡ false → r ≡ nextWerktagAt m c cal → r ≡ sameDayAt m c cal
+      unfolding sameDayAt
+      same-late r z g = rw (shown-is (Shown a) q, open-is true (not-false b y), sym l ∙ z) g
+
+pub ruleset same-rules = (same-absent, same-shut, same-day, same-late, at-proper, shown-second)
+
+-- same_day: d is the receipt day, r what `end_of_day_berlin` returned
+pub same-end : (m : Moment) (d : ℕ) (r : Moment) → d ≡ receiptDay m → r ≡ endOfDayBerlin d → At r ≡ sameDay m
+same-end m d r p q = rw (← p, q)
+
+pub ruleset end-rules = (same-end, end-proper)
+
+-- due_at
+module _ (s : FristShape) (m : Moment) (cal : HolidayCalendar) where
+  pub due-werktag : (n : ℕ) (c : Clock) (r : Due) → s ≡ WerktagAt n c → r ≡ nthWerktagAt m n c cal → r ≡ dueAt s m cal
+  unfolding dueAt
+  due-werktag n c r e p = rw e p
+
+  pub due-end : (n : ℕ) (r : Due) → s ≡ EndOfWerktag n → r ≡ endOfWerktagAfter m n cal → r ≡ dueAt s m cal
+  unfolding dueAt
+  due-end n r e p = rw e p
+
+  pub due-same-at : (c : Clock) (r : Due) → s ≡ SameDayAt c → r ≡ sameDayAt m c cal → r ≡ dueAt s m cal
+  unfolding dueAt
+  due-same-at c r e p = rw e p
+
+  pub due-same : (r : Due) → s ≡ SameDay → r ≡ sameDay m → r ≡ dueAt s m cal
+  unfolding dueAt
+  due-same r e p = rw e p
+
+  pub clock-of-werktag : (n : ℕ) (c : Clock) → properShape s → s ≡ WerktagAt n c → ProperClock c
+  clock-of-werktag n c p e = rw e at p
+
+  pub clock-of-same : (c : Clock) → properShape s → s ≡ SameDayAt c → ProperClock c
+  clock-of-same c p e = rw e at p
+
+pub ruleset shape-rules = (due-werktag, due-end, due-same-at, due-same, clock-of-werktag, clock-of-same)

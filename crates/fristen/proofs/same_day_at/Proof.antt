@@ -1,0 +1,59 @@
+-- `fristen::same_day_at` meets its contract: a lemma for each return, in the order of the refusals.
+-- Assumes nothing.
+use Rattle.fristen.proofs.Rules.{same-rules}
+use borrow.Author.Needs.{needs}
+use Rattle.fristen.proofs.same_day_at.Statement.{statement}
+use Rattle.fristen.proofs.same_day_at.Tie as tie
+
+berlin-date-requires : tie.Need-berlin-date-requires
+berlin-date-requires c κs = search needs
+
+berlin-at-requires : tie.Need-berlin-at-requires
+berlin-at-requires c κs = search needs
+
+enum-known-same-day : tie.Need-enum-known-same-day
+enum-known-same-day c = search needs
+
+enum-told : tie.Need-enum-told
+enum-told c = search needs
+
+returns : tie.Need-returns
+returns c = search (needs, same-rules)
+
+is-werktag-requires : tie.Need-is-werktag-requires
+is-werktag-requires c κs = search needs
+
+next-werktag-at-requires : tie.Need-next-werktag-at-requires
+next-werktag-at-requires c κs = search needs
+
+returns-2 : tie.Need-returns-2
+returns-2 c = search (needs, same-rules)
+
+is-before-requires : tie.Need-is-before-requires
+is-before-requires c κs = search (needs, same-rules)
+
+returns-3 : tie.Need-returns-3
+returns-3 c = search (needs, same-rules)
+
+next-werktag-at-requires-2 : tie.Need-next-werktag-at-requires-2
+next-werktag-at-requires-2 c κs = search needs
+
+returns-4 : tie.Need-returns-4
+returns-4 c = search (needs, same-rules)
+
+pub same-day-at-spec : {M : Type 1} → statement M
+same-day-at-spec =
+    tie.close
+    (tie.spec
+    berlin-date-requires
+    berlin-at-requires
+    enum-known-same-day
+    enum-told
+    returns
+    is-werktag-requires
+    next-werktag-at-requires
+    returns-2
+    is-before-requires
+    returns-3
+    next-werktag-at-requires-2
+    returns-4)

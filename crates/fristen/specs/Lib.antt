@@ -1,0 +1,2 @@
+pub mod Fristen
+pub mod Antwort

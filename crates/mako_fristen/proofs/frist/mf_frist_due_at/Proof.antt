@@ -1,0 +1,40 @@
+-- `mako_fristen::frist::mf_frist_due_at` meets its contract: its answer is what the definition gives, and `reply` writes it.
+-- Assumes nothing.
+use Rattle.antwortsatz.proofs.Rules.{call-rules}
+use Rattle.mako_fristen.proofs.Rules.{read-rules, read-same}
+use borrow.Author.Needs.{needs}
+use Rattle.mako_fristen.proofs.frist.mf_frist_due_at.Statement.{statement}
+use Rattle.mako_fristen.proofs.frist.mf_frist_due_at.Tie as tie
+
+read-clock-requires : tie.Need-read-clock-requires
+read-clock-requires c κs = search needs
+
+read-instant-requires : tie.Need-read-instant-requires
+read-instant-requires c κs = search needs
+
+frist-due-at-answer-requires : tie.Need-frist-due-at-answer-requires
+frist-due-at-answer-requires c κs = search (needs, read-rules)
+
+reply-requires : tie.Need-reply-requires
+reply-requires c κs = search needs
+
+same-length : tie.Need-same-length
+same-length c = search needs
+
+returns : tie.Need-returns
+returns c =
+    let a = c .before .before .before .before .before .before .before .before in
+    let s = c .before .before .before .before .before in
+    rw (read-same (a .args .seconds) (a .args .nanos) (s .read-instant .result) (a .fits .seconds) (s .read-instant .ensures), ← c .before .before .before .before .before .before .read-clock .ensures)
+    (search (needs, call-rules))
+
+pub mf-frist-due-at-spec : {M : Type 1} → statement M
+mf-frist-due-at-spec =
+    tie.close
+    (tie.spec
+    read-clock-requires
+    read-instant-requires
+    frist-due-at-answer-requires
+    reply-requires
+    same-length
+    returns)

@@ -1,0 +1,22 @@
+-- `mako_fristen::uhrzeit::mf_berlin_midnight` meets its contract: its answer is what the definition gives, and `reply` writes it.
+-- Assumes nothing.
+use Rattle.antwortsatz.proofs.Rules.{call-rules}
+use borrow.Author.Needs.{needs}
+use Rattle.mako_fristen.proofs.uhrzeit.mf_berlin_midnight.Statement.{statement}
+use Rattle.mako_fristen.proofs.uhrzeit.mf_berlin_midnight.Tie as tie
+
+berlin-midnight-answer-requires : tie.Need-berlin-midnight-answer-requires
+berlin-midnight-answer-requires c κs = search needs
+
+reply-requires : tie.Need-reply-requires
+reply-requires c κs = search needs
+
+same-length : tie.Need-same-length
+same-length c = search needs
+
+returns : tie.Need-returns
+returns c = search (needs, call-rules)
+
+pub mf-berlin-midnight-spec : {M : Type 1} → statement M
+mf-berlin-midnight-spec =
+    tie.close (tie.spec berlin-midnight-answer-requires reply-requires same-length returns)

@@ -1,0 +1,22 @@
+-- `mako_fristen::uhrzeit::mf_tagesbeginn_utc` meets its contract: its answer is what the definition gives, and `reply` writes it.
+-- Assumes nothing.
+use Rattle.antwortsatz.proofs.Rules.{call-rules}
+use borrow.Author.Needs.{needs}
+use Rattle.mako_fristen.proofs.uhrzeit.mf_tagesbeginn_utc.Statement.{statement}
+use Rattle.mako_fristen.proofs.uhrzeit.mf_tagesbeginn_utc.Tie as tie
+
+tagesbeginn-utc-answer-requires : tie.Need-tagesbeginn-utc-answer-requires
+tagesbeginn-utc-answer-requires c κs = search needs
+
+reply-requires : tie.Need-reply-requires
+reply-requires c κs = search needs
+
+same-length : tie.Need-same-length
+same-length c = search needs
+
+returns : tie.Need-returns
+returns c = search (needs, call-rules)
+
+pub mf-tagesbeginn-utc-spec : {M : Type 1} → statement M
+mf-tagesbeginn-utc-spec =
+    tie.close (tie.spec tagesbeginn-utc-answer-requires reply-requires same-length returns)

@@ -1,0 +1,25 @@
+use std::fmt;
+
+/// A time of day on Berlin's clock. Any four numbers are allowed here: the calls refuse an hour
+/// over 23, a minute or second over 59 and nanoseconds over 999,999,999.
+#[derive(Clone, Copy, Debug, Default, PartialEq, Eq, PartialOrd, Ord, Hash)]
+pub struct Clock {
+    pub hour: u8,
+    pub minute: u8,
+    pub second: u8,
+    pub nanos: u32,
+}
+
+impl Clock {
+    #[must_use]
+    pub const fn new(hour: u8, minute: u8, second: u8, nanos: u32) -> Clock {
+        Clock { hour, minute, second, nanos }
+    }
+}
+
+impl fmt::Display for Clock {
+    fn fmt(&self, f: &mut fmt::Formatter<'_>) -> fmt::Result {
+        let Clock { hour, minute, second, nanos } = self;
+        write!(f, "{hour:02}:{minute:02}:{second:02}.{nanos:09}")
+    }
+}
