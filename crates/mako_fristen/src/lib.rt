@@ -5,6 +5,7 @@
 mod frist;
 mod kalender;
 mod uhrzeit;
+mod vorlaeufe;
 
 pub use frist::mf_add_hours;
 pub use frist::mf_aperak_gas_due_at;
@@ -31,3 +32,9 @@ pub use uhrzeit::mf_berlin_midnight;
 pub use uhrzeit::mf_end_of_day_berlin;
 pub use uhrzeit::mf_tag_des_beginns;
 pub use uhrzeit::mf_tagesbeginn_utc;
+pub use vorlaeufe::mf_abmeldung_check;
+pub use vorlaeufe::mf_abmeldung_fuer;
+pub use vorlaeufe::mf_eog_ankuendigung_fristgerecht;
+pub use vorlaeufe::mf_vorlauf_check;
+pub use vorlaeufe::mf_vorlauf_check_at;
+pub use vorlaeufe::mf_vorlauf_span;

@@ -26,7 +26,7 @@ pub enum SparteCode {
     Unknown,
 }
 
-fn sparte_of(code: u8) -> SparteCode
+pub fn sparte_of(code: u8) -> SparteCode
     ensures { λ r. ⌜ r ≡ sparteOf code ⌝ }
 {
     if code < 1 {

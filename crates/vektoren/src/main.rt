@@ -1,10 +1,11 @@
 // Replays stored answers: reads questions with the answers that are expected, asks the host calls, and prints the number of
 // each line whose answer differs, then how many answers there were and how many were equal.
 //
-// A line is 64 lower-case hexadecimal digits of a question, a space, 64 of its answer, and a line end. A question has 32
+// A line is 128 lower-case hexadecimal digits of a question, a space, 64 of its answer, and a line end. A question has 64
 // bytes, its numbers little-endian: 0 the call; 1 a code; 2 and 3 zero; 4 to 7 a date (year 2 bytes, month, day); 8 to 11 a
 // second date, or a clock's nanoseconds; 12 to 15 a count; 16 to 23 seconds, signed; 24 to 27 nanoseconds; 28 to 30 hour,
-// minute and second of a clock; 31 zero. A line of another form counts as different.
+// minute and second of a clock; 31 zero; 32 to 35 a second count; 36 to 43 and 44 to 47 a second instant; 48 a second code;
+// 49 the length of a reason and 50 to 63 its bytes. A line of another form counts as different.
 ghost use mathlib.Core.Bool.{true};
 ghost use mathlib.Core.Path.{_≡_};
 ghost use Prim.Native.Nat.{_+_, _*_, _≤_};
@@ -14,12 +15,17 @@ use libc::STDIN_FILENO;
 use libc::STDOUT_FILENO;
 
 // A line's bytes, its end left out.
-const LINE_BYTES: usize = 129;
+const LINE_BYTES: usize = 193;
 
-// Where in a line the space and the answer stand.
-const SPACE_AT: usize = 64;
+// Where in a line the question's second half, the space and the answer stand.
+const SECOND_HALF_AT: usize = 64;
 
-const ANSWER_AT: usize = 65;
+const SPACE_AT: usize = 128;
+
+const ANSWER_AT: usize = 129;
+
+// The bytes of a question that a reason can take.
+const REASON_BYTES: u8 = 14;
 
 // What `ask` returns where no call has the question's number. The answer, which no call has written, begins with another.
 const NO_CALL: u8 = 255;
@@ -58,8 +64,8 @@ fn digit(b: u8) -> u8
 }
 
 // Puts the 32 bytes whose digits start at `from` into `out`; false where one of the 64 is no digit.
-fn read_hex(line: &[u8; 129], from: usize, out: &mut [u8]) -> bool
-    requires { ⌜ (from ≤ 65) × (length (now out) ≡ 32) ⌝ }
+fn read_hex(line: &[u8; 193], from: usize, out: &mut [u8]) -> bool
+    requires { ⌜ (from ≤ 129) × (length (now out) ≡ 32) ⌝ }
     ensures { λ r. ⌜ (r ≡ true → now (out .exit) ≡ bytesAt (now (line .entry)) from 32) ⌝ }
 {
     let mut i = 0;
@@ -124,11 +130,18 @@ struct Question {
     hour: u8,
     minute: u8,
     second: u8,
+    n2: u32,
+    seconds2: i64,
+    nanos2: u32,
+    code2: u8,
+    reason: u8,
 }
 
-fn question_of(q: &[u8; 32]) -> Question {
+fn question_of(q: &[u8; 32], p: &[u8; 32]) -> Question {
     let low = join4(q[16], q[17], q[18], q[19]);
     let high = join4(q[20], q[21], q[22], q[23]);
+    let low2 = join4(p[4], p[5], p[6], p[7]);
+    let high2 = join4(p[8], p[9], p[10], p[11]);
     Question {
         call: q[0],
         code: q[1],
@@ -145,6 +158,11 @@ fn question_of(q: &[u8; 32]) -> Question {
         hour: q[28],
         minute: q[29],
         second: q[30],
+        n2: join4(p[0], p[1], p[2], p[3]),
+        seconds2: antwortsatz::signed_of(join8(low2, high2)),
+        nanos2: join4(p[12], p[13], p[14], p[15]),
+        code2: p[16],
+        reason: p[17],
     }
 }
 
@@ -241,15 +259,88 @@ fn ask_frist(q: Question, answer: &mut [u8]) -> u8 {
     }
 }
 
+// Verdicts, spans and the announcement: calls 25 to 27 and 30.
+fn ask_vorlauf(q: Question, answer: &mut [u8]) -> u8 {
+    let call = q.call;
+    match call {
+        25 => mako_fristen::mf_vorlauf_check(
+            q.code,
+            q.n,
+            q.n2,
+            q.year,
+            q.month,
+            q.day,
+            q.year2,
+            q.month2,
+            q.day2,
+            answer,
+        ),
+        26 => mako_fristen::mf_vorlauf_check_at(
+            q.code,
+            q.n,
+            q.n2,
+            q.seconds,
+            q.nanos,
+            q.seconds2,
+            q.nanos2,
+            q.code2,
+            answer,
+        ),
+        27 => mako_fristen::mf_vorlauf_span(q.code, q.n, q.n2, q.year, q.month, q.day, answer),
+        30 => mako_fristen::mf_eog_ankuendigung_fristgerecht(
+            q.seconds,
+            q.nanos,
+            q.year,
+            q.month,
+            q.day,
+            answer,
+        ),
+        _ => NO_CALL,
+    }
+}
+
+// Deregistrations: calls 28 and 29. The reason stands in the question's second half.
+fn ask_abmeldung(q: Question, p: &[u8; 32], answer: &mut [u8]) -> u8 {
+    if REASON_BYTES < q.reason {
+        return NO_CALL;
+    }
+    let half = &p[..];
+    let end = 18 + (q.reason as usize);
+    let reason = &half[18..end];
+    if q.call == 28 {
+        return mako_fristen::mf_abmeldung_fuer(reason, q.code, answer);
+    }
+    mako_fristen::mf_abmeldung_check(
+        reason,
+        q.code,
+        q.year,
+        q.month,
+        q.day,
+        q.year2,
+        q.month2,
+        q.day2,
+        answer,
+    )
+}
+
 // Asks the call that the question names, and returns what the call returns.
-fn ask(q: Question, answer: &mut [u8]) -> u8 {
+fn ask(q: Question, p: &[u8; 32], answer: &mut [u8]) -> u8 {
     if q.call < 7 {
         return ask_kalender(q, answer);
     }
     if q.call < 13 {
         return ask_uhrzeit(q, answer);
     }
-    ask_frist(q, answer)
+    if q.call < 25 {
+        return ask_frist(q, answer);
+    }
+    if q.call == 28 {
+        return ask_abmeldung(q, p, answer);
+    }
+    if q.call == 29 {
+        return ask_abmeldung(q, p, answer);
+    }
+    ask_vorlauf(q, answer)
 }
 
 // Whether an answer is the one that is expected, all 32 bytes, and the number that was returned is its first.
@@ -263,9 +354,13 @@ fn is_expected(number: u8, answer: &[u8; 32], expected: &[u8; 32]) -> bool
 }
 
 // Whether a line's question has the answer that the line expects.
-fn is_equal(line: &[u8; 129]) -> bool {
+fn is_equal(line: &[u8; 193]) -> bool {
     let mut question = [0u8; 32];
     if !read_hex(line, 0, &mut question) {
+        return false;
+    }
+    let mut half = [0u8; 32];
+    if !read_hex(line, SECOND_HALF_AT, &mut half) {
         return false;
     }
     if line[SPACE_AT] != b' ' {
@@ -279,7 +374,7 @@ fn is_equal(line: &[u8; 129]) -> bool {
         return false;
     }
     let mut answer = [UNWRITTEN; 32];
-    let number = ask(question_of(&question), &mut answer);
+    let number = ask(question_of(&question, &half), &half, &mut answer);
     is_expected(number, &answer, &expected)
 }
 
@@ -294,7 +389,7 @@ fn print_line_number(n: u64) {
 }
 
 // The line has ended.
-fn end_line(line: &[u8; 129], r: Replay) -> Replay {
+fn end_line(line: &[u8; 193], r: Replay) -> Replay {
     let lines = more(r.lines);
     if r.held == LINE_BYTES {
         if is_equal(line) {
@@ -316,7 +411,7 @@ fn end_line(line: &[u8; 129], r: Replay) -> Replay {
 }
 
 // One byte more.
-fn take_byte(b: u8, line: &mut [u8; 129], r: Replay) -> Replay {
+fn take_byte(b: u8, line: &mut [u8; 193], r: Replay) -> Replay {
     if b == b'\n' {
         return end_line(line, r);
     }
@@ -331,7 +426,7 @@ fn take_byte(b: u8, line: &mut [u8; 129], r: Replay) -> Replay {
     next
 }
 
-fn take_bytes(bytes: &[u8], line: &mut [u8; 129], r: Replay) -> Replay {
+fn take_bytes(bytes: &[u8], line: &mut [u8; 193], r: Replay) -> Replay {
     let mut next = r;
     let mut i = 0;
     while i < bytes.len() {
@@ -342,7 +437,7 @@ fn take_bytes(bytes: &[u8], line: &mut [u8; 129], r: Replay) -> Replay {
 }
 
 // Reads once, and takes what came.
-fn take_block(line: &mut [u8; 129], r: Replay) -> Replay {
+fn take_block(line: &mut [u8; 193], r: Replay) -> Replay {
     let mut block = io::buffer();
     let n = io::read_full(STDIN_FILENO, &mut block);
     if n == 0 {
@@ -355,7 +450,7 @@ fn take_block(line: &mut [u8; 129], r: Replay) -> Replay {
 
 // A proved loop has to end, and nothing says that the input does. So the turns are counted down, from a number that no run
 // uses up.
-fn take_all(line: &mut [u8; 129]) -> Replay {
+fn take_all(line: &mut [u8; 193]) -> Replay {
     let mut r = Replay {
         ended: false,
         held: 0,
@@ -374,7 +469,7 @@ fn take_all(line: &mut [u8; 129]) -> Replay {
 }
 
 fn main() {
-    let mut line = [0u8; 129];
+    let mut line = [0u8; 193];
     let mut r = take_all(&mut line);
     // A last line without its end is of another form.
     if r.held != 0 {

@@ -56,7 +56,7 @@ fn is_buss_und_bettag(month: u8, day: u8, weekday: u32) -> bool
 }
 
 /// Easter Sunday by the Anonymous Gregorian algorithm, in its own letters.
-fn easter_sunday(year: u16) -> Date
+pub fn easter_sunday(year: u16) -> Date
     requires { ⌜ (1996 ≤ year) × (year ≤ 2899) ⌝ }
     ensures { λ r. ⌜ r ≡ easterSunday year ⌝ }
 {

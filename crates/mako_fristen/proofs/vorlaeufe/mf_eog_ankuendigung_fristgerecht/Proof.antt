@@ -1,0 +1,30 @@
+-- `mako_fristen::vorlaeufe::mf_eog_ankuendigung_fristgerecht` meets its contract: its answer is what the definition gives, and `reply` writes it.
+-- Assumes nothing.
+use Rattle.antwortsatz.proofs.Rules.{call-rules}
+use Rattle.mako_fristen.proofs.Rules.{read-rules, read-same}
+use borrow.Author.Needs.{needs}
+use Rattle.mako_fristen.proofs.vorlaeufe.mf_eog_ankuendigung_fristgerecht.Statement.{statement}
+use Rattle.mako_fristen.proofs.vorlaeufe.mf_eog_ankuendigung_fristgerecht.Tie as tie
+
+read-instant-requires : tie.Need-read-instant-requires
+read-instant-requires c κs = search needs
+
+eog-answer-requires : tie.Need-eog-answer-requires
+eog-answer-requires c κs = search (needs, read-rules)
+
+reply-requires : tie.Need-reply-requires
+reply-requires c κs = search needs
+
+same-length : tie.Need-same-length
+same-length c = search needs
+
+returns : tie.Need-returns
+returns c =
+    let s = c .before .before .before .before .before in
+    rw (read-same (s .before .before .args .seconds) (s .before .before .args .nanos) (s .read-instant .result) (s .before .before .fits .seconds) (s .read-instant .ensures))
+    (search (needs, call-rules))
+
+pub mf-eog-ankuendigung-fristgerecht-spec : {M : Type 1} → statement M
+mf-eog-ankuendigung-fristgerecht-spec =
+    tie.close
+    (tie.spec read-instant-requires eog-answer-requires reply-requires same-length returns)

@@ -1,0 +1,40 @@
+-- `mako_fristen::vorlaeufe::mf_vorlauf_check_at` meets its contract: its answer is what the definition gives, and `reply` writes it.
+-- Assumes nothing.
+use Rattle.antwortsatz.proofs.Rules.{call-rules}
+use Rattle.mako_fristen.proofs.Rules.{read-rules, read-same}
+use borrow.Author.Needs.{needs}
+use Rattle.mako_fristen.proofs.vorlaeufe.mf_vorlauf_check_at.Statement.{statement}
+use Rattle.mako_fristen.proofs.vorlaeufe.mf_vorlauf_check_at.Tie as tie
+
+read-instant-requires : tie.Need-read-instant-requires
+read-instant-requires c κs = search needs
+
+read-instant-requires-2 : tie.Need-read-instant-requires-2
+read-instant-requires-2 c κs = search needs
+
+vorlauf-check-at-answer-requires : tie.Need-vorlauf-check-at-answer-requires
+vorlauf-check-at-answer-requires c κs = search (needs, read-rules)
+
+reply-requires : tie.Need-reply-requires
+reply-requires c κs = search needs
+
+same-length : tie.Need-same-length
+same-length c = search needs
+
+returns : tie.Need-returns
+returns c =
+    let a = c .before .before .before .before .before .before .before .before in
+    let s = c .before .before .before .before .before in
+    rw (read-same (a .args .seconds) (a .args .nanos) (s .before .read-instant .result) (a .fits .seconds) (s .before .read-instant .ensures), read-same (a .args .seconds2) (a .args .nanos2) (s .read-instant2 .result) (a .fits .seconds2) (s .read-instant2 .ensures))
+    (search (needs, call-rules))
+
+pub mf-vorlauf-check-at-spec : {M : Type 1} → statement M
+mf-vorlauf-check-at-spec =
+    tie.close
+    (tie.spec
+    read-instant-requires
+    read-instant-requires-2
+    vorlauf-check-at-answer-requires
+    reply-requires
+    same-length
+    returns)

@@ -1,0 +1,148 @@
+-- Dates as days of one run of months: the month numbered o, counted from January of year 0, is block o.
+--   monthDays o   = days of the month numbered o
+--   origin        = days of the months before January 1996
+--   month-has     a month has days
+--   date-run      a date's index and `origin` are the days of all months before its own, and the days before it in that
+--   day-run       the same of the date of an index, which has the day
+--   on-run        the same of a date that a shift by months reached
+--   on-inside     such a date is one of the calendar
+--   on-day        its day is the one asked for, or the month's last
+-- Source: document 01, lib.rs, months.
+-- Assumes nothing.
+use Prim.Native.Nat.{ℕ, zero, suc, _+_, _-_, _*_, _/_, _%_, _≤_, _<_, min}
+use mathlib.Core.Bool.{Bool, true, false}
+use mathlib.Core.Path.{_≡_, refl, ap}
+use native.Mathlib.Omega.{arith}
+use native.Mathlib.Nat.{add-zero, add-suc}
+use native.Mathlib.Decide.{decLe}
+use lib.Dec.{leb}
+use lib.IntN.{pos}
+use borrow.Author.Tests.{leb-true, le-leb, lt-leb}
+use Rattle.zaehlung.specs.declared.Step.the-variants.{Day, Outside}
+use Rattle.zaehlung.specs.Walk.{last, bit}
+use Rattle.zaehlung.specs.Blocks.{start, start-suc}
+use Rattle.zaehlung.specs.Every.{run, run-at}
+use Rattle.datum.specs.declared.Date.{Date}
+use Rattle.datum.specs.Calendar.{leap, monthLen, monthStart, yearLen, yearStart, daysBefore, dateOf}
+use Rattle.datum.specs.MonthShift.{ordinal, inMonth, onMonth}
+use Rattle.datum.proofs.Dates.{Valid, months-sum, month-first, index-date, index-below, date-index}
+use Rattle.datum.proofs.Years.{start-none}
+use Rattle.vorlauf.specs.Monate.{toStep}
+
+abbrev pub monthDays : ℕ → ℕ
+monthDays o = monthLen (leap (o / 12)) (o % 12 + 1)
+
+abbrev pub origin : ℕ
+origin = start monthDays (1996 * 12)
+
+abbrev hasDays : Bool → ℕ → Bool
+hasDays l m = leb 1 (monthLen l m)
+
+all-have : (l : Bool) → run (hasDays l) 12 1 ≡ true
+unfolding run monthLen
+all-have true = refl
+all-have false = refl
+
+pub month-has : (o : ℕ) → 1 ≤ monthDays o
+month-has o =
+    let l : Bool = leap (o / 12) in
+    leb-true 1 (monthLen l (o % 12 + 1)) (run-at (hasDays l) 12 1 (all-have l) (o % 12 + 1) (omega arith) (omega arith))
+
+-- month j of year y, from 0 on
+month-at : (y j : ℕ) → j < 12 → monthDays (y * 12 + j) ≡ monthLen (leap y) (suc j)
+month-at y j h =
+    let q : (y * 12 + j) / 12 ≡ y = omega arith in
+    let r : (y * 12 + j) % 12 + 1 ≡ suc j = omega arith in
+    rw (q, r)
+
+year-run : (y j : ℕ) → j ≤ 12 → start monthDays (y * 12 + j) ≡ start monthDays (y * 12) + monthStart (leap y) (suc j)
+year-run y zero h = rw add-zero (omega (arith, month-first (leap y)))
+year-run y (suc j) h =
+    rw add-suc
+    (omega (arith, year-run y j (omega arith), start-suc monthDays (y * 12 + j), start-suc (monthLen (leap y)) (suc j), month-at y j (omega arith)))
+
+year-days : (k : ℕ) → yearLen k ≡ 365 + bit (leap (1996 + k))
+unfolding yearLen
+year-days k = refl
+
+years-run : (k : ℕ) → start monthDays ((1996 + k) * 12) ≡ origin + yearStart k
+years-run zero = omega (arith, start-none)
+years-run (suc k) =
+    let e : (1996 + suc k) * 12 ≡ (1996 + k) * 12 + 12 = omega arith in
+    rw e
+    (omega (arith, years-run k, year-run (1996 + k) 12 (omega arith), months-sum (leap (1996 + k)), start-suc yearLen k, year-days k))
+
+pub date-run :
+    (d : Date) → 1996 ≤ d .year → 1 ≤ d .month → d .month ≤ 12 →
+    daysBefore d + origin ≡ start monthDays (ordinal d) + (d .day - 1)
+date-run d h g k =
+    let y : ℕ = d .year in
+    let e : 1996 + (y - 1996) ≡ y = omega arith in
+    let a = ap (λ (x : ℕ). start monthDays (x * 12)) e in
+    let q : suc (d .month - 1) ≡ d .month = omega arith in
+    let b = ap (monthStart (leap y)) q in
+    omega (arith, years-run (y - 1996), year-run y (d .month - 1) (omega arith))
+
+-- a day of the calendar: its month has the day
+pub day-run :
+    (i : ℕ) → i ≤ last →
+    (i + origin ≡ start monthDays (ordinal (dateOf i)) + (dateOf i .day - 1)) × (1 ≤ dateOf i .day) × (dateOf i .day ≤ monthDays (ordinal (dateOf i)))
+day-run i h =
+    let v = index-date i h in
+    let d : Date = dateOf i in
+    let m = month-at (d .year) (d .month - 1) (omega (arith, v .0 .month-to, v .0 .month-from)) in
+    let q : suc (d .month - 1) ≡ d .month = omega (arith, v .0 .month-from) in
+    let b = ap (monthLen (leap (d .year))) q in
+    (omega (arith, date-run d (v .0 .from) (v .0 .month-from) (v .0 .month-to)), v .0 .day-from, omega (arith, v .0 .day-to))
+
+-- the date that day x of the month numbered t becomes
+abbrev onDate : ℕ → ℕ → Date
+onDate t x = record { year = t / 12; month = t % 12 + 1; day = min x (monthDays t) }
+
+on-in : (t x : ℕ) → 1996 ≤ t / 12 → t / 12 ≤ 2899 → toStep (onMonth (pos t) x) ≡ Day (daysBefore (onDate t x))
+unfolding onMonth inMonth
+on-in t x h g = rw (le-leb 1996 (t / 12) h, le-leb (t / 12) 2899 g)
+
+on-early : (t x : ℕ) → t / 12 < 1996 → toStep (onMonth (pos t) x) ≡ Outside
+unfolding onMonth inMonth
+on-early t x h = rw (lt-leb 1996 (t / 12) h)
+
+on-late : (t x : ℕ) → 1996 ≤ t / 12 → 2899 < t / 12 → toStep (onMonth (pos t) x) ≡ Outside
+unfolding onMonth inMonth
+on-late t x h g = rw (le-leb 1996 (t / 12) h, lt-leb (t / 12) 2899 g)
+
+on-date : (t x e : ℕ) → toStep (onMonth (pos t) x) ≡ Day e → (1996 ≤ t / 12) × (t / 12 ≤ 2899) × (e ≡ daysBefore (onDate t x))
+on-date t x e p =
+    elim (decLe 1996 (t / 12)) [
+      | yes h ↦
+          elim (decLe (t / 12) 2899) [
+            | yes g ↦ let q = on-in t x h g in (h, g, (cc))
+            | no g ↦ let q = on-late t x h (omega arith) in let z : _≡_ {A = ℕ} 0 1 = cc in absurd (omega arith)
+          ]
+      | no h ↦ let q = on-early t x (omega arith) in let z : _≡_ {A = ℕ} 0 1 = cc in absurd (omega arith)
+    ]
+
+pub on-run : (t x e : ℕ) → toStep (onMonth (pos t) x) ≡ Day e → e + origin ≡ start monthDays t + (min x (monthDays t) - 1)
+on-run t x e p =
+    let r = on-date t x e p in
+    let q : t / 12 * 12 + (t % 12 + 1 - 1) ≡ t = omega arith in
+    let b = ap (start monthDays) q in
+    omega (arith, date-run (onDate t x) (r .0) (omega arith) (omega arith))
+
+on-valid : (t x e : ℕ) → 1 ≤ x → toStep (onMonth (pos t) x) ≡ Day e → Valid (onDate t x)
+on-valid t x e h p =
+    let r = on-date t x e p in
+    record {
+      from = r .0;
+      to = r .1;
+      month-from = omega arith;
+      month-to = omega arith;
+      day-from = omega (arith, month-has t);
+      day-to = omega arith;
+    }
+
+pub on-inside : (t x e : ℕ) → 1 ≤ x → toStep (onMonth (pos t) x) ≡ Day e → e ≤ last
+on-inside t x e h p = omega (arith, on-date t x e p .2, index-below (onDate t x) (on-valid t x e h p))
+
+pub on-day : (t x e : ℕ) → 1 ≤ x → toStep (onMonth (pos t) x) ≡ Day e → dateOf e .day ≡ min x (monthDays t)
+on-day t x e h p = rw (on-date t x e p .2, date-index (onDate t x) (on-valid t x e h p))

@@ -1,0 +1,107 @@
+// The lead time of a deregistration by the grid operator (GPKE Teil 2, Kap. 2.5.2, SD 'Lieferende von NB an LF' Nr. 1),
+// chosen by the reason and by whether the Marktlokation is one of the EEG.
+//
+// Document 01, abmeldung.rs.
+ghost use mathlib.Core.Path.{_≡_};
+ghost use Prim.Native.Nat.{_≤_};
+ghost use Rattle.zaehlung.specs.Walk.{last};
+ghost use Rattle.werktag.specs.Werktag.{werktag};
+ghost use Rattle.vorlauf.specs.Abmeldung.{same, fuerOf, shapeOf, abmeldungOf, insideAbmeldung};
+use super::VorlaufShape;
+use super::VorlaufVerdict;
+use werktag::HolidayCalendar;
+
+/// Whether the object is an EEG-Marktlokation or a Tranche of one.
+pub enum Eeg {
+    Nein,
+    Ja,
+    Unbekannt,
+}
+
+/// Which window applies.
+pub enum AbmeldungVorlauf {
+    /// 'Spätester ÜT ist der Tag vor dem letzten WT vor dem Zuordnungsende.'
+    TagVorDemLetztenWerktag,
+    /// 'Spätester ÜT liegt 1 Monat vor dem Zuordnungsende': EEG-Marktlokationen and their Tranchen.
+    EinMonat,
+    /// It is not known whether the Marktlokation is one of the EEG: a window that was not evaluated is not a kept one.
+    Unbestimmt,
+    /// `ZQ7`: its anchor never reaches the supplier, and Prüfschritt 120 of E_0609 tests its date instead.
+    AnPruefschritt120,
+}
+
+/// A shape, or none.
+pub enum AbmeldungShape {
+    Some(VorlaufShape),
+    None,
+}
+
+/// The verdict, or that there is no shape to give one.
+pub enum AbmeldungVerdict {
+    Verdict(VorlaufVerdict),
+    NoShape,
+}
+
+/// Whether two byte strings are the same.
+fn same_bytes(a: &[u8], b: &[u8]) -> bool
+    ensures { λ r. ⌜ r ≡ same (now (a .entry)) (now (b .entry)) ⌝ }
+{
+    if a.len() != b.len() {
+        return false;
+    }
+    let mut i = 0;
+    while i < b.len() {
+        if a[i] != b[i] {
+            return false;
+        }
+        i += 1;
+    }
+    true
+}
+
+impl AbmeldungVorlauf {
+    /// The window for a reason: the three bytes `ZQ7` are the BKV's deactivation; "zq7", "ZQ7 " and an empty reason are
+    /// ordinary.
+    pub fn fuer(reason: &[u8], eeg: Eeg) -> AbmeldungVorlauf
+        ensures { λ r. ⌜ r ≡ fuerOf (now (reason .entry)) eeg ⌝ }
+    {
+        if same_bytes(reason, b"ZQ7") {
+            return AbmeldungVorlauf::AnPruefschritt120;
+        }
+        match eeg {
+            Eeg::Nein => AbmeldungVorlauf::TagVorDemLetztenWerktag,
+            Eeg::Ja => AbmeldungVorlauf::EinMonat,
+            Eeg::Unbekannt => AbmeldungVorlauf::Unbestimmt,
+        }
+    }
+
+    /// The shape, where one applies.
+    pub fn shape(self) -> AbmeldungShape
+        ensures { λ r. ⌜ r ≡ shapeOf self ⌝ }
+    {
+        match self {
+            AbmeldungVorlauf::TagVorDemLetztenWerktag => {
+                AbmeldungShape::Some(VorlaufShape::TagVorDemLetztenWerktagVor)
+            }
+            AbmeldungVorlauf::EinMonat => AbmeldungShape::Some(VorlaufShape::LatestMonateBefore(1)),
+            AbmeldungVorlauf::Unbestimmt => AbmeldungShape::None,
+            AbmeldungVorlauf::AnPruefschritt120 => AbmeldungShape::None,
+        }
+    }
+
+    /// The verdict on a transmission day and the Zuordnungsende.
+    pub fn check(
+        self,
+        uebertragungstag: u32,
+        zuordnungsende: u32,
+        cal: HolidayCalendar,
+    ) -> AbmeldungVerdict
+        requires { ⌜ (uebertragungstag ≤ last) × (zuordnungsende ≤ last) ⌝ }
+        ensures { λ r. ⌜ (r ≡ abmeldungOf (werktag cal) self uebertragungstag zuordnungsende) × insideAbmeldung r ⌝ }
+    {
+        let AbmeldungShape::Some(shape) = self.shape() else {
+            return AbmeldungVerdict::NoShape;
+        };
+        AbmeldungVerdict::Verdict(shape.check(uebertragungstag, zuordnungsende, cal))
+    }
+}

@@ -1,0 +1,426 @@
+// Lead times: may a message of this day ask for that date, and which dates may it ask for?
+//
+// Document 01, vorlauf.rs and 'The span of anchors'. A day is its index from 1 January 1996, 0 to LAST. t is the
+// transmission day (Übertragungstag, ÜT), a the anchor, the date that the message carries.
+ghost use mathlib.Core.Bool.{cond};
+ghost use mathlib.Core.Path.{_≡_};
+ghost use Prim.Native.Nat.{_≤_};
+ghost use lib.Dec.{leb};
+ghost use Rattle.zaehlung.specs.Walk.{last, add, W};
+ghost use Rattle.werktag.specs.Werktag.{werktag};
+ghost use Rattle.vorlauf.specs.Monate.{M};
+ghost use Rattle.vorlauf.specs.Verdict.{goOn, dayBefore, dayAfter, dayAfterNext, late, checkOf, insideVerdict};
+ghost use Rattle.vorlauf.specs.Span.{from, both, spanOf, insideSpan};
+use werktag::HolidayCalendar;
+use zaehlung::FIRST;
+use zaehlung::LAST;
+use zaehlung::Step;
+
+pub mod abmeldung;
+mod monate;
+
+/// The shape of a Vorlauffrist, in Werktagen or months relative to its anchor date.
+pub enum VorlaufShape {
+    /// 'Spätester ÜT ist der n. WT vor dem ..': a minimum lead time.
+    LatestWerktageBefore(u32),
+    /// 'Frühester ÜT ist der a. WT und spätester der b. WT vor dem ..': `earliest` is the larger number.
+    WindowWerktageBefore { earliest: u32, latest: u32 },
+    /// 'Spätester ÜT ist der n. WT nach dem ..'.
+    LatestWerktageAfter(u32),
+    /// '.. frühestens am n. auf diese Aktion folgenden WT': the anchor is the requested date.
+    EarliestWerktageAfter(u32),
+    /// '.. vom n. WT vor bis zum n. WT nach dem ..': the WiM Realisierungskorridor.
+    Korridor(u32),
+    /// 'Spätester ÜT ist der Tag vor dem letzten WT vor dem ..': that day may itself be a Sunday.
+    TagVorDemLetztenWerktagVor,
+    /// 'Spätester ÜT liegt n Monate vor dem ..'.
+    LatestMonateBefore(u32),
+    /// 'Spätester ÜT liegt n Monate und m WT vor dem ..': the months first, then the Werktage back.
+    LatestMonateUndWerktageBefore { monate: u32, werktage: u32 },
+}
+
+/// The verdict on a transmission day and an anchor.
+pub enum VorlaufVerdict {
+    /// The date respects the window.
+    Ok,
+    /// Transmitted later than the window allows, by so many Werktage, with the date that the Rust then names.
+    TooLate {
+        shortfall_wt: u32,
+        earliest_possible: u32,
+    },
+    /// Transmitted so many Werktage before the window opens.
+    TooEarly {
+        excess_wt: u32,
+    },
+    /// A date that is computed leaves the calendar.
+    Outside,
+}
+
+/// The anchors that a transmission day may ask for.
+pub enum Span {
+    /// From this day on.
+    From(u32),
+    /// From the first day to the last, both among them.
+    Both(u32, u32),
+    /// None.
+    Empty,
+    /// An end leaves the calendar.
+    Outside,
+}
+
+/// The day before, or `Outside` before the calendar's first day.
+fn day_before(day: u32) -> Step
+    ensures { λ r. ⌜ r ≡ dayBefore day ⌝ }
+{
+    if day <= FIRST {
+        return Step::Outside;
+    }
+    Step::Day(day - 1)
+}
+
+/// The day after, or `Outside` past the calendar's last day.
+fn day_after(day: u32) -> Step
+    ensures { λ r. ⌜ r ≡ dayAfter day ⌝ }
+{
+    if LAST <= day {
+        return Step::Outside;
+    }
+    Step::Day(day + 1)
+}
+
+/// W(n) of document 01: the day after the `n`-th Werktag on or after `t`. Each day that is left behind is tested.
+///
+/// With `n = 0`: `t` unchanged, Werktag or not.
+///
+/// From Saturday 10 January 2026 with 1: the Werktag is Monday 12, so Tuesday 13 January.
+fn day_after_werktage(t: u32, n: u32, cal: HolidayCalendar) -> Step
+    requires { ⌜ t ≤ last ⌝ }
+    ensures { λ r. ⌜ r ≡ W (werktag cal) t n ⌝ }
+{
+    let mut current = t;
+    let mut remaining = n;
+    while 0 < remaining {
+        if LAST <= current {
+            return Step::Outside;
+        }
+        let left = current;
+        current += 1;
+        if werktag::is_werktag(left, cal) {
+            remaining -= 1;
+        }
+    }
+    Step::Day(current)
+}
+
+/// t is the `n`-th Werktag before the anchor at the latest. `LatestWerktageBefore(1)` from Saturday 10 January 2026 against
+/// Monday 12 January: TooLate by 0 Werktage, and the date named is that Monday.
+fn latest_werktage_before(n: u32, t: u32, a: u32, cal: HolidayCalendar) -> VorlaufVerdict
+    requires { ⌜ (t ≤ last) × (a ≤ last) ⌝ }
+    ensures { λ r. ⌜ r ≡ checkOf (werktag cal) (VorlaufShape.LatestWerktageBefore n) t a ⌝ }
+{
+    let Step::Day(closes) = schritte::sub_werktage(a, n, cal) else {
+        return VorlaufVerdict::Outside;
+    };
+    if t <= closes {
+        return VorlaufVerdict::Ok;
+    }
+    let Step::Day(first) = schritte::add_werktage(t, n, cal) else {
+        return VorlaufVerdict::Outside;
+    };
+    VorlaufVerdict::TooLate {
+        shortfall_wt: schritte::werktage_between(closes, t, cal),
+        earliest_possible: first,
+    }
+}
+
+/// t is the `earliest`-th Werktag before the anchor at the earliest, and the `latest`-th at the latest.
+fn window_werktage_before(
+    earliest: u32,
+    latest: u32,
+    t: u32,
+    a: u32,
+    cal: HolidayCalendar,
+) -> VorlaufVerdict
+    requires { ⌜ (t ≤ last) × (a ≤ last) ⌝ }
+    ensures { λ r. ⌜ r ≡ checkOf (werktag cal) (VorlaufShape.WindowWerktageBefore earliest latest) t a ⌝ }
+{
+    let Step::Day(opens) = schritte::sub_werktage(a, earliest, cal) else {
+        return VorlaufVerdict::Outside;
+    };
+    let Step::Day(closes) = schritte::sub_werktage(a, latest, cal) else {
+        return VorlaufVerdict::Outside;
+    };
+    if t < opens {
+        return VorlaufVerdict::TooEarly {
+            excess_wt: schritte::werktage_between(t, opens, cal),
+        };
+    }
+    if t <= closes {
+        return VorlaufVerdict::Ok;
+    }
+    let Step::Day(first) = schritte::add_werktage(t, latest, cal) else {
+        return VorlaufVerdict::Outside;
+    };
+    VorlaufVerdict::TooLate {
+        shortfall_wt: schritte::werktage_between(closes, t, cal),
+        earliest_possible: first,
+    }
+}
+
+/// t is the `n`-th Werktag after the anchor at the latest. Under TooLate the anchor itself is named.
+fn latest_werktage_after(n: u32, t: u32, a: u32, cal: HolidayCalendar) -> VorlaufVerdict
+    requires { ⌜ (t ≤ last) × (a ≤ last) ⌝ }
+    ensures { λ r. ⌜ r ≡ checkOf (werktag cal) (VorlaufShape.LatestWerktageAfter n) t a ⌝ }
+{
+    let Step::Day(closes) = schritte::add_werktage(a, n, cal) else {
+        return VorlaufVerdict::Outside;
+    };
+    if t <= closes {
+        return VorlaufVerdict::Ok;
+    }
+    VorlaufVerdict::TooLate {
+        shortfall_wt: schritte::werktage_between(closes, t, cal),
+        earliest_possible: a,
+    }
+}
+
+/// The anchor, the date requested, is the `n`-th Werktag after t at the earliest.
+fn earliest_werktage_after(n: u32, t: u32, a: u32, cal: HolidayCalendar) -> VorlaufVerdict
+    requires { ⌜ (t ≤ last) × (a ≤ last) ⌝ }
+    ensures { λ r. ⌜ r ≡ checkOf (werktag cal) (VorlaufShape.EarliestWerktageAfter n) t a ⌝ }
+{
+    let Step::Day(first) = schritte::add_werktage(t, n, cal) else {
+        return VorlaufVerdict::Outside;
+    };
+    if first <= a {
+        return VorlaufVerdict::Ok;
+    }
+    VorlaufVerdict::TooLate {
+        shortfall_wt: schritte::werktage_between(a, first, cal),
+        earliest_possible: first,
+    }
+}
+
+/// t lies from the `n`-th Werktag before the anchor to the `n`-th after it. Under TooLate the opening day is named.
+fn korridor(n: u32, t: u32, a: u32, cal: HolidayCalendar) -> VorlaufVerdict
+    requires { ⌜ (t ≤ last) × (a ≤ last) ⌝ }
+    ensures { λ r. ⌜ r ≡ checkOf (werktag cal) (VorlaufShape.Korridor n) t a ⌝ }
+{
+    let Step::Day(opens) = schritte::sub_werktage(a, n, cal) else {
+        return VorlaufVerdict::Outside;
+    };
+    let Step::Day(closes) = schritte::add_werktage(a, n, cal) else {
+        return VorlaufVerdict::Outside;
+    };
+    if t < opens {
+        return VorlaufVerdict::TooEarly {
+            excess_wt: schritte::werktage_between(t, opens, cal),
+        };
+    }
+    if t <= closes {
+        return VorlaufVerdict::Ok;
+    }
+    VorlaufVerdict::TooLate {
+        shortfall_wt: schritte::werktage_between(closes, t, cal),
+        earliest_possible: opens,
+    }
+}
+
+/// The day after the first Werktag strictly after t: a full Werktag has to lie between t and the date. From a Monday that
+/// is Wednesday.
+fn fruehester_termin_nach_tag_vor_dem_letzten_werktag(t: u32, cal: HolidayCalendar) -> Step
+    requires { ⌜ t ≤ last ⌝ }
+    ensures { λ r. ⌜ r ≡ dayAfterNext (werktag cal) t ⌝ }
+{
+    let Step::Day(next_day) = day_after(t) else {
+        return Step::Outside;
+    };
+    let Step::Day(werktag) = schritte::next_werktag(next_day, cal) else {
+        return Step::Outside;
+    };
+    day_after(werktag)
+}
+
+/// t is the day before the last Werktag before the anchor at the latest. From Thursday 8 January 2026: Friday 9 January is
+/// TooLate by 1 Werktag, Saturday 10 January Ok.
+fn tag_vor_dem_letzten_werktag_vor(t: u32, a: u32, cal: HolidayCalendar) -> VorlaufVerdict
+    requires { ⌜ (t ≤ last) × (a ≤ last) ⌝ }
+    ensures { λ r. ⌜ r ≡ checkOf (werktag cal) VorlaufShape.TagVorDemLetztenWerktagVor t a ⌝ }
+{
+    let Step::Day(letzter) = schritte::sub_werktage(a, 1, cal) else {
+        return VorlaufVerdict::Outside;
+    };
+    let Step::Day(closes) = day_before(letzter) else {
+        return VorlaufVerdict::Outside;
+    };
+    if t <= closes {
+        return VorlaufVerdict::Ok;
+    }
+    let Step::Day(first) = fruehester_termin_nach_tag_vor_dem_letzten_werktag(t, cal) else {
+        return VorlaufVerdict::Outside;
+    };
+    VorlaufVerdict::TooLate {
+        shortfall_wt: schritte::werktage_between(closes, t, cal),
+        earliest_possible: first,
+    }
+}
+
+/// `Ok` while t is at or before `closes`, else `TooLate` with the date `first`.
+fn not_after(t: u32, closes: u32, first: u32, cal: HolidayCalendar) -> VorlaufVerdict
+    requires { ⌜ (t ≤ last) × (closes ≤ last) ⌝ }
+    ensures { λ r. ⌜ r ≡ cond (leb t closes) VorlaufVerdict.Ok (late (werktag cal) closes t first) ⌝ }
+{
+    if t <= closes {
+        return VorlaufVerdict::Ok;
+    }
+    VorlaufVerdict::TooLate {
+        shortfall_wt: schritte::werktage_between(closes, t, cal),
+        earliest_possible: first,
+    }
+}
+
+/// t lies `n` months before the anchor at the latest. The earliest date is computed even when the verdict is Ok.
+fn latest_monate_before(n: u32, t: u32, a: u32, cal: HolidayCalendar) -> VorlaufVerdict
+    requires { ⌜ (t ≤ last) × (a ≤ last) ⌝ }
+    ensures { λ r. ⌜ r ≡ checkOf (werktag cal) (VorlaufShape.LatestMonateBefore n) t a ⌝ }
+{
+    let Step::Day(closes) = monate::months_earlier(a, n) else {
+        return VorlaufVerdict::Outside;
+    };
+    let Step::Day(first) = monate::months_later(t, n) else {
+        return VorlaufVerdict::Outside;
+    };
+    not_after(t, closes, first, cal)
+}
+
+/// t lies `monate` months and `werktage` Werktage before the anchor at the latest: the months first, then the Werktage back
+/// from the day on which they land. The earliest date is computed even when the verdict is Ok.
+fn latest_monate_und_werktage_before(
+    monate: u32,
+    werktage: u32,
+    t: u32,
+    a: u32,
+    cal: HolidayCalendar,
+) -> VorlaufVerdict
+    requires { ⌜ (t ≤ last) × (a ≤ last) ⌝ }
+    ensures { λ r. ⌜ r ≡ checkOf (werktag cal) (VorlaufShape.LatestMonateUndWerktageBefore monate werktage) t a ⌝ }
+{
+    let Step::Day(back) = monate::months_earlier(a, monate) else {
+        return VorlaufVerdict::Outside;
+    };
+    let Step::Day(closes) = schritte::sub_werktage(back, werktage, cal) else {
+        return VorlaufVerdict::Outside;
+    };
+    let Step::Day(on) = schritte::add_werktage(t, werktage, cal) else {
+        return VorlaufVerdict::Outside;
+    };
+    let Step::Day(first) = monate::months_later(on, monate) else {
+        return VorlaufVerdict::Outside;
+    };
+    not_after(t, closes, first, cal)
+}
+
+/// The span from the day of a step on.
+fn span_from(first: Step) -> Span
+    ensures { λ r. ⌜ r ≡ from first ⌝ }
+{
+    match first {
+        Step::Day(day) => Span::From(day),
+        Step::Outside => Span::Outside,
+    }
+}
+
+/// The span between the days of two steps, empty if the first is later.
+fn span_between(first: Step, end: Step) -> Span
+    ensures { λ r. ⌜ r ≡ both first end ⌝ }
+{
+    let Step::Day(f) = first else {
+        return Span::Outside;
+    };
+    let Step::Day(l) = end else {
+        return Span::Outside;
+    };
+    if l < f {
+        return Span::Empty;
+    }
+    Span::Both(f, l)
+}
+
+/// The day after the first Werktag after t.
+fn after_first_werktag(t: u32, cal: HolidayCalendar) -> Step
+    requires { ⌜ t ≤ last ⌝ }
+    ensures { λ r. ⌜ r ≡ goOn (add (werktag cal) t 1) dayAfter ⌝ }
+{
+    let Step::Day(werktag) = schritte::add_werktage(t, 1, cal) else {
+        return Step::Outside;
+    };
+    day_after(werktag)
+}
+
+/// M(monate, W(werktage)) of document 01.
+fn months_after_werktage(t: u32, monate: u32, werktage: u32, cal: HolidayCalendar) -> Step
+    requires { ⌜ t ≤ last ⌝ }
+    ensures { λ r. ⌜ r ≡ goOn (W (werktag cal) t werktage) (M monate) ⌝ }
+{
+    let Step::Day(day) = day_after_werktage(t, werktage, cal) else {
+        return Step::Outside;
+    };
+    monate::months_or_first(day, monate)
+}
+
+impl VorlaufShape {
+    /// The verdict on a transmission day and an anchor. A date that it names is one of the calendar.
+    pub fn check(self, uebertragungstag: u32, anchor: u32, cal: HolidayCalendar) -> VorlaufVerdict
+        requires { ⌜ (uebertragungstag ≤ last) × (anchor ≤ last) ⌝ }
+        ensures { λ r. ⌜ (r ≡ checkOf (werktag cal) self uebertragungstag anchor) × insideVerdict r ⌝ }
+    {
+        let t = uebertragungstag;
+        match self {
+            VorlaufShape::LatestWerktageBefore(n) => latest_werktage_before(n, t, anchor, cal),
+            VorlaufShape::WindowWerktageBefore { earliest, latest } => {
+                window_werktage_before(earliest, latest, t, anchor, cal)
+            }
+            VorlaufShape::LatestWerktageAfter(n) => latest_werktage_after(n, t, anchor, cal),
+            VorlaufShape::EarliestWerktageAfter(n) => earliest_werktage_after(n, t, anchor, cal),
+            VorlaufShape::Korridor(n) => korridor(n, t, anchor, cal),
+            VorlaufShape::TagVorDemLetztenWerktagVor => tag_vor_dem_letzten_werktag_vor(
+                t,
+                anchor,
+                cal,
+            ),
+            VorlaufShape::LatestMonateBefore(n) => latest_monate_before(n, t, anchor, cal),
+            VorlaufShape::LatestMonateUndWerktageBefore { monate, werktage } => {
+                latest_monate_und_werktage_before(monate, werktage, t, anchor, cal)
+            }
+        }
+    }
+
+    /// The anchors that a transmission day may ask for. Its ends are days of the calendar.
+    ///
+    /// `LatestWerktageBefore(1)` from Saturday 10 January 2026: from Tuesday 13 January. `LatestMonateBefore(1)` from
+    /// 31 January 2026: from 1 March.
+    pub fn span(self, uebertragungstag: u32, cal: HolidayCalendar) -> Span
+        requires { ⌜ uebertragungstag ≤ last ⌝ }
+        ensures { λ r. ⌜ (r ≡ spanOf (werktag cal) self uebertragungstag) × insideSpan r ⌝ }
+    {
+        let t = uebertragungstag;
+        match self {
+            VorlaufShape::LatestWerktageBefore(n) => span_from(day_after_werktage(t, n, cal)),
+            VorlaufShape::WindowWerktageBefore { earliest, latest } => span_between(
+                day_after_werktage(t, latest, cal),
+                schritte::add_werktage(t, earliest, cal),
+            ),
+            VorlaufShape::LatestWerktageAfter(n) => span_from(schritte::sub_werktage(t, n, cal)),
+            VorlaufShape::EarliestWerktageAfter(n) => span_from(schritte::add_werktage(t, n, cal)),
+            VorlaufShape::Korridor(n) => span_between(
+                schritte::sub_werktage(t, n, cal),
+                schritte::add_werktage(t, n, cal),
+            ),
+            VorlaufShape::TagVorDemLetztenWerktagVor => span_from(after_first_werktag(t, cal)),
+            VorlaufShape::LatestMonateBefore(n) => span_from(monate::months_or_first(t, n)),
+            VorlaufShape::LatestMonateUndWerktageBefore { monate, werktage } => {
+                span_from(months_after_werktage(t, monate, werktage, cal))
+            }
+        }
+    }
+}

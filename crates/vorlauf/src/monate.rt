@@ -1,0 +1,57 @@
+// Months before and after a day given by its index, BGB §188.
+ghost use mathlib.Core.Path.{_≡_};
+ghost use Prim.Native.Nat.{_≤_};
+ghost use Rattle.zaehlung.specs.Walk.{last};
+ghost use Rattle.vorlauf.specs.Monate.{isDate, toStep, monthsLater, monthsEarlier, M};
+use datum::Date;
+use datum::Shifted;
+use zaehlung::Step;
+
+/// The index of the date that a shift reached.
+fn to_step(shifted: Shifted) -> Step
+    requires { ⌜ isDate shifted ⌝ }
+    ensures { λ r. ⌜ r ≡ toStep shifted ⌝ }
+{
+    match shifted {
+        Shifted::On(date) => Step::Day(datum::days_before(date)),
+        Shifted::Outside => Step::Outside,
+    }
+}
+
+/// `n` months later: 31 January 2026 and 1 month is 28 February 2026.
+pub fn months_later(day: u32, n: u32) -> Step
+    requires { ⌜ day ≤ last ⌝ }
+    ensures { λ r. ⌜ r ≡ monthsLater day n ⌝ }
+{
+    to_step(datum::add_months(datum::date_of(day), n))
+}
+
+/// `n` months earlier: 31 March 2024 less 1 month is 29 February 2024.
+pub fn months_earlier(day: u32, n: u32) -> Step
+    requires { ⌜ day ≤ last ⌝ }
+    ensures { λ r. ⌜ r ≡ monthsEarlier day n ⌝ }
+{
+    to_step(datum::subtract_months(datum::date_of(day), n))
+}
+
+/// M(n, day) of document 01: `n` months later, or, where the day was cut to the month's last, the first of the next month.
+///
+/// 31 January 2026 and 1 month is 1 March 2026, 28 January and 1 month 28 February.
+pub fn months_or_first(day: u32, n: u32) -> Step
+    requires { ⌜ day ≤ last ⌝ }
+    ensures { λ r. ⌜ r ≡ M n day ⌝ }
+{
+    let date = datum::date_of(day);
+    let Shifted::On(target) = datum::add_months(date, n) else {
+        return Step::Outside;
+    };
+    if date.day <= target.day {
+        return Step::Day(datum::days_before(target));
+    }
+    let first = Date {
+        year: target.year,
+        month: target.month,
+        day: 1,
+    };
+    to_step(datum::add_months(first, 1))
+}
