@@ -68,5 +68,5 @@ pub cases :
           ∷ instantAnswer 0 (pos 1768215600) 0
           ∷ [],
     )
-unfolding indexOf valid start at leap monthLen yearLen dateIn dateOf inMonth onMonth addMonths subtractMonths up down past first among add sub next W between easterSunday easterIndex any isFixed isBussUndBettag isEasterFeast isHoliday werktag readInstant readClock lastSunday yearAt offset berlinAt berlinMidnight endOfDayBerlin tagesbeginnUtc before later contrlSeconds inWindow toleratedIn tolerated contrlDueAt nthWerktagAt sameDayAt dueAt monthsLater monthsEarlier M dayAfter dayAfterNext checkOf spanOf kindAnswer dateAnswer instantAnswer verdictAnswer spanAnswer refusedWith
+unfolding indexOf valid start at leap monthLen yearLen dateIn dateOf inMonth onMonth addMonths subtractMonths up down past first among add sub next W between easterSunday easterIndex any isFixed isBussUndBettag isEasterFeast isHoliday werktag readInstant readClock lastSunday yearAt offset berlinAt berlinMidnight endOfDayBerlin tagesbeginnUtc before later contrlSeconds inWindow toleratedIn tolerated contrlDueAt nthWerktagAt sameDayAt dueAt monthsLater monthsEarlier M dayAfter dayAfterNext checkOf spanOf kindAnswer dateAnswer instantAnswer verdictAnswer spanAnswer refusedWith isWerktagAnswer addWerktageAnswer berlinAtAnswer tagesbeginnUtcAnswer contrlAnswer fristAnswer vorlaufCheckAnswer vorlaufSpanAnswer
 cases = refl

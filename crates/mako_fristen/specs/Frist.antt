@@ -23,39 +23,39 @@ use Rattle.antwortsatz.specs.Answers.{refusedWith}
 use Rattle.mako_fristen.specs.Reading.{onInstant, onClock}
 use Rattle.mako_fristen.specs.FristReading.{onAnlass, onShape, anlassOf, shapeOf, dueAnswer}
 
-abbrev pub contrlAnswer : Reading → ℕ → Answer
+unfoldable pub contrlAnswer : Reading → ℕ → Answer
 contrlAnswer k x = onAnlass (anlassOf x) (λ a. onInstant k (λ m. dueAnswer 0 (contrlDueAt m a)))
 
-abbrev pub aperakStromAnswer : Reading → Answer
+unfoldable pub aperakStromAnswer : Reading → Answer
 aperakStromAnswer k = onInstant k (λ m. dueAnswer 0 (aperakStromDueAt m))
 
-abbrev pub aperakStromAllgemeinAnswer : Reading → Answer
+unfoldable pub aperakStromAllgemeinAnswer : Reading → Answer
 aperakStromAllgemeinAnswer k = onInstant k (λ m. dueAnswer 0 (aperakStromAllgemeinDueAt m BdewMaKo))
 
-abbrev pub aperakGasFolgeprozessAnswer : Reading → Answer
+unfoldable pub aperakGasFolgeprozessAnswer : Reading → Answer
 aperakGasFolgeprozessAnswer k = onInstant k (λ m. dueAnswer 0 (aperakGasFolgeprozessDueAt m BdewMaKo))
 
-abbrev pub aperakGasInitialprozessAnswer : Reading → Answer
+unfoldable pub aperakGasInitialprozessAnswer : Reading → Answer
 aperakGasInitialprozessAnswer k = onInstant k (λ m. dueAnswer 1 (aperakGasInitialprozessDueAt m BdewMaKo))
 
-abbrev pub aperakGasAnswer : ℕ → Reading → Answer
+unfoldable pub aperakGasAnswer : ℕ → Reading → Answer
 aperakGasAnswer pid k = onInstant k (λ m. let g = aperakGasDueAt pid m BdewMaKo in dueAnswer (bit (g .initial)) (g .due))
 
-abbrev pub addHoursAnswer : Reading → ℕ → Answer
+unfoldable pub addHoursAnswer : Reading → ℕ → Answer
 addHoursAnswer k n = onInstant k (λ m. dueAnswer 0 (addHours m n))
 
-abbrev pub deadlineAtWerktageAnswer : Reading → ℕ → Answer
+unfoldable pub deadlineAtWerktageAnswer : Reading → ℕ → Answer
 deadlineAtWerktageAnswer k n = onInstant k (λ m. dueAnswer 0 (deadlineAtWerktage m n BdewMaKo))
 
-abbrev pub endOfWerktagAfterAnswer : Reading → ℕ → Answer
+unfoldable pub endOfWerktagAfterAnswer : Reading → ℕ → Answer
 endOfWerktagAfterAnswer k n = onInstant k (λ m. dueAnswer 0 (endOfWerktagAfter m n BdewMaKo))
 
-abbrev pub nextWerktagAtAnswer : Reading → ClockReading → Answer
+unfoldable pub nextWerktagAtAnswer : Reading → ClockReading → Answer
 nextWerktagAtAnswer k t = onInstant k (λ m. onClock t (λ c. dueAnswer 0 (nextWerktagAt m c BdewMaKo)))
 
-abbrev pub nthWerktagAtAnswer : Reading → ℕ → ClockReading → Answer
+unfoldable pub nthWerktagAtAnswer : Reading → ℕ → ClockReading → Answer
 nthWerktagAtAnswer k n t = onInstant k (λ m. onClock t (λ c. dueAnswer 0 (nthWerktagAt m n c BdewMaKo)))
 
-abbrev pub fristAnswer : ℕ → ℕ → ClockReading → Reading → Answer
+unfoldable pub fristAnswer : ℕ → ℕ → ClockReading → Reading → Answer
 fristAnswer x n t k =
     cond (ltb 3 x) (refusedWith 2) (onInstant k (λ m. onShape (shapeOf x n t) (λ f. dueAnswer 0 (dueAt f m BdewMaKo))))

@@ -17,23 +17,23 @@ use Rattle.antwortsatz.specs.declared.Answer.{Answer}
 use Rattle.antwortsatz.specs.Answers.{kindAnswer, countAnswer}
 use Rattle.mako_fristen.specs.Reading.{onDate, stepAnswer, shiftAnswer}
 
-abbrev pub isWerktagAnswer : Date → Answer
+unfoldable pub isWerktagAnswer : Date → Answer
 isWerktagAnswer d = onDate (indexOf d) (λ i. kindAnswer (bit (werktag BdewMaKo i)))
 
-abbrev pub nextWerktagAnswer : Date → Answer
+unfoldable pub nextWerktagAnswer : Date → Answer
 nextWerktagAnswer d = onDate (indexOf d) (λ i. stepAnswer (next (werktag BdewMaKo) i))
 
-abbrev pub addWerktageAnswer : Date → ℕ → Answer
+unfoldable pub addWerktageAnswer : Date → ℕ → Answer
 addWerktageAnswer d n = onDate (indexOf d) (λ i. stepAnswer (add (werktag BdewMaKo) i n))
 
-abbrev pub subWerktageAnswer : Date → ℕ → Answer
+unfoldable pub subWerktageAnswer : Date → ℕ → Answer
 subWerktageAnswer d n = onDate (indexOf d) (λ i. stepAnswer (sub (werktag BdewMaKo) i n))
 
-abbrev pub werktageBetweenAnswer : Date → Date → Answer
+unfoldable pub werktageBetweenAnswer : Date → Date → Answer
 werktageBetweenAnswer d e = onDate (indexOf d) (λ i. onDate (indexOf e) (λ j. countAnswer (between (werktag BdewMaKo) i j)))
 
-abbrev pub addMonthsAnswer : Date → ℕ → Answer
+unfoldable pub addMonthsAnswer : Date → ℕ → Answer
 addMonthsAnswer d n = onDate (indexOf d) (λ i. shiftAnswer (addMonths d n))
 
-abbrev pub subtractMonthsAnswer : Date → ℕ → Answer
+unfoldable pub subtractMonthsAnswer : Date → ℕ → Answer
 subtractMonthsAnswer d n = onDate (indexOf d) (λ i. shiftAnswer (subtractMonths d n))

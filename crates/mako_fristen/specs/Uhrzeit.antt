@@ -18,20 +18,20 @@ use Rattle.antwortsatz.specs.declared.Answer.{Answer}
 use Rattle.antwortsatz.specs.Answers.{dateAnswer}
 use Rattle.mako_fristen.specs.Reading.{onDate, onSparte, onInstant, onClock, sparteOf, momentAnswer, resolvedAnswer, beginnAnswer}
 
-abbrev pub berlinAtAnswer : Date → ClockReading → Answer
+unfoldable pub berlinAtAnswer : Date → ClockReading → Answer
 berlinAtAnswer d k = onDate (indexOf d) (λ i. onClock k (λ c. resolvedAnswer (berlinAt i c)))
 
-abbrev pub berlinMidnightAnswer : Date → Answer
+unfoldable pub berlinMidnightAnswer : Date → Answer
 berlinMidnightAnswer d = onDate (indexOf d) (λ i. momentAnswer 0 (berlinMidnight i))
 
-abbrev pub endOfDayBerlinAnswer : Date → Answer
+unfoldable pub endOfDayBerlinAnswer : Date → Answer
 endOfDayBerlinAnswer d = onDate (indexOf d) (λ i. momentAnswer 0 (endOfDayBerlin i))
 
-abbrev pub tagesbeginnUtcAnswer : Date → ℕ → Answer
+unfoldable pub tagesbeginnUtcAnswer : Date → ℕ → Answer
 tagesbeginnUtcAnswer d x = onSparte (sparteOf x) (λ p. onDate (indexOf d) (λ i. momentAnswer 0 (tagesbeginnUtc i p)))
 
-abbrev pub berlinDateAnswer : Reading → Answer
+unfoldable pub berlinDateAnswer : Reading → Answer
 berlinDateAnswer k = onInstant k (λ m. dateAnswer (dateOf (berlinDay (secondsOf m))))
 
-abbrev pub tagDesBeginnsAnswer : Reading → ℕ → Answer
+unfoldable pub tagDesBeginnsAnswer : Reading → ℕ → Answer
 tagDesBeginnsAnswer k x = onSparte (sparteOf x) (λ p. onInstant k (λ m. beginnAnswer (tagDesBeginns m p)))

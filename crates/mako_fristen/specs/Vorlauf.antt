@@ -118,27 +118,27 @@ abbrev pub onBeginn : Beginn → (ℕ → Answer) → Answer
 onBeginn (Begins i) f = f i
 onBeginn NoBeginning f = refusedWith 7
 
-abbrev pub vorlaufCheckAnswer : ℕ → ℕ → ℕ → Date → Date → Answer
+unfoldable pub vorlaufCheckAnswer : ℕ → ℕ → ℕ → Date → Date → Answer
 vorlaufCheckAnswer x n m d e =
     onVorlauf (shapeAt x n m) (λ s. onDate (indexOf d) (λ t. onDate (indexOf e) (λ a. verdict (checkOf (werktag BdewMaKo) s t a))))
 
 -- the transmission day is the Berlin day in both Sparten; only the anchor goes by the Sparte
-abbrev pub atInstants : VorlaufShape → Sparte → Reading → Reading → Answer
+unfoldable pub atInstants : VorlaufShape → Sparte → Reading → Reading → Answer
 atInstants s q k l =
     onInstant k (λ r. onInstant l (λ b. onBeginn (tagDesBeginns b q) (λ a. verdict (checkOf (werktag BdewMaKo) s (berlinDay (secondsOf r)) a))))
 
-abbrev pub vorlaufCheckAtAnswer : ℕ → ℕ → ℕ → ℕ → Reading → Reading → Answer
+unfoldable pub vorlaufCheckAtAnswer : ℕ → ℕ → ℕ → ℕ → Reading → Reading → Answer
 vorlaufCheckAtAnswer x n m p k l = onVorlauf (shapeAt x n m) (λ s. onSparte (sparteOf p) (λ q. atInstants s q k l))
 
-abbrev pub vorlaufSpanAnswer : ℕ → ℕ → ℕ → Date → Answer
+unfoldable pub vorlaufSpanAnswer : ℕ → ℕ → ℕ → Date → Answer
 vorlaufSpanAnswer x n m d = onVorlauf (shapeAt x n m) (λ s. onDate (indexOf d) (λ t. spanned (spanOf (werktag BdewMaKo) s t)))
 
-abbrev pub abmeldungFuerAnswer : List ℕ → ℕ → Answer
+unfoldable pub abmeldungFuerAnswer : List ℕ → ℕ → Answer
 abmeldungFuerAnswer b x = onEeg (eegOf x) (λ g. kindAnswer (caseCode (fuerOf b g)))
 
-abbrev pub abmeldungCheckAnswer : List ℕ → ℕ → Date → Date → Answer
+unfoldable pub abmeldungCheckAnswer : List ℕ → ℕ → Date → Date → Answer
 abmeldungCheckAnswer b x d e =
     onEeg (eegOf x) (λ g. onDate (indexOf d) (λ t. onDate (indexOf e) (λ a. abmeldung (abmeldungOf (werktag BdewMaKo) (fuerOf b g) t a))))
 
-abbrev pub eogAnswer : Reading → Date → Answer
+unfoldable pub eogAnswer : Reading → Date → Answer
 eogAnswer k d = onDate (indexOf d) (λ i. onInstant k (λ m. announced (eogAnkuendigung (werktag BdewMaKo) m i)))

@@ -1,6 +1,7 @@
 -- `mako_fristen::frist::contrl_due_at_answer` meets its contract: what is refused is refused in order, and the rest goes to the layer below.
 -- Assumes nothing.
 use Rattle.mako_fristen.proofs.FristRules.{frist-rules}
+use Rattle.mako_fristen.specs.Frist.{contrlAnswer}
 use borrow.Author.Needs.{needs}
 use Rattle.mako_fristen.proofs.frist.contrl_due_at_answer.Statement.{statement}
 use Rattle.mako_fristen.proofs.frist.contrl_due_at_answer.Tie as tie
@@ -18,6 +19,7 @@ refused-requires : tie.Need-refused-requires
 refused-requires c κs = search needs
 
 returns : tie.Need-returns
+unfolding contrlAnswer
 returns c = search (needs, frist-rules)
 
 enum-known-instant : tie.Need-enum-known-instant
@@ -30,6 +32,7 @@ refused-requires-2 : tie.Need-refused-requires-2
 refused-requires-2 c κs = search needs
 
 returns-2 : tie.Need-returns-2
+unfolding contrlAnswer
 returns-2 c = search (needs, frist-rules)
 
 contrl-due-at-requires : tie.Need-contrl-due-at-requires
@@ -39,6 +42,7 @@ due-answer-requires : tie.Need-due-answer-requires
 due-answer-requires c κs = search needs
 
 returns-3 : tie.Need-returns-3
+unfolding contrlAnswer
 returns-3 c = search (needs, frist-rules)
 
 pub contrl-due-at-answer-spec : {M : Type 1} → statement M

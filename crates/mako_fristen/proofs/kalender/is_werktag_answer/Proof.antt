@@ -1,6 +1,7 @@
 -- `mako_fristen::kalender::is_werktag_answer` meets its contract: a date that is none is refused, and one that is taken goes to the layer below.
 -- Assumes nothing.
 use Rattle.mako_fristen.proofs.Rules.{answer-rules}
+use Rattle.mako_fristen.specs.Kalender.{isWerktagAnswer}
 use borrow.Author.Needs.{needs}
 use Rattle.mako_fristen.proofs.kalender.is_werktag_answer.Statement.{statement}
 use Rattle.mako_fristen.proofs.kalender.is_werktag_answer.Tie as tie
@@ -18,6 +19,7 @@ refused-requires : tie.Need-refused-requires
 refused-requires c κs = search needs
 
 returns : tie.Need-returns
+unfolding isWerktagAnswer
 returns c = search (needs, answer-rules)
 
 is-werktag-requires : tie.Need-is-werktag-requires
@@ -27,12 +29,14 @@ of-kind-requires : tie.Need-of-kind-requires
 of-kind-requires c κs = search needs
 
 returns-2 : tie.Need-returns-2
+unfolding isWerktagAnswer
 returns-2 c = search (needs, answer-rules)
 
 of-kind-requires-2 : tie.Need-of-kind-requires-2
 of-kind-requires-2 c κs = search needs
 
 returns-3 : tie.Need-returns-3
+unfolding isWerktagAnswer
 returns-3 c = search (needs, answer-rules)
 
 pub is-werktag-answer-spec : {M : Type 1} → statement M

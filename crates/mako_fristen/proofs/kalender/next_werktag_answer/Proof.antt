@@ -1,6 +1,7 @@
 -- `mako_fristen::kalender::next_werktag_answer` meets its contract: a date that is none is refused, and one that is taken goes to the layer below.
 -- Assumes nothing.
 use Rattle.mako_fristen.proofs.Rules.{answer-rules}
+use Rattle.mako_fristen.specs.Kalender.{nextWerktagAnswer}
 use borrow.Author.Needs.{needs}
 use Rattle.mako_fristen.proofs.kalender.next_werktag_answer.Statement.{statement}
 use Rattle.mako_fristen.proofs.kalender.next_werktag_answer.Tie as tie
@@ -18,6 +19,7 @@ refused-requires : tie.Need-refused-requires
 refused-requires c κs = search needs
 
 returns : tie.Need-returns
+unfolding nextWerktagAnswer
 returns c = search (needs, answer-rules)
 
 next-werktag-requires : tie.Need-next-werktag-requires
@@ -27,6 +29,7 @@ step-answer-requires : tie.Need-step-answer-requires
 step-answer-requires c κs = search (needs, answer-rules)
 
 returns-2 : tie.Need-returns-2
+unfolding nextWerktagAnswer
 returns-2 c = search (needs, answer-rules)
 
 pub next-werktag-answer-spec : {M : Type 1} → statement M

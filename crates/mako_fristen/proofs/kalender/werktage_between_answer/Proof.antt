@@ -1,6 +1,7 @@
 -- `mako_fristen::kalender::werktage_between_answer` meets its contract: a date that is none is refused, and one that is taken goes to the layer below.
 -- Assumes nothing.
 use Rattle.mako_fristen.proofs.Rules.{answer-rules}
+use Rattle.mako_fristen.specs.Kalender.{werktageBetweenAnswer}
 use borrow.Author.Needs.{needs}
 use Rattle.mako_fristen.proofs.kalender.werktage_between_answer.Statement.{statement}
 use Rattle.mako_fristen.proofs.kalender.werktage_between_answer.Tie as tie
@@ -18,6 +19,7 @@ refused-requires : tie.Need-refused-requires
 refused-requires c κs = search needs
 
 returns : tie.Need-returns
+unfolding werktageBetweenAnswer
 returns c = search (needs, answer-rules)
 
 index-of-requires-2 : tie.Need-index-of-requires-2
@@ -33,6 +35,7 @@ refused-requires-2 : tie.Need-refused-requires-2
 refused-requires-2 c κs = search needs
 
 returns-2 : tie.Need-returns-2
+unfolding werktageBetweenAnswer
 returns-2 c = search (needs, answer-rules)
 
 werktage-between-requires : tie.Need-werktage-between-requires
@@ -42,6 +45,7 @@ counted-requires : tie.Need-counted-requires
 counted-requires c κs = search needs
 
 returns-3 : tie.Need-returns-3
+unfolding werktageBetweenAnswer
 returns-3 c = search (needs, answer-rules)
 
 pub werktage-between-answer-spec : {M : Type 1} → statement M

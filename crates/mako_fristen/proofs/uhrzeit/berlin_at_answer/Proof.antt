@@ -1,6 +1,7 @@
 -- `mako_fristen::uhrzeit::berlin_at_answer` meets its contract: what is refused is refused in order, and the rest goes to the layer below.
 -- Assumes nothing.
 use Rattle.mako_fristen.proofs.Rules.{uhrzeit-rules}
+use Rattle.mako_fristen.specs.Uhrzeit.{berlinAtAnswer}
 use borrow.Author.Needs.{needs}
 use Rattle.mako_fristen.proofs.uhrzeit.berlin_at_answer.Statement.{statement}
 use Rattle.mako_fristen.proofs.uhrzeit.berlin_at_answer.Tie as tie
@@ -18,6 +19,7 @@ refused-requires : tie.Need-refused-requires
 refused-requires c κs = search needs
 
 returns : tie.Need-returns
+unfolding berlinAtAnswer
 returns c = search (needs, uhrzeit-rules)
 
 enum-known-clock : tie.Need-enum-known-clock
@@ -30,6 +32,7 @@ refused-requires-2 : tie.Need-refused-requires-2
 refused-requires-2 c κs = search needs
 
 returns-2 : tie.Need-returns-2
+unfolding berlinAtAnswer
 returns-2 c = search (needs, uhrzeit-rules)
 
 berlin-at-requires : tie.Need-berlin-at-requires
@@ -39,6 +42,7 @@ resolved-answer-requires : tie.Need-resolved-answer-requires
 resolved-answer-requires c κs = search (needs, uhrzeit-rules)
 
 returns-3 : tie.Need-returns-3
+unfolding berlinAtAnswer
 returns-3 c = search (needs, uhrzeit-rules)
 
 pub berlin-at-answer-spec : {M : Type 1} → statement M

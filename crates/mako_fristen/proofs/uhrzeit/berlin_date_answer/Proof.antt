@@ -1,6 +1,7 @@
 -- `mako_fristen::uhrzeit::berlin_date_answer` meets its contract: what is refused is refused in order, and the rest goes to the layer below.
 -- Assumes nothing.
 use Rattle.mako_fristen.proofs.Rules.{uhrzeit-rules}
+use Rattle.mako_fristen.specs.Uhrzeit.{berlinDateAnswer}
 use borrow.Author.Needs.{needs}
 use Rattle.mako_fristen.proofs.uhrzeit.berlin_date_answer.Statement.{statement}
 use Rattle.mako_fristen.proofs.uhrzeit.berlin_date_answer.Tie as tie
@@ -15,6 +16,7 @@ refused-requires : tie.Need-refused-requires
 refused-requires c κs = search needs
 
 returns : tie.Need-returns
+unfolding berlinDateAnswer
 returns c = search (needs, uhrzeit-rules)
 
 berlin-date-requires : tie.Need-berlin-date-requires
@@ -27,6 +29,7 @@ dated-requires : tie.Need-dated-requires
 dated-requires c κs = search needs
 
 returns-2 : tie.Need-returns-2
+unfolding berlinDateAnswer
 returns-2 c = search (needs, uhrzeit-rules)
 
 pub berlin-date-answer-spec : {M : Type 1} → statement M

@@ -1,6 +1,7 @@
 -- `mako_fristen::uhrzeit::tag_des_beginns_answer` meets its contract: what is refused is refused in order, and the rest goes to the layer below.
 -- Assumes nothing.
 use Rattle.mako_fristen.proofs.Rules.{uhrzeit-rules}
+use Rattle.mako_fristen.specs.Uhrzeit.{tagDesBeginnsAnswer}
 use borrow.Author.Needs.{needs}
 use Rattle.mako_fristen.proofs.uhrzeit.tag_des_beginns_answer.Statement.{statement}
 use Rattle.mako_fristen.proofs.uhrzeit.tag_des_beginns_answer.Tie as tie
@@ -18,6 +19,7 @@ refused-requires : tie.Need-refused-requires
 refused-requires c κs = search needs
 
 returns : tie.Need-returns
+unfolding tagDesBeginnsAnswer
 returns c = search (needs, uhrzeit-rules)
 
 enum-known-instant : tie.Need-enum-known-instant
@@ -30,6 +32,7 @@ refused-requires-2 : tie.Need-refused-requires-2
 refused-requires-2 c κs = search needs
 
 returns-2 : tie.Need-returns-2
+unfolding tagDesBeginnsAnswer
 returns-2 c = search (needs, uhrzeit-rules)
 
 tag-des-beginns-requires : tie.Need-tag-des-beginns-requires
@@ -39,6 +42,7 @@ beginn-answer-requires : tie.Need-beginn-answer-requires
 beginn-answer-requires c κs = search (needs, uhrzeit-rules)
 
 returns-3 : tie.Need-returns-3
+unfolding tagDesBeginnsAnswer
 returns-3 c = search (needs, uhrzeit-rules)
 
 pub tag-des-beginns-answer-spec : {M : Type 1} → statement M

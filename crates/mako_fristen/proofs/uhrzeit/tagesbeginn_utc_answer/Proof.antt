@@ -1,6 +1,7 @@
 -- `mako_fristen::uhrzeit::tagesbeginn_utc_answer` meets its contract: what is refused is refused in order, and the rest goes to the layer below.
 -- Assumes nothing.
 use Rattle.mako_fristen.proofs.Rules.{uhrzeit-rules}
+use Rattle.mako_fristen.specs.Uhrzeit.{tagesbeginnUtcAnswer}
 use borrow.Author.Needs.{needs}
 use Rattle.mako_fristen.proofs.uhrzeit.tagesbeginn_utc_answer.Statement.{statement}
 use Rattle.mako_fristen.proofs.uhrzeit.tagesbeginn_utc_answer.Tie as tie
@@ -18,6 +19,7 @@ refused-requires : tie.Need-refused-requires
 refused-requires c κs = search needs
 
 returns : tie.Need-returns
+unfolding tagesbeginnUtcAnswer
 returns c = search (needs, uhrzeit-rules)
 
 index-of-requires : tie.Need-index-of-requires
@@ -33,6 +35,7 @@ refused-requires-2 : tie.Need-refused-requires-2
 refused-requires-2 c κs = search needs
 
 returns-2 : tie.Need-returns-2
+unfolding tagesbeginnUtcAnswer
 returns-2 c = search (needs, uhrzeit-rules)
 
 tagesbeginn-utc-requires : tie.Need-tagesbeginn-utc-requires
@@ -42,6 +45,7 @@ moment-answer-requires : tie.Need-moment-answer-requires
 moment-answer-requires c κs = search (needs, uhrzeit-rules)
 
 returns-3 : tie.Need-returns-3
+unfolding tagesbeginnUtcAnswer
 returns-3 c = search (needs, uhrzeit-rules)
 
 pub tagesbeginn-utc-answer-spec : {M : Type 1} → statement M

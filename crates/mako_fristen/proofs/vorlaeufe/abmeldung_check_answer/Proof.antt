@@ -1,6 +1,7 @@
 -- `mako_fristen::vorlaeufe::abmeldung_check_answer` meets its contract: what is refused is refused in order, and the rest goes to the layer below.
 -- Assumes nothing.
 use Rattle.mako_fristen.proofs.VorlaufRules.{fuer-rules}
+use Rattle.mako_fristen.specs.Vorlauf.{abmeldungCheckAnswer}
 use borrow.Author.Needs.{needs}
 use Rattle.mako_fristen.proofs.vorlaeufe.abmeldung_check_answer.Statement.{statement}
 use Rattle.mako_fristen.proofs.vorlaeufe.abmeldung_check_answer.Tie as tie
@@ -18,6 +19,7 @@ refused-requires : tie.Need-refused-requires
 refused-requires c κs = search needs
 
 returns : tie.Need-returns
+unfolding abmeldungCheckAnswer
 returns c = search (needs, fuer-rules)
 
 index-of-requires : tie.Need-index-of-requires
@@ -33,6 +35,7 @@ refused-requires-2 : tie.Need-refused-requires-2
 refused-requires-2 c κs = search needs
 
 returns-2 : tie.Need-returns-2
+unfolding abmeldungCheckAnswer
 returns-2 c = search (needs, fuer-rules)
 
 index-of-requires-2 : tie.Need-index-of-requires-2
@@ -48,6 +51,7 @@ refused-requires-3 : tie.Need-refused-requires-3
 refused-requires-3 c κs = search needs
 
 returns-3 : tie.Need-returns-3
+unfolding abmeldungCheckAnswer
 returns-3 c = search (needs, fuer-rules)
 
 fuer-requires : tie.Need-fuer-requires
@@ -60,6 +64,7 @@ abmeldung-answer-requires : tie.Need-abmeldung-answer-requires
 abmeldung-answer-requires c κs = search needs
 
 returns-4 : tie.Need-returns-4
+unfolding abmeldungCheckAnswer
 returns-4 c = search (needs, fuer-rules)
 
 pub abmeldung-check-answer-spec : {M : Type 1} → statement M

@@ -1,6 +1,7 @@
 -- `mako_fristen::vorlaeufe::abmeldung_fuer_answer` meets its contract: what is refused is refused in order, and the rest goes to the layer below.
 -- Assumes nothing.
 use Rattle.mako_fristen.proofs.VorlaufRules.{fuer-rules}
+use Rattle.mako_fristen.specs.Vorlauf.{abmeldungFuerAnswer}
 use borrow.Author.Needs.{needs}
 use Rattle.mako_fristen.proofs.vorlaeufe.abmeldung_fuer_answer.Statement.{statement}
 use Rattle.mako_fristen.proofs.vorlaeufe.abmeldung_fuer_answer.Tie as tie
@@ -18,6 +19,7 @@ refused-requires : tie.Need-refused-requires
 refused-requires c κs = search needs
 
 returns : tie.Need-returns
+unfolding abmeldungFuerAnswer
 returns c = search (needs, fuer-rules)
 
 fuer-requires : tie.Need-fuer-requires
@@ -30,6 +32,7 @@ of-kind-requires : tie.Need-of-kind-requires
 of-kind-requires c κs = search needs
 
 returns-2 : tie.Need-returns-2
+unfolding abmeldungFuerAnswer
 returns-2 c = search (needs, fuer-rules)
 
 pub abmeldung-fuer-answer-spec : {M : Type 1} → statement M

@@ -1,6 +1,7 @@
 -- `mako_fristen::vorlaeufe::eog_answer` meets its contract: what is refused is refused in order, and the rest goes to the layer below.
 -- Assumes nothing.
 use Rattle.mako_fristen.proofs.VorlaufRules.{eog-rules}
+use Rattle.mako_fristen.specs.Vorlauf.{eogAnswer}
 use borrow.Author.Needs.{needs}
 use Rattle.mako_fristen.proofs.vorlaeufe.eog_answer.Statement.{statement}
 use Rattle.mako_fristen.proofs.vorlaeufe.eog_answer.Tie as tie
@@ -18,6 +19,7 @@ refused-requires : tie.Need-refused-requires
 refused-requires c κs = search needs
 
 returns : tie.Need-returns
+unfolding eogAnswer
 returns c = search (needs, eog-rules)
 
 enum-known-instant : tie.Need-enum-known-instant
@@ -30,6 +32,7 @@ refused-requires-2 : tie.Need-refused-requires-2
 refused-requires-2 c κs = search needs
 
 returns-2 : tie.Need-returns-2
+unfolding eogAnswer
 returns-2 c = search (needs, eog-rules)
 
 eog-ankuendigung-fristgerecht-requires : tie.Need-eog-ankuendigung-fristgerecht-requires
@@ -39,6 +42,7 @@ announced-answer-requires : tie.Need-announced-answer-requires
 announced-answer-requires c κs = search needs
 
 returns-3 : tie.Need-returns-3
+unfolding eogAnswer
 returns-3 c = search (needs, eog-rules)
 
 pub eog-answer-spec : {M : Type 1} → statement M

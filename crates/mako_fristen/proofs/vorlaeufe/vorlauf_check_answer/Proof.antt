@@ -1,6 +1,7 @@
 -- `mako_fristen::vorlaeufe::vorlauf_check_answer` meets its contract: what is refused is refused in order, and the rest goes to the layer below.
 -- Assumes nothing.
 use Rattle.mako_fristen.proofs.VorlaufRules.{vorlauf-rules}
+use Rattle.mako_fristen.specs.Vorlauf.{vorlaufCheckAnswer}
 use borrow.Author.Needs.{needs}
 use Rattle.mako_fristen.proofs.vorlaeufe.vorlauf_check_answer.Statement.{statement}
 use Rattle.mako_fristen.proofs.vorlaeufe.vorlauf_check_answer.Tie as tie
@@ -18,6 +19,7 @@ refused-requires : tie.Need-refused-requires
 refused-requires c κs = search needs
 
 returns : tie.Need-returns
+unfolding vorlaufCheckAnswer
 returns c = search (needs, vorlauf-rules)
 
 index-of-requires : tie.Need-index-of-requires
@@ -33,6 +35,7 @@ refused-requires-2 : tie.Need-refused-requires-2
 refused-requires-2 c κs = search needs
 
 returns-2 : tie.Need-returns-2
+unfolding vorlaufCheckAnswer
 returns-2 c = search (needs, vorlauf-rules)
 
 index-of-requires-2 : tie.Need-index-of-requires-2
@@ -48,6 +51,7 @@ refused-requires-3 : tie.Need-refused-requires-3
 refused-requires-3 c κs = search needs
 
 returns-3 : tie.Need-returns-3
+unfolding vorlaufCheckAnswer
 returns-3 c = search (needs, vorlauf-rules)
 
 check-requires : tie.Need-check-requires
@@ -57,6 +61,7 @@ verdict-answer-requires : tie.Need-verdict-answer-requires
 verdict-answer-requires c κs = search needs
 
 returns-4 : tie.Need-returns-4
+unfolding vorlaufCheckAnswer
 returns-4 c = search (needs, vorlauf-rules)
 
 pub vorlauf-check-answer-spec : {M : Type 1} → statement M

@@ -1,6 +1,7 @@
 -- `mako_fristen::vorlaeufe::vorlauf_check_at_answer` meets its contract: what is refused is refused in order, and the rest goes to the layer below.
 -- Assumes nothing.
 use Rattle.mako_fristen.proofs.VorlaufRules.{check-at-rules}
+use Rattle.mako_fristen.specs.Vorlauf.{vorlaufCheckAtAnswer}
 use borrow.Author.Needs.{needs}
 use Rattle.mako_fristen.proofs.vorlaeufe.vorlauf_check_at_answer.Statement.{statement}
 use Rattle.mako_fristen.proofs.vorlaeufe.vorlauf_check_at_answer.Tie as tie
@@ -18,6 +19,7 @@ refused-requires : tie.Need-refused-requires
 refused-requires c κs = search needs
 
 returns : tie.Need-returns
+unfolding vorlaufCheckAtAnswer
 returns c = search (needs, check-at-rules)
 
 sparte-of-requires : tie.Need-sparte-of-requires
@@ -33,12 +35,14 @@ refused-requires-2 : tie.Need-refused-requires-2
 refused-requires-2 c κs = search needs
 
 returns-2 : tie.Need-returns-2
+unfolding vorlaufCheckAtAnswer
 returns-2 c = search (needs, check-at-rules)
 
 check-at-instants-requires : tie.Need-check-at-instants-requires
 check-at-instants-requires c κs = search needs
 
 returns-3 : tie.Need-returns-3
+unfolding vorlaufCheckAtAnswer
 returns-3 c = search (needs, check-at-rules)
 
 pub vorlauf-check-at-answer-spec : {M : Type 1} → statement M

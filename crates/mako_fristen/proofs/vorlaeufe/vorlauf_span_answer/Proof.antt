@@ -1,6 +1,7 @@
 -- `mako_fristen::vorlaeufe::vorlauf_span_answer` meets its contract: what is refused is refused in order, and the rest goes to the layer below.
 -- Assumes nothing.
 use Rattle.mako_fristen.proofs.VorlaufRules.{vorlauf-rules}
+use Rattle.mako_fristen.specs.Vorlauf.{vorlaufSpanAnswer}
 use borrow.Author.Needs.{needs}
 use Rattle.mako_fristen.proofs.vorlaeufe.vorlauf_span_answer.Statement.{statement}
 use Rattle.mako_fristen.proofs.vorlaeufe.vorlauf_span_answer.Tie as tie
@@ -18,6 +19,7 @@ refused-requires : tie.Need-refused-requires
 refused-requires c κs = search needs
 
 returns : tie.Need-returns
+unfolding vorlaufSpanAnswer
 returns c = search (needs, vorlauf-rules)
 
 index-of-requires : tie.Need-index-of-requires
@@ -33,6 +35,7 @@ refused-requires-2 : tie.Need-refused-requires-2
 refused-requires-2 c κs = search needs
 
 returns-2 : tie.Need-returns-2
+unfolding vorlaufSpanAnswer
 returns-2 c = search (needs, vorlauf-rules)
 
 span-requires : tie.Need-span-requires
@@ -42,6 +45,7 @@ span-answer-requires : tie.Need-span-answer-requires
 span-answer-requires c κs = search needs
 
 returns-3 : tie.Need-returns-3
+unfolding vorlaufSpanAnswer
 returns-3 c = search (needs, vorlauf-rules)
 
 pub vorlauf-span-answer-spec : {M : Type 1} → statement M
