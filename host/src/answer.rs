@@ -62,6 +62,19 @@ impl Answer {
         Date::from_bytes(self.field(LAST_DATE))
     }
 
+    /// The answer of a call to which 32 bytes are lent, unless it refuses.
+    ///
+    /// # Errors
+    ///
+    /// The refusal whose number the call returned.
+    pub fn of(call: impl FnOnce(&mut [u8]) -> u8) -> Result<Answer, Refusal> {
+        let mut bytes = [0; Answer::LEN];
+        match Refusal::of_number(call(&mut bytes)) {
+            Some(refusal) => Err(refusal),
+            None => Ok(Answer::from_bytes(bytes)),
+        }
+    }
+
     /// A refusal's answer: its number, and nothing else.
     #[must_use]
     pub fn refused(refusal: Refusal) -> Answer {

@@ -1,7 +1,7 @@
 //! The host calls by name and parameters. A new call is a new row of `calls!`, with the parameters
 //! that docs/host-calls.md gives; its number is its place there.
 
-use crate::{ffi, ContrlAnlass, FristShape, Question, Sparte};
+use crate::{ffi, ContrlAnlass, Eeg, FristShape, Question, Sparte, VorlaufShape};
 
 /// What a call takes before its answer.
 #[derive(Clone, Copy, Debug, PartialEq, Eq, Hash)]
@@ -10,12 +10,19 @@ pub enum Parameter {
     SecondDate,
     /// Werktage, months or hours.
     Count,
+    SecondCount,
     Pid,
     Instant,
+    SecondInstant,
     Clock,
     Anlass,
     Sparte,
+    /// The Sparte of a call whose first code is a shape.
+    SecondSparte,
     Shape,
+    VorlaufShape,
+    Eeg,
+    Reason,
 }
 
 impl Parameter {
@@ -24,8 +31,10 @@ impl Parameter {
     pub const fn codes(self) -> Option<u8> {
         match self {
             Parameter::Anlass => Some(ContrlAnlass::ALL.len() as u8),
-            Parameter::Sparte => Some(Sparte::ALL.len() as u8),
+            Parameter::Sparte | Parameter::SecondSparte => Some(Sparte::ALL.len() as u8),
             Parameter::Shape => Some(FristShape::CODES),
+            Parameter::VorlaufShape => Some(VorlaufShape::CODES),
+            Parameter::Eeg => Some(Eeg::ALL.len() as u8),
             _ => None,
         }
     }
@@ -45,6 +54,9 @@ macro_rules! put {
     ($name:ident $q:ident $answer:ident [$($number:expr,)*] Instant $($rest:ident)*) => {
         put!($name $q $answer [$($number,)* $q.instant.seconds, $q.instant.nanos,] $($rest)*)
     };
+    ($name:ident $q:ident $answer:ident [$($number:expr,)*] SecondInstant $($rest:ident)*) => {
+        put!($name $q $answer [$($number,)* $q.instant2.seconds, $q.instant2.nanos,] $($rest)*)
+    };
     ($name:ident $q:ident $answer:ident [$($number:expr,)*] Clock $($rest:ident)*) => {
         put!($name $q $answer [
             $($number,)* $q.clock.hour, $q.clock.minute, $q.clock.second, $q.clock.nanos,
@@ -53,8 +65,17 @@ macro_rules! put {
     ($name:ident $q:ident $answer:ident [$($number:expr,)*] Count $($rest:ident)*) => {
         put!($name $q $answer [$($number,)* $q.n,] $($rest)*)
     };
+    ($name:ident $q:ident $answer:ident [$($number:expr,)*] SecondCount $($rest:ident)*) => {
+        put!($name $q $answer [$($number,)* $q.n2,] $($rest)*)
+    };
     ($name:ident $q:ident $answer:ident [$($number:expr,)*] Pid $($rest:ident)*) => {
         put!($name $q $answer [$($number,)* $q.n,] $($rest)*)
+    };
+    ($name:ident $q:ident $answer:ident [$($number:expr,)*] Reason $($rest:ident)*) => {
+        put!($name $q $answer [$($number,)* $q.reason.as_bytes(),] $($rest)*)
+    };
+    ($name:ident $q:ident $answer:ident [$($number:expr,)*] SecondSparte $($rest:ident)*) => {
+        put!($name $q $answer [$($number,)* $q.code2,] $($rest)*)
     };
     ($name:ident $q:ident $answer:ident [$($number:expr,)*] $code:ident $($rest:ident)*) => {
         put!($name $q $answer [$($number,)* $q.code,] $($rest)*)
@@ -122,6 +143,14 @@ calls! {
     NextWerktagAt mf_next_werktag_at(Instant, Clock);
     NthWerktagAt mf_nth_werktag_at(Instant, Count, Clock);
     FristDueAt mf_frist_due_at(Shape, Count, Clock, Instant);
+    VorlaufCheck mf_vorlauf_check(VorlaufShape, Count, SecondCount, Date, SecondDate);
+    VorlaufCheckAt mf_vorlauf_check_at(
+        VorlaufShape, Count, SecondCount, Instant, SecondInstant, SecondSparte
+    );
+    VorlaufSpan mf_vorlauf_span(VorlaufShape, Count, SecondCount, Date);
+    AbmeldungFuer mf_abmeldung_fuer(Reason, Eeg);
+    AbmeldungCheck mf_abmeldung_check(Reason, Eeg, Date, SecondDate);
+    EogAnkuendigungFristgerecht mf_eog_ankuendigung_fristgerecht(Instant, Date);
 }
 
 impl Call {
@@ -135,7 +164,7 @@ impl Call {
         self.parameters().contains(&parameter)
     }
 
-    /// How many codes the call knows; none if it takes no code.
+    /// How many codes the call knows for its first code; none if it takes no code.
     #[must_use]
     pub fn codes(self) -> Option<u8> {
         self.parameters().iter().find_map(|parameter| parameter.codes())

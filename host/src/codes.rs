@@ -40,3 +40,21 @@ impl Sparte {
         self as u8
     }
 }
+
+/// Whether a Marktlokation or Tranche is one of the EEG.
+#[derive(Clone, Copy, Debug, PartialEq, Eq, Hash)]
+#[repr(u8)]
+pub enum Eeg {
+    No,
+    Yes,
+    Unknown,
+}
+
+impl Eeg {
+    pub const ALL: [Eeg; 3] = [Eeg::No, Eeg::Yes, Eeg::Unknown];
+
+    #[must_use]
+    pub const fn code(self) -> u8 {
+        self as u8
+    }
+}

@@ -1,25 +1,35 @@
 //! The host calls as C declares them, one row each, and a function over each that lends a slice.
 //!
 //! This is the only module with `unsafe`. A new call is a new row of `calls!`, with the parameters
-//! that docs/host-calls.md gives before `answer`.
+//! that docs/host-calls.md gives before `answer`; `&reason` stands for a slice, which C sees as a
+//! pointer and a length.
 
 #![allow(unsafe_code)]
 // The parameters of a call are the paper's: two dates are six, a clock and an instant as well.
 #![allow(clippy::too_many_arguments)]
 
 macro_rules! calls {
-    ($($call:ident($($parameter:ident: $number:ty),+);)+) => {
+    ($($call:ident($(&$slice:ident,)? $($parameter:ident: $number:ty),+);)+) => {
         mod c {
             extern "C" {
-                $(pub fn $call($($parameter: $number,)+ answer: *mut u8, len: usize) -> u8;)+
+                $(pub fn $call(
+                    $($slice: *const u8, _: usize,)? $($parameter: $number,)+
+                    answer: *mut u8, len: usize
+                ) -> u8;)+
             }
         }
         $(
             /// Lends `answer`, of any length, to the call of this name; returns its number.
-            pub fn $call($($parameter: $number,)+ answer: &mut [u8]) -> u8 {
-                // SAFETY: the pointer and the length are one slice's, lent for the call alone. The
-                // call is proved to write nothing beyond it and to demand nothing of its caller.
-                unsafe { c::$call($($parameter,)+ answer.as_mut_ptr(), answer.len()) }
+            pub fn $call($($slice: &[u8],)? $($parameter: $number,)+ answer: &mut [u8]) -> u8 {
+                // SAFETY: a pointer and its length are one slice's, lent for the call alone. The
+                // call is proved to write nothing beyond `answer` and to demand nothing of its
+                // caller.
+                unsafe {
+                    c::$call(
+                        $($slice.as_ptr(), $slice.len(),)? $($parameter,)+
+                        answer.as_mut_ptr(), answer.len()
+                    )
+                }
             }
         )+
     };
@@ -64,4 +74,19 @@ calls! {
         hour: u8, minute: u8, second: u8, nanos_of_second: u32,
         seconds: i64, nanos: u32
     );
+    mf_vorlauf_check(
+        shape: u8, count: u32, count2: u32,
+        year: u16, month: u8, day: u8, year2: u16, month2: u8, day2: u8
+    );
+    mf_vorlauf_check_at(
+        shape: u8, count: u32, count2: u32,
+        seconds: i64, nanos: u32, seconds2: i64, nanos2: u32, sparte: u8
+    );
+    mf_vorlauf_span(shape: u8, count: u32, count2: u32, year: u16, month: u8, day: u8);
+    mf_abmeldung_fuer(&reason, eeg: u8);
+    mf_abmeldung_check(
+        &reason, eeg: u8,
+        year: u16, month: u8, day: u8, year2: u16, month2: u8, day2: u8
+    );
+    mf_eog_ankuendigung_fristgerecht(seconds: i64, nanos: u32, year: u16, month: u8, day: u8);
 }

@@ -14,6 +14,10 @@
 //! | *When is an APERAK due?* | [`aperak_strom_due_at`], [`aperak_strom_allgemein_due_at`], [`aperak_gas_due_at`], [`aperak_gas_folgeprozess_due_at`], [`aperak_gas_initialprozess_due_at`] |
 //! | *When is an answer due?* | [`FristShape::due_at`] |
 //! | *Which instant is n hours or Werktage later?* | [`add_hours`], [`deadline_at_werktage`], [`end_of_werktag_after`], [`next_werktag_at`], [`nth_werktag_at`] |
+//! | *Was a message sent in time for the date it carries?* | [`VorlaufShape::check`], [`VorlaufShape::check_at`] |
+//! | *Which dates may a message of a day carry?* | [`VorlaufShape::span`] |
+//! | *Which Vorlauffrist has a deregistration, and was it kept?* | [`AbmeldungVorlauf::fuer`], [`AbmeldungVorlauf::check`] |
+//! | *Did the 13:00 announcement come in time?* | [`eog_ankuendigung_fristgerecht`] |
 //!
 //! A call answers, or refuses with one of the numbers of document 01, which [`Refusal`] names.
 //! No input makes a function of this crate panic. [`Question`] puts any call as a value, and
@@ -21,6 +25,7 @@
 
 #![deny(unsafe_code)]
 
+mod abmeldung;
 mod answer;
 mod berlin;
 mod call;
@@ -32,15 +37,18 @@ mod fristen;
 mod instant;
 mod kalender;
 mod question;
+mod reason;
 mod refusal;
+mod vorlauf;
 
+pub use abmeldung::AbmeldungVorlauf;
 pub use answer::Answer;
 pub use berlin::{
     berlin_at, berlin_date, berlin_midnight, end_of_day_berlin, tag_des_beginns, tagesbeginn_utc,
 };
 pub use call::{Call, Parameter};
 pub use clock::Clock;
-pub use codes::{ContrlAnlass, Sparte};
+pub use codes::{ContrlAnlass, Eeg, Sparte};
 pub use date::Date;
 pub use fristen::{
     add_hours, aperak_gas_due_at, aperak_gas_folgeprozess_due_at, aperak_gas_initialprozess_due_at,
@@ -53,4 +61,6 @@ pub use kalender::{
     werktage_between,
 };
 pub use question::Question;
+pub use reason::Reason;
 pub use refusal::Refusal;
+pub use vorlauf::{eog_ankuendigung_fristgerecht, Span, VorlaufShape, VorlaufVerdict};

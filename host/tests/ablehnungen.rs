@@ -1,6 +1,8 @@
 //! Refusals: which, in which order, and what they leave in the slice.
 
-use mako_fristen_host::{Answer, Call, Clock, Date, Instant, Parameter, Question, Refusal};
+use mako_fristen_host::{
+    Answer, Call, Clock, Date, Instant, Parameter, Question, Reason, Refusal, VorlaufShape,
+};
 
 const GUARD: usize = 40;
 const LONGEST: usize = 70;
@@ -33,41 +35,60 @@ fn no_dates() -> impl Iterator<Item = Date> {
     NO_DATES.into_iter().map(|(year, month, day)| Date::new(year, month, day))
 }
 
-/// The call with something good in every place. The instant is 2 April 2026, 00:00 in Berlin, which
-/// begins a day of Strom, and the shape has a clock.
+/// The call with something good in every place. The instants are 2 and 7 April 2026, 00:00 in
+/// Berlin, which begin a day of Strom; the shape of an answer has a clock, that of a verdict two
+/// counts.
 fn ordinary(call: Call) -> Question {
+    let window = VorlaufShape::WindowWerktageBefore { earliest: 1, latest: 1 };
     Question {
         call,
-        code: 0,
+        code: if call.takes(Parameter::VorlaufShape) { window.code() } else { 0 },
+        code2: 0,
         date: Date::new(2026, 4, 2),
         date2: Date::new(2026, 4, 7),
         n: 1,
+        n2: 1,
         instant: Instant::new(1_775_080_800, 0),
+        instant2: Instant::new(1_775_512_800, 0),
         clock: Clock::new(12, 0, 0, 0),
+        reason: Reason::new(b"Z33").expect("three bytes"),
     }
 }
 
-/// The question with something refused in the place of the parameter; nothing changes for a pid,
-/// which is never refused.
+/// The question with something refused in the place of the parameter. A pid and a reason are never
+/// refused.
 fn spoiled(question: Question, parameter: Parameter) -> Question {
     match parameter {
         Parameter::Date => Question { date: Date::new(2026, 2, 29), ..question },
         Parameter::SecondDate => question.with_second(Date::new(2900, 1, 1)),
         Parameter::Count | Parameter::Pid => question.with_count(u32::MAX),
+        Parameter::SecondCount => question.with_second_count(u32::MAX),
         Parameter::Instant => Question { instant: Instant::new(i64::MIN, 0), ..question },
+        Parameter::SecondInstant => question.with_second_instant(Instant::new(i64::MAX, 0)),
         Parameter::Clock => question.with_clock(Clock::new(24, 0, 0, 0)),
-        Parameter::Anlass | Parameter::Sparte | Parameter::Shape => question.with_code(255),
+        Parameter::Reason => question.with_reason(Reason::default()),
+        Parameter::SecondSparte => question.with_second_code(255),
+        Parameter::Anlass
+        | Parameter::Sparte
+        | Parameter::Shape
+        | Parameter::VorlaufShape
+        | Parameter::Eeg => question.with_code(255),
     }
 }
 
 fn refusal_of(parameter: Parameter) -> Option<Refusal> {
     match parameter {
-        Parameter::Anlass | Parameter::Sparte | Parameter::Shape => Some(Refusal::UnknownCode),
+        Parameter::Anlass
+        | Parameter::Sparte
+        | Parameter::SecondSparte
+        | Parameter::Shape
+        | Parameter::VorlaufShape
+        | Parameter::Eeg => Some(Refusal::UnknownCode),
         Parameter::Date | Parameter::SecondDate => Some(Refusal::NoDate),
-        Parameter::Instant => Some(Refusal::InstantOutside),
+        Parameter::Instant | Parameter::SecondInstant => Some(Refusal::InstantOutside),
         Parameter::Clock => Some(Refusal::NoClock),
-        Parameter::Count => Some(Refusal::LeavesCalendar),
-        Parameter::Pid => None,
+        Parameter::Count | Parameter::SecondCount => Some(Refusal::LeavesCalendar),
+        Parameter::Pid | Parameter::Reason => None,
     }
 }
 
@@ -116,9 +137,31 @@ fn refusal_2_from_one_past_the_last_code() {
             assert_eq!(refused(&question), Some(Refusal::UnknownCode), "{question}");
         }
     }
-    let codes = [Call::TagesbeginnUtc, Call::TagDesBeginns, Call::ContrlDueAt, Call::FristDueAt]
-        .map(Call::codes);
-    assert_eq!(codes, [Some(2), Some(2), Some(3), Some(4)]);
+    let codes = [
+        (Call::TagesbeginnUtc, 2),
+        (Call::TagDesBeginns, 2),
+        (Call::ContrlDueAt, 3),
+        (Call::FristDueAt, 4),
+        (Call::VorlaufCheck, 8),
+        (Call::VorlaufCheckAt, 8),
+        (Call::VorlaufSpan, 8),
+        (Call::AbmeldungFuer, 3),
+        (Call::AbmeldungCheck, 3),
+    ];
+    let knowing = |call: Call| Some((call, call.codes()?));
+    assert_eq!(Call::ALL.into_iter().filter_map(knowing).collect::<Vec<_>>(), codes);
+}
+
+#[test]
+fn refusal_2_for_the_sparte_beside_a_shape() {
+    let question = ordinary(Call::VorlaufCheckAt);
+    assert_eq!(refused(&question.with_second_code(0)), None);
+    // The anchor begins a day of Strom and none of Gas.
+    assert_eq!(refused(&question.with_second_code(1)), Some(Refusal::NoBeginning));
+    for code in 2..=u8::MAX {
+        let question = question.with_second_code(code);
+        assert_eq!(refused(&question), Some(Refusal::UnknownCode), "{question}");
+    }
 }
 
 #[test]
@@ -133,11 +176,13 @@ fn refusal_3_for_what_is_no_date() {
 
 #[test]
 fn refusal_3_for_the_second_date() {
-    for date in no_dates() {
-        let question = ordinary(Call::WerktageBetween).with_second(date);
-        assert_eq!(refused(&question), Some(Refusal::NoDate), "{question}");
-        let both = Question { date, ..question };
-        assert_eq!(refused(&both), Some(Refusal::NoDate), "{both}");
+    for call in taking(Parameter::SecondDate) {
+        for date in no_dates() {
+            let question = ordinary(call).with_second(date);
+            assert_eq!(refused(&question), Some(Refusal::NoDate), "{question}");
+            let both = Question { date, ..question };
+            assert_eq!(refused(&both), Some(Refusal::NoDate), "{both}");
+        }
     }
 }
 
@@ -170,6 +215,26 @@ fn refusal_4_outside_the_limits() {
             assert_ne!(refused(&question), Some(Refusal::InstantOutside), "{question}");
         }
     }
+    let question = ordinary(Call::VorlaufCheckAt);
+    for instant in outside {
+        let question = question.with_second_instant(instant);
+        assert_eq!(refused(&question), Some(Refusal::InstantOutside), "{question}");
+    }
+    assert_eq!(refused(&question.with_second_instant(Instant::LAST)), Some(Refusal::NoBeginning));
+}
+
+/// After the limits of both instants, before the calendar.
+#[test]
+fn refusal_7_of_a_verdict_stands_between_4_and_8() {
+    let anchor = Instant::new(1_775_512_800, 1);
+    let question = ordinary(Call::VorlaufCheckAt).with_second_instant(anchor);
+    let far = question.with_count(u32::MAX);
+    let outside = Instant::new(i64::MIN, 0);
+    assert_eq!(refused(&question), Some(Refusal::NoBeginning));
+    assert_eq!(refused(&far), Some(Refusal::NoBeginning));
+    let outside = Question { instant: outside, ..far };
+    assert_eq!(refused(&outside), Some(Refusal::InstantOutside));
+    assert_eq!(refused(&outside.with_second_code(2)), Some(Refusal::UnknownCode));
 }
 
 /// Each number of the clock one past its last.
@@ -219,10 +284,32 @@ fn what_a_shape_does_not_use_is_not_checked() {
     }
 }
 
-/// A good question, one at the upper edge with the largest count, and one where all is refused.
+/// The second count of a shape with one, and both of the shape with none.
+#[test]
+fn what_a_verdict_does_not_use_is_not_checked() {
+    const TWO_COUNTS: [u8; 2] = [1, 7];
+    const NO_COUNT: u8 = 5;
+    for call in taking(Parameter::VorlaufShape) {
+        for code in (0..VorlaufShape::CODES).filter(|code| !TWO_COUNTS.contains(code)) {
+            let plain = ordinary(call).with_code(code).with_second_count(0);
+            assert!(plain.answer().is_ok(), "{plain}");
+            let other = plain.with_second_count(u32::MAX);
+            assert_eq!(other.answer(), plain.answer(), "{other}");
+            if code == NO_COUNT {
+                assert_eq!(other.with_count(u32::MAX).answer(), plain.answer(), "{other}");
+            }
+        }
+    }
+}
+
+/// A good question, one at the upper edge with the largest count, and one where all is refused. A
+/// verdict is not asked for over centuries, which takes it long.
 fn three_questions(call: Call) -> [Question; 3] {
-    let (date, instant, n) = (Date::LAST, Instant::LAST, u32::MAX);
-    let edge = Question { date, instant, n, ..ordinary(call) };
+    let verdict = call.takes(Parameter::VorlaufShape);
+    let n = if verdict { 3 } else { u32::MAX };
+    let (date, date2, instant) = (Date::LAST, Date::LAST, Instant::LAST);
+    let instant2 = Instant::new(Instant::LAST.seconds - 86_399, 0);
+    let edge = Question { date, date2, instant, instant2, n, ..ordinary(call) };
     let spoil = |question, &parameter| spoiled(question, parameter);
     let bad = call.parameters().iter().fold(ordinary(call), spoil);
     [ordinary(call), edge, bad]

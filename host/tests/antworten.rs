@@ -1,6 +1,6 @@
 //! The 32 bytes: one answer of each kind written out, and the fields as they are read.
 
-use mako_fristen_host::{ffi, Answer, Call, Clock, Date, Instant, Question, Refusal};
+use mako_fristen_host::{ffi, Answer, Call, Clock, Date, Instant, Question, Reason, Refusal};
 
 /// The answer of a call to a slice that was not zero before.
 fn bytes_of(call: impl Fn(&mut [u8]) -> u8) -> [u8; 32] {
@@ -92,6 +92,73 @@ fn a_day_of_an_instant() {
     assert_eq!(bytes_of(|a| ffi::mf_tag_des_beginns(1_775_102_400, 0, 1, a)), day);
 }
 
+/// Kind, count and date, all of case E but the count, which is 1 here.
+#[test]
+fn a_verdict() {
+    #[rustfmt::skip]
+    let too_late = [
+        0, 1, 0, 0,  1, 0, 0, 0,  0, 0, 0, 0, 0, 0, 0, 0,
+        0, 0, 0, 0,  0xea, 0x07, 1, 13,  0, 0, 0, 0,  0, 0, 0, 0,
+    ];
+    let (sunday, monday) = (1_768_172_400 - 86_400, 1_768_172_400);
+    assert_eq!(bytes_of(|a| ffi::mf_vorlauf_check(0, 1, 9, 2026, 1, 12, 2026, 1, 12, a)), too_late);
+    let at = |a: &mut [u8]| ffi::mf_vorlauf_check_at(0, 1, 9, monday + 3, 5, monday, 0, 0, a);
+    assert_eq!(bytes_of(at), too_late);
+    let ok = |a: &mut [u8]| ffi::mf_vorlauf_check_at(0, 0, 9, sunday, 5, monday, 0, 0, a);
+    assert_eq!(bytes_of(ok), [0; 32]);
+    let mut too_early = [0; 32];
+    (too_early[1], too_early[4]) = (2, 5);
+    let early = |a: &mut [u8]| ffi::mf_vorlauf_check(1, 1, 0, 2026, 1, 5, 2026, 1, 14, a);
+    assert_eq!(bytes_of(early), too_early);
+}
+
+/// From 6 to 12 January; from 6 January on; empty.
+#[test]
+fn a_span() {
+    #[rustfmt::skip]
+    let mut span = [
+        0, 1, 0, 0,  0, 0, 0, 0,  0, 0, 0, 0, 0, 0, 0, 0,
+        0, 0, 0, 0,  0xea, 0x07, 1, 6,  0xea, 0x07, 1, 12,  0, 0, 0, 0,
+    ];
+    assert_eq!(bytes_of(|a| ffi::mf_vorlauf_span(1, 8, 5, 2025, 12, 23, a)), span);
+    span[1] = 0;
+    span[24..28].fill(0);
+    assert_eq!(bytes_of(|a| ffi::mf_vorlauf_span(0, 5, 8, 2025, 12, 23, a)), span);
+    let mut empty = [0; 32];
+    empty[1] = 2;
+    assert_eq!(bytes_of(|a| ffi::mf_vorlauf_span(1, 1, 1, 2026, 1, 10, a)), empty);
+}
+
+/// The byte 1 has the case, and 3 where a verdict has no shape.
+#[test]
+fn a_deregistration() {
+    let kind = |kind| std::array::from_fn(|place| if place == 1 { kind } else { 0 });
+    for (reason, eeg, case) in [(b"Z33", 0, 0), (b"Z33", 1, 1), (b"Z33", 2, 2), (b"ZQ7", 1, 3)] {
+        assert_eq!(bytes_of(|a| ffi::mf_abmeldung_fuer(reason, eeg, a)), kind(case));
+    }
+    let check = |reason: &[u8], eeg| {
+        bytes_of(|a| ffi::mf_abmeldung_check(reason, eeg, 2026, 1, 8, 2026, 2, 8, a))
+    };
+    assert_eq!(check(b"Z33", 0), [0; 32]);
+    assert_eq!(check(b"Z33", 1), [0; 32]);
+    assert_eq!(check(b"Z33", 2), kind(3));
+    assert_eq!(check(b"ZQ7", 0), kind(3));
+}
+
+/// The byte 1 alone: no, yes, neither.
+#[test]
+fn an_announcement() {
+    // 9 January 2026, 13:00 in Berlin, and the midnight of the 12th.
+    let (one, midnight) = (1_767_960_000, 1_768_172_400);
+    for (seconds, nanos, kind) in [(one, 1, 0), (one, 0, 1), (midnight, 0, 2)] {
+        let mut expected = [0; 32];
+        expected[1] = kind;
+        let call =
+            |a: &mut [u8]| ffi::mf_eog_ankuendigung_fristgerecht(seconds, nanos, 2026, 1, 12, a);
+        assert_eq!(bytes_of(call), expected);
+    }
+}
+
 #[test]
 fn a_refusal_leaves_the_rest_zero() {
     let mut refused = [0; 32];
@@ -147,7 +214,12 @@ fn the_bytes_of_a_question() {
         4, 0, 0, 0,  0xcc, 0x07, 1, 2,  0x53, 0x0b, 12, 31,  1, 2, 3, 4,
         0, 0, 0, 0,  0, 0, 0, 0,  0, 0, 0, 0,  0, 0, 0, 0,
     ];
-    assert_eq!(question.to_bytes(), bytes);
+    assert_eq!(question.to_bytes(), followed_by(bytes, [0; 32]));
+}
+
+/// The two halves of a question.
+fn followed_by(first: [u8; 32], second: [u8; 32]) -> [u8; Question::LEN] {
+    std::array::from_fn(|place| if place < 32 { first[place] } else { second[place - 32] })
 }
 
 /// A call with a clock has no second date, and the clock's nanoseconds stand in its place.
@@ -163,7 +235,7 @@ fn the_bytes_of_a_question_with_a_clock() {
         24, 2, 0, 0,  0, 0, 0, 0,  8, 9, 10, 11,  12, 13, 14, 15,
         16, 17, 18, 19,  20, 21, 22, 23,  24, 25, 26, 27,  28, 29, 30, 0,
     ];
-    assert_eq!(question.to_bytes(), bytes);
+    assert_eq!(question.to_bytes(), followed_by(bytes, [0; 32]));
     let question = Question::on(Call::BerlinAt, Date::new(0x0504, 6, 7)).with_clock(Clock::new(
         1,
         2,
@@ -175,5 +247,47 @@ fn the_bytes_of_a_question_with_a_clock() {
         7, 0, 0, 0,  4, 5, 6, 7,  8, 9, 10, 11,  0, 0, 0, 0,
         0, 0, 0, 0,  0, 0, 0, 0,  0, 0, 0, 0,  1, 2, 3, 0,
     ];
-    assert_eq!(question.to_bytes(), bytes);
+    assert_eq!(question.to_bytes(), followed_by(bytes, [0; 32]));
+}
+
+/// The second half: a count, an instant, a code, a reason.
+#[test]
+fn the_second_half_of_a_question() {
+    let instant = Instant::new(0x1716_1514_1312_1110, 0x1b1a_1918);
+    let question = Question::at(Call::VorlaufCheckAt, instant)
+        .with_code(1)
+        .with_count(0x0f0e_0d0c)
+        .with_second_count(0x2322_2120)
+        .with_second_instant(Instant::new(0x2b2a_2928_2726_2524, 0x2f2e_2d2c))
+        .with_second_code(48);
+    #[rustfmt::skip]
+    let first = [
+        26, 1, 0, 0,  0, 0, 0, 0,  0, 0, 0, 0,  12, 13, 14, 15,
+        16, 17, 18, 19,  20, 21, 22, 23,  24, 25, 26, 27,  0, 0, 0, 0,
+    ];
+    #[rustfmt::skip]
+    let second = [
+        32, 33, 34, 35,  36, 37, 38, 39,  40, 41, 42, 43,  44, 45, 46, 47,
+        48, 0, 0, 0,  0, 0, 0, 0,  0, 0, 0, 0,  0, 0, 0, 0,
+    ];
+    assert_eq!(question.to_bytes(), followed_by(first, second));
+}
+
+#[test]
+fn the_reason_of_a_question() {
+    let longest: Vec<u8> = (50..64).collect();
+    for len in 0..=Reason::LONGEST {
+        let reason = Reason::new(&longest[..len]).expect("not too long");
+        let question = Question::on(Call::AbmeldungCheck, Date::new(0x0504, 6, 7))
+            .with_second(Date::new(0x0908, 10, 11))
+            .with_code(2)
+            .with_reason(reason);
+        let mut first = [0; 32];
+        first[..12].copy_from_slice(&[29, 2, 0, 0, 4, 5, 6, 7, 8, 9, 10, 11]);
+        let mut second = [0; 32];
+        second[17] = len as u8;
+        second[18..18 + len].copy_from_slice(&longest[..len]);
+        assert_eq!(question.to_bytes(), followed_by(first, second));
+    }
+    assert_eq!(Reason::new(&[0; Reason::LONGEST + 1]), None);
 }

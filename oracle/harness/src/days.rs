@@ -28,6 +28,24 @@ pub fn left(day: time::Date) -> u32 {
     DAYS - 1 - index(day)
 }
 
+/// The next day, unless it leaves the calendar: refusal 8.
+///
+/// # Errors
+///
+/// [`Refusal::LeavesCalendar`].
+pub fn after(day: time::Date) -> Result<time::Date, Refusal> {
+    day.next_day().filter(|&next| next <= LAST).ok_or(Refusal::LeavesCalendar)
+}
+
+/// The previous day, unless it leaves the calendar: refusal 8.
+///
+/// # Errors
+///
+/// [`Refusal::LeavesCalendar`].
+pub fn before(day: time::Date) -> Result<time::Date, Refusal> {
+    day.previous_day().filter(|&previous| previous >= FIRST).ok_or(Refusal::LeavesCalendar)
+}
+
 /// The host's form of a date, if the calendar has it.
 #[must_use]
 pub fn to_host(day: time::Date) -> Option<Date> {

@@ -1,11 +1,16 @@
 //! What the original answers to a question, in document 01's terms: the one place where an expected
 //! answer is made.
 
+mod span;
+mod verdict;
+
+pub use span::expected_of_the_verdicts;
+
 use crate::{days, instants};
 use mako_fristen::antwort::FristShape;
 use mako_fristen::HolidayCalendar::BdewMaKo;
 use mako_fristen::{ContrlAnlass, Sparte};
-use mako_fristen_host::{Answer, Call, Question, Refusal};
+use mako_fristen_host::{Answer, Call, Parameter, Question, Refusal};
 use std::any::Any;
 use std::cell::Cell;
 use std::panic::{self, UnwindSafe};
@@ -37,7 +42,7 @@ fn capped(n: u32, days_left: u32) -> u32 {
 }
 
 fn answered(question: &Question, cap: Cap) -> Result<Answer, Refusal> {
-    if question.call.codes().is_some_and(|codes| question.code >= codes) {
+    if !question.call.parameters().iter().all(|&parameter| knows(question, parameter)) {
         return Err(Refusal::UnknownCode);
     }
     match question.call {
@@ -54,22 +59,31 @@ fn answered(question: &Question, cap: Cap) -> Result<Answer, Refusal> {
         }
         Call::NextWerktagAt | Call::NthWerktagAt => clock_on_a_werktag(question, cap),
         Call::FristDueAt => answer_due(question, cap),
+        Call::VorlaufCheck | Call::VorlaufCheckAt => verdict::of_shape(question, cap),
+        Call::VorlaufSpan => span::of_shape(question, cap),
+        Call::AbmeldungFuer | Call::AbmeldungCheck => verdict::of_reason(question, cap),
+        Call::EogAnkuendigungFristgerecht => verdict::of_announcement(question, cap),
         _ => message_due(question),
     }
 }
 
+/// Whether the parameter is no code, or one that document 01 has.
+fn knows(question: &Question, parameter: Parameter) -> bool {
+    let second = parameter == Parameter::SecondSparte;
+    let code = if second { question.code2 } else { question.code };
+    parameter.codes().is_none_or(|codes| code < codes)
+}
+
 fn werktage(question: &Question, cap: Cap) -> Result<Answer, Refusal> {
     let date = days::given(question.date)?;
-    let back = cap(question.n, days::index(date));
-    let on = cap(question.n, days::left(date));
     match question.call {
         Call::IsWerktag => {
             let werktag = mako_fristen::is_werktag(date, BdewMaKo);
             Ok(Answer::default().with_kind(werktag.into()))
         }
-        Call::NextWerktag => step(|| mako_fristen::next_werktag(date, BdewMaKo)),
-        Call::AddWerktage => step(|| mako_fristen::add_werktage(date, on, BdewMaKo)),
-        _ => step(|| mako_fristen::sub_werktage(date, back, BdewMaKo)),
+        Call::NextWerktag => dated(next_werktag(date)),
+        Call::AddWerktage => dated(werktage_on(date, question.n, cap)),
+        _ => dated(werktage_back(date, question.n, cap)),
     }
 }
 
@@ -81,16 +95,46 @@ fn spans(question: &Question) -> Result<Answer, Refusal> {
             let count = mako_fristen::werktage_between(date, to, BdewMaKo);
             Ok(Answer::default().with_count(count))
         }
-        Call::AddMonths => shift(date, n.into(), || mako_fristen::add_months(date, n)),
-        _ => shift(date, -i64::from(n), || mako_fristen::subtract_months(date, n)),
+        Call::AddMonths => dated(months_on(date, n)),
+        _ => dated(months_back(date, n)),
     }
+}
+
+fn dated(date: Result<Date, Refusal>) -> Result<Answer, Refusal> {
+    Ok(Answer::default().with_date(host_date(date?)?))
+}
+
+fn host_date(date: Date) -> Result<mako_fristen_host::Date, Refusal> {
+    days::to_host(date).ok_or(Refusal::LeavesCalendar)
+}
+
+fn next_werktag(date: Date) -> Result<Date, Refusal> {
+    step(|| mako_fristen::next_werktag(date, BdewMaKo))
+}
+
+fn werktage_on(date: Date, n: u32, cap: Cap) -> Result<Date, Refusal> {
+    let n = cap(n, days::left(date));
+    step(|| mako_fristen::add_werktage(date, n, BdewMaKo))
+}
+
+fn werktage_back(date: Date, n: u32, cap: Cap) -> Result<Date, Refusal> {
+    let n = cap(n, days::index(date));
+    step(|| mako_fristen::sub_werktage(date, n, BdewMaKo))
+}
+
+fn months_on(date: Date, n: u32) -> Result<Date, Refusal> {
+    shift(date, n.into(), || mako_fristen::add_months(date, n))
+}
+
+fn months_back(date: Date, n: u32) -> Result<Date, Refusal> {
+    shift(date, -i64::from(n), || mako_fristen::subtract_months(date, n))
 }
 
 /// The date of a step. Where the original panics, it has walked past the year 9999 or below the
 /// year 0, so out of the calendar.
-fn step(original: impl FnOnce() -> Date + UnwindSafe) -> Result<Answer, Refusal> {
-    let date = days::to_host(quietly(original)?).ok_or(Refusal::LeavesCalendar)?;
-    Ok(Answer::default().with_date(date))
+fn step(original: impl FnOnce() -> Date + UnwindSafe) -> Result<Date, Refusal> {
+    let date = quietly(original)?;
+    host_date(date).map(|_| date)
 }
 
 /// A shift by months. Where the year passes its date type's range, the original returns the date
@@ -99,7 +143,7 @@ fn shift(
     date: Date,
     by: i64,
     original: impl FnOnce() -> Date + UnwindSafe,
-) -> Result<Answer, Refusal> {
+) -> Result<Date, Refusal> {
     let months = i64::from(date.year()) * 12 + i64::from(u8::from(date.month())) - 1 + by;
     if months.div_euclid(12).abs() > LAST_YEAR_OF_TYPE {
         return Err(Refusal::LeavesCalendar);
@@ -122,10 +166,16 @@ fn clock_on_a_date(question: &Question) -> Result<Answer, Refusal> {
 
 fn day_of_an_instant(question: &Question) -> Result<Answer, Refusal> {
     let instant = instants::given(question.instant)?;
-    if question.call == Call::BerlinDate {
-        return step(|| mako_fristen::berlin_date(instant));
-    }
-    let day = mako_fristen::tag_des_beginns(instant, sparte(question.code));
+    dated(if question.call == Call::BerlinDate {
+        step(|| mako_fristen::berlin_date(instant))
+    } else {
+        day_begun(instant, question.code)
+    })
+}
+
+/// The day that begins at the instant in the Sparte of the code.
+fn day_begun(instant: OffsetDateTime, code: u8) -> Result<Date, Refusal> {
+    let day = mako_fristen::tag_des_beginns(instant, sparte(code));
     let day = day.map_err(|_| Refusal::NoBeginning)?;
     step(|| day)
 }

@@ -1,10 +1,12 @@
 //! The questions, in rows. A row is one call over one set of arguments, and a probe of it is made
 //! from its place alone.
 
+mod abmeldung;
 mod corners;
 mod instants;
 mod kalender;
 mod uhr;
+mod vorlauf;
 pub mod zone;
 
 use crate::original;
@@ -67,6 +69,8 @@ pub fn rows(seed: u64, random: u64) -> Vec<Row> {
     let mut rows = kalender::rows(seed, random);
     rows.extend(uhr::rows(seed, random));
     rows.extend(instants::rows(seed, random));
+    rows.extend(vorlauf::rows(seed, random));
+    rows.extend(abmeldung::rows(seed, random));
     rows.extend(Call::ALL.into_iter().flat_map(corners::rows));
     rows
 }

@@ -1,7 +1,9 @@
-//! Where the original's answer is not document 01's, each with its smallest input. `original.rs`
-//! turns these into the refusals 6 and 8. If one of them changes, that module has to be read again.
+//! Where the original's answer is not document 01's, or not what its own comments say, each with
+//! its smallest input. `original.rs` turns the former into the refusals 6 and 8. If one of them
+//! changes, that module has to be read again.
 
 use mako_fristen::antwort::FristShape;
+use mako_fristen::vorlauf::{VorlaufShape, VorlaufVerdict};
 use mako_fristen::HolidayCalendar::BdewMaKo;
 use mako_fristen_host::{Call, Clock, Date, Instant, Question};
 use std::panic::{catch_unwind, UnwindSafe};
@@ -98,4 +100,54 @@ fn hours_past_the_date_type_are_a_panic() {
         let question = Question::at(Call::AddHours, Instant::LAST).with_count(hours);
         assert_eq!(harness::original::expected(&question).number(), 8, "{question}");
     }
+}
+
+/// So many months before the anchor would be past the year -9999, and the anchor comes back as the
+/// latest day, on which the notice of that same day is Ok.
+#[test]
+fn a_vorlauf_in_months_past_the_date_type_is_kept() {
+    const MONTHS: u32 = 143_941;
+    let first = date!(1996 - 01 - 01);
+    let check = |n| VorlaufShape::LatestMonateBefore(n).check(first, first, BdewMaKo);
+    assert!(panics(|| check(MONTHS - 1)), "it counts Werktage from the year -9999 on");
+    assert_eq!(check(MONTHS), VorlaufVerdict::Ok);
+    let shape = VorlaufShape::LatestMonateUndWerktageBefore { monate: MONTHS, werktage: 0 };
+    assert_eq!(shape.check(first, first, BdewMaKo), VorlaufVerdict::Ok);
+    for code in [6, 7] {
+        let question = Question::on(Call::VorlaufCheck, Date::FIRST)
+            .with_second(Date::FIRST)
+            .with_code(code)
+            .with_count(MONTHS);
+        assert_eq!(harness::original::expected(&question).number(), 8, "{question}");
+    }
+}
+
+/// "The next date that would satisfy it" is not accepted: from a day that is no Werktag, by the
+/// shapes that look back at the anchor, where the month was cut.
+#[test]
+fn the_earliest_possible_date_may_be_too_late_as_well() {
+    let shapes = [
+        (VorlaufShape::LatestWerktageBefore(1), date!(2026 - 01 - 10), date!(2026 - 01 - 12)),
+        (VorlaufShape::LatestWerktageAfter(1), date!(2026 - 01 - 08), date!(2026 - 01 - 06)),
+        (VorlaufShape::Korridor(1), date!(2026 - 01 - 08), date!(2026 - 01 - 06)),
+        (VorlaufShape::LatestMonateBefore(1), date!(2026 - 01 - 31), date!(2026 - 02 - 28)),
+    ];
+    for (shape, day, anchor) in shapes {
+        let VorlaufVerdict::TooLate { earliest_possible, .. } = shape.check(day, anchor, BdewMaKo)
+        else {
+            panic!("{shape:?} accepts {anchor}");
+        };
+        assert!(!shape.check(day, earliest_possible, BdewMaKo).is_ok(), "{shape:?}");
+    }
+}
+
+/// From a Friday, one Werktag before: the Monday is named, and the Saturday is accepted.
+#[test]
+fn the_earliest_possible_date_may_be_later_than_the_first() {
+    let shape = VorlaufShape::LatestWerktageBefore(1);
+    let check = |anchor| shape.check(date!(2026 - 01 - 09), anchor, BdewMaKo);
+    let earliest_possible = date!(2026 - 01 - 12);
+    let named = VorlaufVerdict::TooLate { shortfall_wt: 1, earliest_possible };
+    assert_eq!(check(date!(2026 - 01 - 09)), named);
+    assert_eq!(check(date!(2026 - 01 - 10)), VorlaufVerdict::Ok);
 }

@@ -3,10 +3,12 @@
 
 use harness::random::Random;
 use harness::{days, instants};
+use mako_fristen::abmeldung::AbmeldungVorlauf;
 use mako_fristen::antwort::FristShape;
+use mako_fristen::vorlauf::{self, VorlaufShape};
 use mako_fristen::HolidayCalendar::BdewMaKo;
 use mako_fristen::{ContrlAnlass, Sparte};
-use mako_fristen_host::{Answer, Call, Clock, Date, Question};
+use mako_fristen_host::{Answer, Call, Clock, Date, Eeg, Question, Reason, VorlaufShape as Shape};
 use std::hint::black_box;
 use std::time::Instant;
 use time::macros::time;
@@ -16,12 +18,13 @@ const ROUNDS: usize = 21;
 /// What one measurement takes at least, in nanoseconds.
 const LEAST: f64 = 2e6;
 
-/// A question, and its dates and its instant as the original takes them.
+/// A question, and its dates and its instants as the original takes them.
 struct Input {
     question: Question,
     from: time::Date,
     to: time::Date,
     at: OffsetDateTime,
+    begun: OffsetDateTime,
 }
 
 type Pass = Box<dyn Fn(&[Input])>;
@@ -32,7 +35,8 @@ struct Case {
     original: Pass,
 }
 
-/// The question on every pair of dates, and at an instant of the first.
+/// The question on every pair of dates, and at an instant of the first and the beginning of the
+/// second.
 fn case<T>(
     question: Question,
     what: &str,
@@ -43,10 +47,11 @@ fn case<T>(
     let input = |&(from, to): &(u32, u32)| {
         let second = Duration::seconds(random.below(86_400).into());
         let at = mako_fristen::berlin_midnight(days::day(from)) + second;
-        let instant = instants::to_host(at);
+        let begun = mako_fristen::berlin_midnight(days::day(to));
+        let (instant, instant2) = (instants::to_host(at), instants::to_host(begun));
         let (date, date2) = (days::date(from), days::date(to));
-        let question = Question { date, date2, instant, ..question };
-        Input { question, from: days::day(from), to: days::day(to), at }
+        let question = Question { date, date2, instant, instant2, ..question };
+        Input { question, from: days::day(from), to: days::day(to), at, begun }
     };
     let inputs = pairs.iter().map(input).collect();
     let original = move |inputs: &[Input]| {
@@ -64,6 +69,10 @@ fn cases() -> Vec<Case> {
     cases.extend(messages(&mixed));
     cases.extend(after_an_instant(&mixed));
     cases.extend(answers(&mixed));
+    let anchored = anchored(&mixed);
+    cases.extend(verdicts(&anchored));
+    cases.extend(spans(&anchored));
+    cases.extend(deregistrations(&anchored));
     cases
 }
 
@@ -191,6 +200,118 @@ fn answers(mixed: &[(u32, u32)]) -> Vec<Case> {
     ]
 }
 
+/// The shapes with counts in use, in our terms and the original's.
+const SHAPES: [(&str, Shape, VorlaufShape); 8] = [
+    ("Latest before 5", Shape::LatestWerktageBefore(5), VorlaufShape::LatestWerktageBefore(5)),
+    (
+        "Window 8 to 5",
+        Shape::WindowWerktageBefore { earliest: 8, latest: 5 },
+        VorlaufShape::WindowWerktageBefore { earliest: 8, latest: 5 },
+    ),
+    ("Latest after 10", Shape::LatestWerktageAfter(10), VorlaufShape::LatestWerktageAfter(10)),
+    ("Earliest after 4", Shape::EarliestWerktageAfter(4), VorlaufShape::EarliestWerktageAfter(4)),
+    ("Korridor 9", Shape::Korridor(9), VorlaufShape::Korridor(9)),
+    (
+        "Tag vor letztem",
+        Shape::TagVorDemLetztenWerktagVor,
+        VorlaufShape::TagVorDemLetztenWerktagVor,
+    ),
+    ("3 Monate", Shape::LatestMonateBefore(3), VorlaufShape::LatestMonateBefore(3)),
+    (
+        "3 Monate und 3",
+        Shape::LatestMonateUndWerktageBefore { monate: 3, werktage: 3 },
+        VorlaufShape::LatestMonateUndWerktageBefore { monate: 3, werktage: 3 },
+    ),
+];
+
+fn verdicts(anchored: &[(u32, u32)]) -> Vec<Case> {
+    let mut cases: Vec<Case> = SHAPES
+        .map(|(what, shape, original)| {
+            let question = Question::new(Call::VorlaufCheck).with_shape(shape);
+            case(question, what, anchored, move |i| {
+                black_box(original).check(i.from, i.to, BdewMaKo)
+            })
+        })
+        .into();
+    let (_, shape, original) = SHAPES[0];
+    let question = Question::new(Call::VorlaufCheckAt).with_shape(shape);
+    cases.push(case(question, "the first, Strom", anchored, move |i| {
+        let anchor = mako_fristen::tag_des_beginns(i.begun, Sparte::Strom);
+        let day = mako_fristen::berlin_date(i.at);
+        anchor.map(|anchor| black_box(original).check(day, anchor, BdewMaKo))
+    }));
+    cases
+}
+
+fn spans(anchored: &[(u32, u32)]) -> Vec<Case> {
+    let of_shape = |(what, shape, original): (&str, Shape, VorlaufShape)| {
+        let question = Question::new(Call::VorlaufSpan).with_shape(shape);
+        case(question, what, anchored, move |i| ends(black_box(original), i.from))
+    };
+    SHAPES.map(of_shape).into()
+}
+
+/// The ends of the span, by the original's steps.
+fn ends(shape: VorlaufShape, day: time::Date) -> (Option<time::Date>, Option<time::Date>) {
+    let on = |n| mako_fristen::add_werktage(day, n, BdewMaKo);
+    let back = |n| mako_fristen::sub_werktage(day, n, BdewMaKo);
+    let after = |n| {
+        let first = mako_fristen::next_werktag(day, BdewMaKo);
+        mako_fristen::add_werktage(first, n - 1, BdewMaKo).next_day()
+    };
+    let months = |n, day: time::Date| {
+        let shifted = mako_fristen::add_months(day, n);
+        if shifted.day() == day.day() {
+            Some(shifted)
+        } else {
+            shifted.next_day()
+        }
+    };
+    match shape {
+        VorlaufShape::LatestWerktageBefore(n) => (after(n), None),
+        VorlaufShape::WindowWerktageBefore { earliest, latest } => {
+            (after(latest), Some(on(earliest)))
+        }
+        VorlaufShape::LatestWerktageAfter(n) => (Some(back(n)), None),
+        VorlaufShape::EarliestWerktageAfter(n) => (Some(on(n)), None),
+        VorlaufShape::Korridor(n) => (Some(back(n)), Some(on(n))),
+        VorlaufShape::TagVorDemLetztenWerktagVor => (on(1).next_day(), None),
+        VorlaufShape::LatestMonateBefore(n) => (months(n, day), None),
+        VorlaufShape::LatestMonateUndWerktageBefore { monate, werktage } => {
+            (after(werktage).and_then(|day| months(monate, day)), None)
+        }
+    }
+}
+
+fn deregistrations(anchored: &[(u32, u32)]) -> Vec<Case> {
+    const NO: u8 = Eeg::No.code();
+    let reason = Reason::new(b"Z33").expect("three bytes");
+    let of_reason = |call| Question::new(call).with_reason(reason).with_code(NO);
+    let mut announcement =
+        case(Question::new(Call::EogAnkuendigungFristgerecht), "", anchored, |i| {
+            vorlauf::eog_ankuendigung_fristgerecht(i.at, i.to, BdewMaKo)
+        });
+    for input in &mut announcement.inputs {
+        input.question.date = input.question.date2;
+    }
+    vec![
+        case(of_reason(Call::AbmeldungFuer), "Z33, no EEG", anchored, |_| {
+            AbmeldungVorlauf::fuer(black_box("Z33"), black_box(Some(false)))
+        }),
+        case(of_reason(Call::AbmeldungCheck), "Z33, no EEG", anchored, |i| {
+            let vorlauf = AbmeldungVorlauf::fuer(black_box("Z33"), black_box(Some(false)));
+            vorlauf.check(i.from, i.to, BdewMaKo)
+        }),
+        announcement,
+    ]
+}
+
+/// Each first date with an anchor from 1 to 20 days later.
+fn anchored(pairs: &[(u32, u32)]) -> Vec<(u32, u32)> {
+    let mut random = Random::at(2, 0, 0);
+    pairs.iter().map(|&(from, _)| (from, from + 1 + random.below(20))).collect()
+}
+
 /// Every day of the years, the first date of a pair.
 fn span(first: u16, last: u16) -> Vec<(u32, u32)> {
     let (from, to) = (first_of_january(first), first_of_january(last + 1));
@@ -261,6 +382,9 @@ fn main() {
         "Instants are one of each day. The original's times with a clock or an instant are with"
     );
     println!("the zone of oracle/time_tz and not with its own, whose times are not known.");
+    println!(
+        "Anchors are 1 to 20 days later. The original has no span: its steps to the same ends."
+    );
     println!("{:36} {:16} {:>12} {:>12} {:>8}", "call", "", "ours", "original", "ratio");
     for case in cases() {
         let [ours, original] = measured(&case);

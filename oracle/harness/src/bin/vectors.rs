@@ -1,6 +1,6 @@
 //! Writes the replay list: a sample of the original's answers, some hundreds for each call, from
-//! all rows of the comparison. A line is the question's 32 bytes, a space and the answer's 32 bytes,
-//! in hexadecimal. The same seed gives the same file. Options: `--seed N`, `--out PATH`.
+//! all rows of the comparison. A line is the question's 64 bytes, a space and the answer's 32, in
+//! hexadecimal. The same seed gives the same file. Options: `--seed N`, `--out PATH`.
 
 use harness::options::{self, DEFAULT_SEED};
 use harness::original;

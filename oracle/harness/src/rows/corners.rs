@@ -1,14 +1,15 @@
 //! Corner arguments, what is refused, and answers of any length.
 
-use super::{Probe, Row, LONGEST};
+use super::{abmeldung, Probe, Row, LONGEST};
 use crate::{days, instants, original};
-use mako_fristen_host::{Call, Clock, Date, Instant, Parameter, Question};
+use mako_fristen::Sparte;
+use mako_fristen_host::{Call, Clock, Date, Instant, Parameter, Question, Reason};
 use time::macros::datetime;
 use time::OffsetDateTime;
 
 pub fn rows(call: Call) -> Vec<Row> {
     let mut rows = vec![Row::listed(call, "corner arguments", corners(call))];
-    if call.takes(Parameter::Instant) && call.takes(Parameter::Count) {
+    if call.takes(Parameter::Instant) && call.takes(Parameter::Count) && !has_verdict(call) {
         rows.push(Row::listed(call, "corner instants and far counts", far_counts(call)));
     }
     if call.takes(Parameter::Date) {
@@ -21,17 +22,39 @@ pub fn rows(call: Call) -> Vec<Row> {
     rows
 }
 
+/// Whether the call may count the Werktage from one date to another, which takes long if these are
+/// far apart.
+fn has_verdict(call: Call) -> bool {
+    call.takes(Parameter::VorlaufShape) || call == Call::AbmeldungCheck
+}
+
 /// Values for the parameters of a call, which takes those that it has.
 #[derive(Clone, Copy)]
 struct Values<'a> {
     dates: &'a [Date],
-    seconds: &'a [Date],
+    second_dates: &'a [Date],
     counts: &'a [u32],
+    second_counts: &'a [u32],
     instants: &'a [Instant],
+    second_instants: &'a [Instant],
     clocks: &'a [Clock],
+    reasons: &'a [&'a [u8]],
     /// Whether the codes go one past the last, and to 255.
     unknown_codes: bool,
 }
+
+/// One good value each, and all reasons. The instant is 2 April 2026, 00:00 in Berlin.
+const ORDINARY: Values = Values {
+    dates: &[date(2026, 4, 2)],
+    second_dates: &[date(2026, 4, 7)],
+    counts: &[1],
+    second_counts: &[1],
+    instants: &[Instant::new(1_775_080_800, 0)],
+    second_instants: &[Instant::new(1_775_080_800, 0)],
+    clocks: &[Clock::new(12, 0, 0, 0)],
+    reasons: &abmeldung::REASONS,
+    unknown_codes: false,
+};
 
 /// Every question of a call over the values of its parameters.
 fn all_of(call: Call, values: &Values) -> Vec<Question> {
@@ -46,20 +69,40 @@ fn each(question: Question, parameter: Parameter, values: &Values) -> Vec<Questi
     match parameter {
         Parameter::Date => values.dates.iter().map(|&date| Question { date, ..question }).collect(),
         Parameter::SecondDate => {
-            values.seconds.iter().map(|&date| question.with_second(date)).collect()
+            values.second_dates.iter().map(|&date| question.with_second(date)).collect()
         }
         Parameter::Count => values.counts.iter().map(|&n| question.with_count(n)).collect(),
+        Parameter::SecondCount => {
+            values.second_counts.iter().map(|&n| question.with_second_count(n)).collect()
+        }
         Parameter::Pid => PIDS.iter().map(|&pid| question.with_count(pid)).collect(),
         Parameter::Instant => {
             values.instants.iter().map(|&instant| Question { instant, ..question }).collect()
         }
-        Parameter::Clock => values.clocks.iter().map(|&at| question.with_clock(at)).collect(),
-        Parameter::Anlass | Parameter::Sparte | Parameter::Shape => {
-            let codes = 0..parameter.codes().unwrap_or_default();
-            let unknown = [codes.end, u8::MAX].into_iter().filter(|_| values.unknown_codes);
-            codes.chain(unknown).map(|code| question.with_code(code)).collect()
+        Parameter::SecondInstant => {
+            let instants = values.second_instants.iter();
+            instants.map(|&instant| question.with_second_instant(instant)).collect()
         }
+        Parameter::Clock => values.clocks.iter().map(|&at| question.with_clock(at)).collect(),
+        Parameter::Reason => {
+            let reasons = values.reasons.iter().filter_map(|reason| Reason::new(reason));
+            reasons.map(|reason| question.with_reason(reason)).collect()
+        }
+        Parameter::SecondSparte => {
+            codes(parameter, values).map(|code| question.with_second_code(code)).collect()
+        }
+        Parameter::Anlass
+        | Parameter::Sparte
+        | Parameter::Shape
+        | Parameter::VorlaufShape
+        | Parameter::Eeg => codes(parameter, values).map(|code| question.with_code(code)).collect(),
     }
+}
+
+fn codes(parameter: Parameter, values: &Values) -> impl Iterator<Item = u8> {
+    let codes = 0..parameter.codes().unwrap_or_default();
+    let unknown = if values.unknown_codes { vec![codes.end, u8::MAX] } else { vec![] };
+    codes.chain(unknown)
 }
 
 const fn date(year: u16, month: u8, day: u8) -> Date {
@@ -153,6 +196,9 @@ const CORNER_INSTANTS: [OffsetDateTime; 18] = [
 ];
 
 fn corners(call: Call) -> Vec<Question> {
+    if has_verdict(call) {
+        return corner_verdicts(call);
+    }
     let edges = [Instant::FIRST, Instant::LAST];
     let instants: Vec<Instant> =
         CORNER_INSTANTS.into_iter().map(instants::to_host).chain(edges).collect();
@@ -161,13 +207,72 @@ fn corners(call: Call) -> Vec<Question> {
         call,
         &Values {
             dates: &CORNER_DATES,
-            seconds: &CORNER_DATES,
+            second_dates: &CORNER_DATES,
             counts: if far { &CORNER_COUNTS } else { &NEAR_COUNTS },
             instants: &instants,
             clocks: &CORNER_CLOCKS,
-            unknown_codes: false,
+            ..ORDINARY
         },
     )
+}
+
+/// Dates by the cases of document 01, and by either edge.
+const NEAR_DATES: [[Date; 8]; 3] = [
+    [
+        date(2026, 1, 8),
+        date(2026, 1, 9),
+        date(2026, 1, 10),
+        date(2026, 1, 12),
+        date(2026, 1, 13),
+        date(2026, 1, 31),
+        date(2026, 2, 28),
+        date(2026, 3, 1),
+    ],
+    [
+        Date::FIRST,
+        date(1996, 1, 2),
+        date(1996, 1, 3),
+        date(1996, 1, 4),
+        date(1996, 1, 5),
+        date(1996, 1, 31),
+        date(1996, 2, 1),
+        date(1996, 2, 29),
+    ],
+    [
+        date(2899, 11, 30),
+        date(2899, 12, 1),
+        date(2899, 12, 22),
+        date(2899, 12, 27),
+        date(2899, 12, 28),
+        date(2899, 12, 29),
+        date(2899, 12, 30),
+        Date::LAST,
+    ],
+];
+
+/// Dates of each list with each other, and as instants the beginnings of these days in both Sparten
+/// and the nanosecond before.
+fn corner_verdicts(call: Call) -> Vec<Question> {
+    let of_dates = |dates: &[Date; 8]| {
+        let days: Vec<_> = dates.iter().filter_map(|&date| days::given(date).ok()).collect();
+        let beginnings = days.iter().flat_map(|&day| {
+            [Sparte::Strom, Sparte::Gas].map(|sparte| mako_fristen::tagesbeginn_utc(day, sparte))
+        });
+        let beginnings: Vec<Instant> = beginnings.map(instants::to_host).collect();
+        let before = beginnings.iter().step_by(2).map(|&beginning| instants::moved(beginning, -1));
+        let instants: Vec<Instant> = beginnings.iter().step_by(2).copied().chain(before).collect();
+        let values = Values {
+            dates,
+            second_dates: dates,
+            counts: &NEAR_COUNTS[..4],
+            second_counts: &NEAR_COUNTS[..3],
+            instants: &instants,
+            second_instants: &beginnings,
+            ..ORDINARY
+        };
+        all_of(call, &values)
+    };
+    NEAR_DATES.iter().flat_map(of_dates).collect()
 }
 
 /// Hours and Werktage about as many as the calendar has, and more.
@@ -177,14 +282,7 @@ fn far_counts(call: Call) -> Vec<Question> {
     let counts: Vec<u32> = CORNER_COUNTS.into_iter().chain(hours).collect();
     all_of(
         call,
-        &Values {
-            dates: &[],
-            seconds: &[],
-            counts: &counts,
-            instants: &[Instant::FIRST, middle, Instant::LAST],
-            clocks: &[Clock::new(12, 0, 0, 0)],
-            unknown_codes: false,
-        },
+        &Values { counts: &counts, instants: &[Instant::FIRST, middle, Instant::LAST], ..ORDINARY },
     )
 }
 
@@ -204,15 +302,16 @@ fn no_dates(call: Call) -> Vec<Question> {
     let none = no_date_list();
     let values = Values {
         dates: &none,
-        seconds: &good,
+        second_dates: &good,
         counts: &[0, 1, u32::MAX],
-        instants: &[],
+        instants: &[ORDINARY.instants[0], Instant::new(i64::MIN, 0)],
         clocks: &[Clock::new(12, 0, 0, 0), Clock::new(24, 0, 0, 0)],
-        unknown_codes: false,
+        reasons: &[b"ZQ7", b"Z33"],
+        ..ORDINARY
     };
     let mut questions = all_of(call, &values);
     if call.takes(Parameter::SecondDate) {
-        questions.extend(all_of(call, &Values { dates: &good, seconds: &none, ..values }));
+        questions.extend(all_of(call, &Values { dates: &good, second_dates: &none, ..values }));
         questions.extend(none.iter().map(|&date| Question::on(call, date).with_second(date)));
     }
     questions
@@ -237,6 +336,7 @@ fn refused(call: Call) -> Vec<Question> {
         Instant::new(i64::MIN, 0),
         Instant::new(i64::MAX, u32::MAX),
     ];
+    let beginnings = [instants[0], instants[1], instants[4], instants[5], instants[7]];
     let clocks = [
         Clock::new(12, 0, 0, 0),
         Clock::new(2, 30, 0, 0),
@@ -250,11 +350,14 @@ fn refused(call: Call) -> Vec<Question> {
         call,
         &Values {
             dates: &[LAST_SPRING, date(2899, 2, 29), date(2900, 1, 1), date(0, 0, 0)],
-            seconds: &[],
-            counts: &[0, 1, u32::MAX],
+            second_dates: &[LAST_SPRING, date(2899, 2, 29)],
+            counts: if call == Call::VorlaufCheckAt { &[0, 1] } else { &[0, 1, u32::MAX] },
+            second_counts: &[0],
             instants: &instants,
+            second_instants: &beginnings,
             clocks: &clocks,
             unknown_codes: true,
+            ..ORDINARY
         },
     )
 }
@@ -263,16 +366,20 @@ fn refused(call: Call) -> Vec<Question> {
 fn lengths(call: Call) -> Row {
     const FILLS: [u8; 3] = [0x00, 0xa5, 0xff];
     let dates = [date(2026, 4, 2), date(0, 0, 0), Date::FIRST, Date::LAST];
-    let ordinary = instants::to_host(datetime!(2026-04-01 22:00 UTC));
+    let outside = Instant::new(i64::MIN, u32::MAX);
+    let instants = [ORDINARY.instants[0], outside, Instant::FIRST, Instant::LAST];
+    let near = if has_verdict(call) { 2 } else { dates.len() };
     let questions = all_of(
         call,
         &Values {
-            dates: &dates,
-            seconds: &dates,
-            counts: &[1],
-            instants: &[ordinary, Instant::new(i64::MIN, u32::MAX), Instant::FIRST, Instant::LAST],
+            dates: &dates[..near],
+            second_dates: &dates[..near],
+            instants: &instants[..near],
+            second_instants: &instants[..near],
             clocks: &[Clock::new(12, 0, 0, 0), Clock::new(24, 0, 0, 0)],
+            reasons: &abmeldung::REASONS[..4],
             unknown_codes: true,
+            ..ORDINARY
         },
     );
     let (fills, lens) = (FILLS.len() as u64, LONGEST as u64 + 1);

@@ -1,6 +1,6 @@
 //! The calls that take an instant: the days of instants, and due instants.
 
-use super::{corners, kalender, uhr, Row};
+use super::{corners, kalender, uhr, vorlauf, Row};
 use crate::days::{self, DAYS};
 use crate::instants::{self, moved, SWITCHES, TOLERANCE_ENDS};
 use crate::original;
@@ -55,15 +55,17 @@ fn over(
     })
 }
 
-/// Midnight, the nanosecond before, and noon; where beginnings are asked for, 06:00 and not noon.
+/// Midnight, the nanosecond before, and noon; where beginnings are asked for, 06:00 and not noon. A
+/// verdict, which takes the original longest, has one of the three for each day.
 fn every_day(call: Call, seed: u64) -> Row {
     let (what, hour) = match call {
         Call::TagDesBeginns => ("every midnight and 06:00", 6),
         _ => ("every midnight and noon", 12),
     };
     let at = time::Time::from_hms(hour, 0, 0).expect("a clock time");
-    over(call, what, u64::from(DAYS) * 3, seed, move |place| {
-        let day = days::day((place / 3) as u32);
+    let each = if call == Call::VorlaufCheckAt { 1 } else { 3 };
+    over(call, what, u64::from(DAYS) * each, seed, move |place| {
+        let day = days::day((place / each) as u32);
         let midnight = || instants::to_host(mako_fristen::berlin_midnight(day));
         match place % 3 {
             0 => midnight(),
@@ -178,6 +180,11 @@ fn within(instant: Instant, bound: i64, random: &mut Random) -> Instant {
 
 /// The call at the instant, with all other arguments at random.
 fn filled(call: Call, instant: Instant, random: &mut Random) -> Question {
+    match call {
+        Call::VorlaufCheckAt => return vorlauf::at_an_instant(instant, random),
+        Call::EogAnkuendigungFristgerecht => return vorlauf::announced_at(instant, random),
+        _ => {}
+    }
     let question = Question::at(call, instant);
     call.parameters().iter().fold(question, |question, parameter| match parameter {
         Parameter::Count if call == Call::AddHours => question.with_count(hours(instant, random)),

@@ -1,0 +1,91 @@
+//! The span of anchors, which the original does not have: by document 01's words, in steps of the
+//! original, and held against the original's verdicts.
+
+use super::verdict::{shape, verdict};
+use super::{
+    capped, expected, host_date, months_on, next_werktag, werktage_back, werktage_on, Cap,
+};
+use crate::days::{self, DAYS};
+use mako_fristen::vorlauf::VorlaufShape;
+use mako_fristen::HolidayCalendar::BdewMaKo;
+use mako_fristen_host::{Answer, Question, Refusal};
+use time::Date;
+
+/// How many anchors before the first day and after the last are held against their verdicts.
+const AROUND: u32 = 12;
+
+pub(super) fn of_shape(question: &Question, cap: Cap) -> Result<Answer, Refusal> {
+    let (first, last) = ends(shape(question), days::given(question.date)?, cap)?;
+    let from = Answer::default().with_date(host_date(first)?);
+    Ok(match last {
+        None => from,
+        Some(last) if first <= last => from.with_kind(1).with_last_date(host_date(last)?),
+        Some(_) => Answer::default().with_kind(2),
+    })
+}
+
+/// The span by its words, if the verdicts bear it out: of the anchors around, every one whose
+/// verdict is not refused is Ok exactly if it lies in the span. Else a kind that no call has.
+#[must_use]
+pub fn expected_of_the_verdicts(question: &Question) -> Answer {
+    const CONTRADICTED: u8 = u8::MAX;
+    let Ok(day) = days::given(question.date) else { return expected(question) };
+    let Ok((first, last)) = ends(shape(question), day, capped) else { return expected(question) };
+    let end = last.unwrap_or(first);
+    let from = days::index(first.min(end)).saturating_sub(AROUND);
+    let to = (days::index(first.max(end)) + AROUND).min(DAYS - 1);
+    let agrees = |anchor: Date| match verdict(shape(question), day, anchor, capped) {
+        Ok(answer) => {
+            let inside = first <= anchor && last.is_none_or(|last| anchor <= last);
+            (answer.kind() == 0) == inside
+        }
+        Err(_) => true,
+    };
+    if (from..=to).map(days::day).all(agrees) {
+        expected(question)
+    } else {
+        Answer::default().with_kind(CONTRADICTED)
+    }
+}
+
+/// The first day, and the last where there is one; in an empty span the first is the later.
+fn ends(shape: VorlaufShape, day: Date, cap: Cap) -> Result<(Date, Option<Date>), Refusal> {
+    let back = |n| werktage_back(day, n, cap);
+    let on = |n| werktage_on(day, n, cap);
+    Ok(match shape {
+        VorlaufShape::LatestWerktageBefore(n) => (after_werktage(day, n)?, None),
+        VorlaufShape::WindowWerktageBefore { earliest, latest } => {
+            (after_werktage(day, latest)?, Some(on(earliest)?))
+        }
+        VorlaufShape::LatestWerktageAfter(n) => (back(n)?, None),
+        VorlaufShape::EarliestWerktageAfter(n) => (on(n)?, None),
+        VorlaufShape::Korridor(n) => (back(n)?, Some(on(n)?)),
+        VorlaufShape::TagVorDemLetztenWerktagVor => {
+            (days::after(next_werktag(days::after(day)?)?)?, None)
+        }
+        VorlaufShape::LatestMonateBefore(n) => (after_months(n, day)?, None),
+        VorlaufShape::LatestMonateUndWerktageBefore { monate, werktage } => {
+            (after_months(monate, after_werktage(day, werktage)?)?, None)
+        }
+    })
+}
+
+/// W(n): the day for 0, else the day after the n-th Werktag on or after it. Day by day.
+fn after_werktage(mut day: Date, n: u32) -> Result<Date, Refusal> {
+    let mut left = n;
+    while left > 0 {
+        left -= u32::from(mako_fristen::is_werktag(day, BdewMaKo));
+        day = days::after(day)?;
+    }
+    Ok(day)
+}
+
+/// M(m, d): the day and so many months, or the first of the next month if its day was cut.
+fn after_months(months: u32, day: Date) -> Result<Date, Refusal> {
+    let shifted = months_on(day, months)?;
+    if shifted.day() == day.day() {
+        Ok(shifted)
+    } else {
+        days::after(shifted)
+    }
+}
