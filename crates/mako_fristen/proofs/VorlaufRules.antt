@@ -2,13 +2,22 @@
 -- there.
 -- Assumes nothing.
 use Prim.Native.Nat.{ℕ, suc, _-_, _≤_, _<_}
-use mathlib.Core.Bool.{Bool}
+use mathlib.Core.Bool.{Bool, true}
 use mathlib.Core.List.{List}
 use mathlib.Core.Path.{_≡_, refl, sym, ap, _∙_}
 use native.Mathlib.Omega.{arith}
 use Rattle.zaehlung.specs.Walk.{last}
 use Rattle.datum.specs.declared.Date.{Date}
-use Rattle.datum.specs.Calendar.{dateOf}
+use Rattle.datum.specs.declared.Index.{Index}
+use Rattle.datum.specs.declared.Index.the-variants.{Day as At}
+use Rattle.datum.specs.declared.Shifted.{Shifted}
+use Rattle.datum.specs.declared.Shifted.the-variants.{On, Outside as Gone}
+use Rattle.datum.specs.Calendar.{valid, daysBefore, indexOf, dateOf}
+use Rattle.datum.specs.MonthShift.{addMonths}
+use Rattle.datum.proofs.Dates.{valid-is, is-valid, date-index, index-below}
+use Rattle.datum.proofs.RoundTrip.{has-index}
+use Rattle.werktag.specs.declared.HolidayCalendar.the-variants.{BdewMaKo}
+use Rattle.werktag.specs.Werktag.{werktag}
 use Rattle.berlin.specs.declared.Moment.{Moment}
 use Rattle.berlin.specs.declared.Beginn.{Beginn}
 use Rattle.berlin.specs.declared.Beginn.the-variants.{Day as Begins, NoBeginning}
@@ -28,7 +37,9 @@ use Rattle.vorlauf.specs.declared.abmeldung.AbmeldungVorlauf.{AbmeldungVorlauf}
 use Rattle.vorlauf.specs.declared.abmeldung.AbmeldungVerdict.{AbmeldungVerdict}
 use Rattle.vorlauf.specs.declared.abmeldung.AbmeldungVerdict.the-variants.{Verdict, NoShape}
 use Rattle.vorlauf.specs.Verdict.{checkOf, insideVerdict}
-use Rattle.vorlauf.specs.Span.{insideSpan}
+use Rattle.vorlauf.specs.Monate.{toStep, M}
+use Rattle.vorlauf.specs.Span.{from, spanOf, insideSpan}
+use Rattle.vorlauf.proofs.MonthRules.{date-valid, later-dated, first-dated, M-on, M-first, M-gone}
 use Rattle.vorlauf.specs.Abmeldung.{fuerOf, abmeldungOf, insideAbmeldung}
 use Rattle.ankuendigung.specs.declared.Fristgerecht.{Fristgerecht}
 use Rattle.ankuendigung.specs.declared.Fristgerecht.the-variants.{Nein as No, Ja as Yes, Weder as Neither, Outside as NoWerktag}
@@ -39,6 +50,7 @@ use Rattle.mako_fristen.specs.declared.vorlaeufe.ShapeCode.the-variants.
 use Rattle.mako_fristen.specs.declared.vorlaeufe.EegCode.{EegCode}
 use Rattle.mako_fristen.specs.declared.vorlaeufe.EegCode.the-variants.{Known as Marked, Unknown as Unmarked}
 use Rattle.mako_fristen.specs.Vorlauf.{shapeAt, onVorlauf, eegOf, onEeg, verdict, abmeldung, spanned, caseCode, announced, onBeginn}
+use Rattle.mako_fristen.specs.Reading.{onDate}
 use Rattle.mako_fristen.proofs.Rules.{date-refused, date-taken, day-inside, instant-refused, instant-taken, instant-proper, sparte-refused, sparte-taken}
 
 -- shape_at, eeg_of: codes one by one
@@ -148,6 +160,56 @@ module _ (s : Span) (h : insideSpan s) where
 
 pub ruleset span-rules = (span-from, span-both, span-empty, span-leaves, from-inside, first-inside, last-inside)
 
+-- month_span_answer: s is what `add_months` returned for d, v what it did for the first of the month reached
+own-date : (d : Date) → valid d ≡ true → d ≡ dateOf (daysBefore d)
+own-date d v = sym (date-index d (valid-is d v))
+
+pub month-asked : (d : Date) → valid d ≡ true → 1 ≤ d .month
+month-asked d v = valid-is d v .month-from
+
+module _ (d : Date) (n : ℕ) (s : Shifted) (v : valid d ≡ true) (p : s ≡ addMonths d n) where
+  inside-last : daysBefore d ≤ last
+  inside-last = index-below d (valid-is d v)
+
+  pub month-gone : (r : Answer) → s ≡ Gone → r ≡ refusedWith 8 → r ≡ spanned (from (M n (daysBefore d)))
+  month-gone r q e = rw (← M-gone n (daysBefore d) d s inside-last (own-date d v) p q) e
+
+  module _ (e : Date) (q : s ≡ On e) where
+    reached : valid e ≡ true
+    reached = date-valid s e (later-dated (daysBefore d) n d s inside-last (own-date d v) p) q
+
+    pub target-asked : 1 ≤ e .month
+    target-asked = valid-is e reached .month-from
+
+    pub month-kept : (z : Date) (r : Answer) → d .day ≤ e .day → z ≡ zeroDate → r ≡ spanAnswer 0 e z → r ≡ spanned (from (M n (daysBefore d)))
+    month-kept z r h g k =
+        rw (← M-on n (daysBefore d) (daysBefore e) d e s (own-date d v) p q h refl, ← own-date e reached, ← g) k
+
+    module _ (w : Shifted) (h : e .day < d .day) (l : w ≡ addMonths (record { year = e .year; month = e .month; day = 1 }) 1) where
+      next-month : toStep w ≡ M n (daysBefore d)
+      next-month = M-first n (daysBefore d) d e s w (toStep w) (own-date d v) p q h l refl
+
+      pub month-first : (f z : Date) (r : Answer) → w ≡ On f → z ≡ zeroDate → r ≡ spanAnswer 0 f z → r ≡ spanned (from (M n (daysBefore d)))
+      month-first f z r m g k =
+          let u = date-valid w f (first-dated (e .year) (e .month) w l) m in
+          rw (← next-month, m, ← own-date f u, ← g) k
+
+      pub first-gone : (r : Answer) → w ≡ Gone → r ≡ refusedWith 8 → r ≡ spanned (from (M n (daysBefore d)))
+      first-gone r m k = rw (← next-month, m) k
+
+pub ruleset month-span-rules = (month-asked, month-gone, target-asked, month-kept, month-first, first-gone)
+
+-- vorlauf_span_answer: x is what `index_of` returned for d
+pub date-valid-at : (d : Date) (x : Index) (t : ℕ) → x ≡ indexOf d → x ≡ At t → valid d ≡ true
+date-valid-at d x t e q = is-valid d (has-index d t (sym e ∙ q) .0)
+
+pub date-at : (d : Date) (x : Index) (t : ℕ) → x ≡ indexOf d → x ≡ At t → daysBefore d ≡ t
+date-at d x t e q = has-index d t (sym e ∙ q) .1
+
+pub months-same : (w : ℕ → Bool) (u : VorlaufShape) (n k t : ℕ) (r : Answer) → r ≡ spanned (from (M n k)) → u ≡ LatestMonateBefore n → k ≡ t → r ≡ spanned (spanOf w u t)
+unfolding spanOf
+months-same w u n k t r p e q = rw (e, ← q) p
+
 -- abmeldung_answer, announced_answer
 pub judged : (x : AbmeldungVerdict) (v : VorlaufVerdict) (r : Answer) → x ≡ Verdict v → r ≡ verdict v → r ≡ abmeldung x
 judged x v r q p = rw q p
@@ -202,7 +264,7 @@ abmeldung-same w v u t a x r e q p = p ∙ ap abmeldung (q ∙ ap (λ (y : Abmel
 pub announced-same : (x y : Fristgerecht) (r : Answer) → x ≡ y → r ≡ announced x → r ≡ announced y
 announced-same x y r e p = p ∙ ap announced e
 
-pub ruleset vorlauf-rules = (date-refused, date-taken, day-inside, shape-refused, shape-taken, verdict-same, span-same)
+pub ruleset vorlauf-rules = (date-refused, date-taken, day-inside, shape-refused, shape-taken, verdict-same, span-same, date-valid-at, date-at, months-same)
 
 pub ruleset check-at-rules = (instant-refused, instant-taken, instant-proper, sparte-refused, sparte-taken, shape-refused, shape-taken, beginn-refused, beginn-taken, beginn-le, verdict-at)
 

@@ -1,9 +1,12 @@
 // Verdicts, spans, deregistrations and the 13:00 announcement: document 01, refusals 3, 4, 7 and 8.
+ghost use mathlib.Core.Bool.{true};
 ghost use mathlib.Core.Path.{_≡_};
 ghost use Rattle.antwortsatz.specs.Bytes.{repliedTo};
+ghost use Rattle.datum.specs.Calendar.{valid, daysBefore};
 ghost use Rattle.berlin.specs.Berlin.{readInstant};
 ghost use Rattle.vorlauf.specs.Verdict.{insideVerdict};
-ghost use Rattle.vorlauf.specs.Span.{insideSpan};
+ghost use Rattle.vorlauf.specs.Monate.{M};
+ghost use Rattle.vorlauf.specs.Span.{from, insideSpan};
 ghost use Rattle.vorlauf.specs.Abmeldung.{insideAbmeldung};
 ghost use Rattle.mako_fristen.specs.Reading.{dateFrom, properReading};
 ghost use Rattle.mako_fristen.specs.Vorlauf.{shapeAt, eegOf, verdict, abmeldung, spanned, caseCode, announced, atInstants, vorlaufCheckAnswer, vorlaufCheckAtAnswer, vorlaufSpanAnswer, abmeldungFuerAnswer, abmeldungCheckAnswer, eogAnswer};
@@ -20,6 +23,7 @@ use berlin::Reading;
 use berlin::Sparte;
 use datum::Date;
 use datum::Index;
+use datum::Shifted;
 use vorlauf::Span;
 use vorlauf::VorlaufShape;
 use vorlauf::VorlaufVerdict;
@@ -225,6 +229,28 @@ fn vorlauf_check_at_answer(
     check_at_instants(shape, sparte, instant, beginning)
 }
 
+/// The span of `LatestMonateBefore`: M(n, date) is a matter of dates, and needs no index.
+fn month_span_answer(date: Date, n: u32) -> Answer
+    requires { ⌜ valid date ≡ true ⌝ }
+    ensures { λ r. ⌜ r ≡ spanned (from (M n (daysBefore date))) ⌝ }
+{
+    let Shifted::On(target) = datum::add_months(date, n) else {
+        return antwortsatz::refused(LEFT_CALENDAR);
+    };
+    if date.day <= target.day {
+        return antwortsatz::spanned(0, target, no_date());
+    }
+    let month = Date {
+        year: target.year,
+        month: target.month,
+        day: 1,
+    };
+    let Shifted::On(first) = datum::add_months(month, 1) else {
+        return antwortsatz::refused(LEFT_CALENDAR);
+    };
+    antwortsatz::spanned(0, first, no_date())
+}
+
 fn vorlauf_span_answer(code: u8, count: u32, count2: u32, date: Date) -> Answer
     ensures { λ r. ⌜ r ≡ vorlaufSpanAnswer code count count2 date ⌝ }
 {
@@ -234,7 +260,10 @@ fn vorlauf_span_answer(code: u8, count: u32, count2: u32, date: Date) -> Answer
     let Index::Day(uebertragungstag) = datum::index_of(date) else {
         return antwortsatz::refused(NO_DATE);
     };
-    span_answer(shape.span(uebertragungstag, HolidayCalendar::BdewMaKo))
+    let VorlaufShape::LatestMonateBefore(n) = shape else {
+        return span_answer(shape.span(uebertragungstag, HolidayCalendar::BdewMaKo));
+    };
+    month_span_answer(date, n)
 }
 
 fn abmeldung_fuer_answer(reason: &[u8], code: u8) -> Answer

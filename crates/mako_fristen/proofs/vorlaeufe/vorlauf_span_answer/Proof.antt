@@ -38,6 +38,9 @@ returns-2 : tie.Need-returns-2
 unfolding vorlaufSpanAnswer
 returns-2 c = search (needs, vorlauf-rules)
 
+enum-known-shape-2 : tie.Need-enum-known-shape-2
+enum-known-shape-2 c = search needs
+
 span-requires : tie.Need-span-requires
 span-requires c κs = search (needs, vorlauf-rules)
 
@@ -47,6 +50,13 @@ span-answer-requires c κs = search needs
 returns-3 : tie.Need-returns-3
 unfolding vorlaufSpanAnswer
 returns-3 c = search (needs, vorlauf-rules)
+
+month-span-answer-requires : tie.Need-month-span-answer-requires
+month-span-answer-requires c κs = search (needs, vorlauf-rules)
+
+returns-4 : tie.Need-returns-4
+unfolding vorlaufSpanAnswer
+returns-4 c = search (needs, vorlauf-rules)
 
 pub vorlauf-span-answer-spec : {M : Type 1} → statement M
 vorlauf-span-answer-spec =
@@ -62,6 +72,9 @@ vorlauf-span-answer-spec =
     enum-told-2
     refused-requires-2
     returns-2
+    enum-known-shape-2
     span-requires
     span-answer-requires
-    returns-3)
+    returns-3
+    month-span-answer-requires
+    returns-4)
