@@ -2,7 +2,7 @@
 --   Valid d         d is a date of the range, as a record of its bounds
 --   valid-is        the test says so; is-valid is the converse
 --   all-le b xs     = whether each number of xs is at most b; at-most says so of each place
---   len-le          a month has at most 31 days
+--   len-le len-ge   a month has at most 31 days, and at least 28
 --   start-month     no more than 31 days for each month passed lie before a month
 --   month-found     a month that starts by a day, and whose next starts after it, is the day's
 --   date-index      the date at the index of a date of the range is that date
@@ -21,6 +21,7 @@ use lib.Dec.{T, leb}
 use lib.ListN.{getD}
 use borrow.Author.Tests.{leb-true, le-leb}
 use Rattle.zaehlung.specs.Walk.{bit, last}
+use Rattle.zaehlung.specs.Every.{run, run-at}
 use Rattle.zaehlung.specs.Blocks.{start, at, start-suc, start-mono, at-is, at-sum, at-below}
 use Rattle.datum.specs.declared.Date.{Date}
 use Rattle.datum.specs.Calendar.{leap, yearLen, yearStart, yearOf, months, monthLen, monthStart, monthOf, dateIn, dateOf, daysBefore, valid}
@@ -78,6 +79,18 @@ pub len-le : (l : Bool) (m : ℕ) → monthLen l m ≤ 31
 unfolding monthLen all-le
 len-le true m = at-most 31 (months true) refl m
 len-le false m = at-most 31 (months false) refl m
+
+long : Bool → ℕ → Bool
+long l m = leb 28 (monthLen l m)
+
+all-long : (l : Bool) → run (long l) 12 1 ≡ true
+unfolding run long monthLen
+all-long true = refl
+all-long false = refl
+
+pub len-ge : (l : Bool) (m : ℕ) → 1 ≤ m → m ≤ 12 → 28 ≤ monthLen l m
+unfolding long
+len-ge l m a b = leb-true 28 (monthLen l m) (run-at (long l) 12 1 (all-long l) m (omega arith) (omega arith))
 
 -- the twelve months make the year
 pub months-sum : (l : Bool) → monthStart l 13 ≡ 365 + bit l

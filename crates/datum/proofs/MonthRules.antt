@@ -19,6 +19,7 @@ use Rattle.datum.specs.declared.Shifted.the-variants.{On, Outside}
 use Rattle.datum.specs.Calendar.{leap, monthLen}
 use Rattle.datum.specs.Floor.{floorDiv, floorMod}
 use Rattle.datum.specs.MonthShift.{ordinal, inMonth, onMonth, addMonths, subtractMonths}
+use Rattle.datum.proofs.Dates.{len-ge}
 use Rattle.datum.proofs.Signed.{back, clash, pos-fits, neg-fits, back-pos, sub-fits}
 
 -- in_month: n is what `days_in_month` returned
@@ -31,7 +32,11 @@ module _ (y m x : ℕ) (l : Bool) (n : ℕ) (a : 1996 ≤ y) (b : y ≤ 2899) (g
   unfolding inMonth
   kept h = let q : min x (monthLen (leap y) m) ≡ x = (let k : n ≡ monthLen (leap y) m = rw g at e in omega arith) in rw (le-leb 1996 y a, le-leb y 2899 b, q)
 
-pub ruleset in-month-rules = (cut, kept)
+-- a day that every month has
+pub kept-in-all : (y m x : ℕ) → 1996 ≤ y → y ≤ 2899 → 1 ≤ m → m ≤ 12 → x ≤ 28 → _≡_ {A = Shifted} (On (record { year = y; month = m; day = x })) (inMonth y m x)
+kept-in-all y m x a b c e h = kept y m x (leap y) (monthLen (leap y) m) a b refl refl (omega (arith, len-ge (leap y) m c e))
+
+pub ruleset in-month-rules = (cut, kept, kept-in-all)
 
 pub record InRange (t y m : ℤ) : Type 0 where
   pub months : ℕ
@@ -92,8 +97,8 @@ module _ {t y m : ℤ} (r : InRange t y m) where
   pub month-cast : T (nonNeg (back (back m +ℤ pos 1))) × Fits w8 (natAbs (back (back m +ℤ pos 1)))
   month-cast = rw month-back (tt, record { fits = omega arith })
 
-  pub year-within : (1996 ≤ natAbs (back y)) × (natAbs (back y) ≤ 2899)
-  year-within = rw (r .year) (r .from, r .to)
+  pub within : (1996 ≤ natAbs (back y)) × (natAbs (back y) ≤ 2899) × (1 ≤ natAbs (back (back m +ℤ pos 1))) × (natAbs (back (back m +ℤ pos 1)) ≤ 12)
+  within = rw (r .year, month-back) (r .from, r .to, omega arith, omega arith)
 
   pub on-it : (x : ℕ) (s : Shifted) → s ≡ inMonth (natAbs (back y)) (natAbs (back (back m +ℤ pos 1))) x → s ≡ onMonth t x
   unfolding onMonth

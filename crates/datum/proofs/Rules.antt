@@ -18,7 +18,7 @@ use Rattle.datum.specs.declared.Index.the-variants.{Day, NoDate}
 use Rattle.datum.specs.Calendar.{leap, yearLen, yearStart, yearOf, months, monthLen, monthStart, monthOf, dateIn, dateOf, daysBefore, indexOf, valid}
 use Rattle.zaehlung.specs.Every.{run, run-at}
 use Rattle.datum.proofs.Years.{closed, year-found, year-le, start-none, year-rest}
-use Rattle.datum.proofs.Dates.{all-le, at-most, len-le, months-sum, month-first, start-month, month-found, valid-is, index-below, year-below}
+use Rattle.datum.proofs.Dates.{all-le, at-most, len-le, months-sum, month-first, start-month, month-found, valid-is, is-valid, len-ge, index-below, year-below}
 
 -- is_leap
 pub leap-not4 : (y : ℕ) → (y % 4 ≡ 0 → ⊥) → false ≡ leap y
@@ -172,43 +172,55 @@ module _ (d : Date) (v : valid d ≡ true) where
 
 pub ruleset days-rules = (year-by, year-few, month-by-13, day-some, days-are, days-few)
 
--- index_of
+-- is_date
 module _ (d : Date) where
-  pub index-1 : d .year < 1996 → NoDate ≡ indexOf d
-  unfolding indexOf valid
-  index-1 a = rw (lt-leb 1996 (d .year) a)
-
-  pub index-2 : 1996 ≤ d .year → 2899 < d .year → NoDate ≡ indexOf d
-  unfolding indexOf valid
-  index-2 a b = rw (le-leb 1996 (d .year) a, lt-leb (d .year) 2899 b)
-
-  pub index-3 : 1996 ≤ d .year → d .year ≤ 2899 → d .month < 1 → NoDate ≡ indexOf d
-  unfolding indexOf valid
-  index-3 a b c = rw (le-leb 1996 (d .year) a, le-leb (d .year) 2899 b, lt-leb 1 (d .month) c)
-
-  pub index-4 : 1996 ≤ d .year → d .year ≤ 2899 → 1 ≤ d .month → 12 < d .month → NoDate ≡ indexOf d
-  unfolding indexOf valid
-  index-4 a b c e = rw (le-leb 1996 (d .year) a, le-leb (d .year) 2899 b, le-leb 1 (d .month) c, lt-leb (d .month) 12 e)
-
-  pub index-5 : 1996 ≤ d .year → d .year ≤ 2899 → 1 ≤ d .month → d .month ≤ 12 → d .day < 1 → NoDate ≡ indexOf d
-  unfolding indexOf valid
-  index-5 a b c e f = rw (le-leb 1996 (d .year) a, le-leb (d .year) 2899 b, le-leb 1 (d .month) c, le-leb (d .month) 12 e, lt-leb 1 (d .day) f)
-
-  pub index-6 : (l : Bool) (n : ℕ) → 1996 ≤ d .year → d .year ≤ 2899 → 1 ≤ d .month → d .month ≤ 12 → 1 ≤ d .day → l ≡ leap (d .year) → n ≡ monthLen l (d .month) → n < d .day → NoDate ≡ indexOf d
-  unfolding indexOf valid
-  index-6 l n a b c e f g h k =
-      rw (le-leb 1996 (d .year) a, le-leb (d .year) 2899 b, le-leb 1 (d .month) c, le-leb (d .month) 12 e, le-leb 1 (d .day) f, ← g, lt-leb (d .day) (monthLen l (d .month)) (omega arith))
-
-  pub index-valid : (l : Bool) (n : ℕ) → 1996 ≤ d .year → d .year ≤ 2899 → 1 ≤ d .month → d .month ≤ 12 → 1 ≤ d .day → l ≡ leap (d .year) → n ≡ monthLen l (d .month) → d .day ≤ n → valid d ≡ true
+  pub too-early : d .year < 1996 → false ≡ valid d
   unfolding valid
-  index-valid l n a b c e f g h k =
-      rw (le-leb 1996 (d .year) a, le-leb (d .year) 2899 b, le-leb 1 (d .month) c, le-leb (d .month) 12 e, le-leb 1 (d .day) f, ← g, le-leb (d .day) (monthLen l (d .month)) (omega arith))
+  too-early a = rw (lt-leb 1996 (d .year) a)
 
-  pub index-7 : (r : ℕ) → valid d ≡ true → r ≡ daysBefore d → Day r ≡ indexOf d
+  pub too-late : 1996 ≤ d .year → 2899 < d .year → false ≡ valid d
+  unfolding valid
+  too-late a b = rw (le-leb 1996 (d .year) a, lt-leb (d .year) 2899 b)
+
+  module _ (a : 1996 ≤ d .year) (b : d .year ≤ 2899) where
+    pub no-month : d .month < 1 → false ≡ valid d
+    unfolding valid
+    no-month c = rw (le-leb 1996 (d .year) a, le-leb (d .year) 2899 b, lt-leb 1 (d .month) c)
+
+    pub month-over : 1 ≤ d .month → 12 < d .month → false ≡ valid d
+    unfolding valid
+    month-over c e = rw (le-leb 1996 (d .year) a, le-leb (d .year) 2899 b, le-leb 1 (d .month) c, lt-leb (d .month) 12 e)
+
+    module _ (c : 1 ≤ d .month) (e : d .month ≤ 12) where
+      pub no-day : d .day < 1 → false ≡ valid d
+      unfolding valid
+      no-day f = rw (le-leb 1996 (d .year) a, le-leb (d .year) 2899 b, le-leb 1 (d .month) c, le-leb (d .month) 12 e, lt-leb 1 (d .day) f)
+
+      pub in-every-month : 1 ≤ d .day → d .day ≤ 28 → true ≡ valid d
+      in-every-month f h =
+          sym (is-valid d (record { from = a; to = b; month-from = c; month-to = e; day-from = f; day-to = omega (arith, len-ge (leap (d .year)) (d .month) c e) }))
+
+      -- l and n are what `is_leap` and `days_in_month` returned
+      pub by-length : (l : Bool) (n : ℕ) → 1 ≤ d .day → l ≡ leap (d .year) → n ≡ monthLen l (d .month) → leb (d .day) n ≡ valid d
+      unfolding valid
+      by-length l n f g h = rw (le-leb 1996 (d .year) a, le-leb (d .year) 2899 b, le-leb 1 (d .month) c, le-leb (d .month) 12 e, le-leb 1 (d .day) f, ← g, h)
+
+pub ruleset valid-rules = (too-early, too-late, no-month, month-over, no-day, in-every-month, by-length)
+
+-- index_of: b is what `is_date` returned, r what `days_before` did
+module _ (d : Date) (b : Bool) (g : b ≡ valid d) where
+  pub is-asked : b ≡ true → valid d ≡ true
+  is-asked t = sym g ∙ t
+
+  pub has-day : (r : ℕ) → b ≡ true → r ≡ daysBefore d → Day r ≡ indexOf d
   unfolding indexOf
-  index-7 r v e = rw (v, e)
+  has-day r t e = rw (is-asked t, e)
 
-pub ruleset index-rules = (index-1, index-2, index-3, index-4, index-5, index-6)
+  pub no-date : b ≡ false → NoDate ≡ indexOf d
+  unfolding indexOf
+  no-date t = rw (sym g ∙ t)
+
+pub ruleset index-rules = (is-asked, has-day, no-date)
 
 -- date_of: y and x are the year and the day in it that `year_of` returned
 module _ (i y x : ℕ) (h : i ≤ last) (e : y ≡ yearOf i .0) (f : x ≡ yearOf i .1) (l : Bool) (g : l ≡ leap (1996 + y)) where

@@ -154,32 +154,45 @@ pub fn days_before(date: Date) -> u32
     year_start(k) + month_start(leap, month) + (day - 1)
 }
 
-/// The index of a date: 1 January 1996 is 0, 31 December 2899 is 330,179. 29 February 2026 is no date.
-pub fn index_of(date: Date) -> Index
-    ensures { λ r. ⌜ r ≡ indexOf date ⌝ }
+/// Every month has these days: a date with no later day needs no look at its month's length.
+const SHORTEST_MONTH: u8 = 28;
+
+/// Whether three numbers are a date of the range. 29 February 2026 is none.
+pub fn is_date(date: Date) -> bool
+    ensures { λ r. ⌜ r ≡ valid date ⌝ }
 {
     let year = date.year;
     let month = date.month;
     let day = date.day;
     if year < FIRST_YEAR {
-        return Index::NoDate;
+        return false;
     }
     if LAST_YEAR < year {
-        return Index::NoDate;
+        return false;
     }
     if month < 1 {
-        return Index::NoDate;
+        return false;
     }
     if 12 < month {
-        return Index::NoDate;
+        return false;
     }
     if day < 1 {
-        return Index::NoDate;
+        return false;
     }
-    if days_in_month(is_leap(year), month) < day {
-        return Index::NoDate;
+    if day <= SHORTEST_MONTH {
+        return true;
     }
-    Index::Day(days_before(date))
+    day <= days_in_month(is_leap(year), month)
+}
+
+/// The index of a date: 1 January 1996 is 0, 31 December 2899 is 330,179.
+pub fn index_of(date: Date) -> Index
+    ensures { λ r. ⌜ r ≡ indexOf date ⌝ }
+{
+    if is_date(date) {
+        return Index::Day(days_before(date));
+    }
+    Index::NoDate
 }
 
 /// The date of an index: what `index_of` undoes.
@@ -229,9 +242,12 @@ fn split_months(t: i64) -> YearMonth
 
 /// The day in a month of the calendar; one that the month lacks becomes its last.
 fn in_month(year: u16, month: u8, day: u8) -> Shifted
-    requires { ⌜ (1996 ≤ year) × (year ≤ 2899) ⌝ }
+    requires { ⌜ (1996 ≤ year) × (year ≤ 2899) × (1 ≤ month) × (month ≤ 12) ⌝ }
     ensures { λ r. ⌜ r ≡ inMonth year month day ⌝ }
 {
+    if day <= SHORTEST_MONTH {
+        return Shifted::On(Date { year, month, day });
+    }
     let longest = days_in_month(is_leap(year), month);
     if longest < day {
         return Shifted::On(Date {

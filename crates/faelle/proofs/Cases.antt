@@ -20,10 +20,10 @@ use Rattle.vorlauf.specs.Verdict.{dayAfter, dayAfterNext, checkOf}
 use Rattle.vorlauf.specs.Span.{spanOf}
 use Rattle.antwortsatz.specs.declared.Answer.{Answer}
 use Rattle.antwortsatz.specs.Answers.{zeroDate, refusedWith, kindAnswer, dateAnswer, instantAnswer, verdictAnswer, spanAnswer}
-use Rattle.mako_fristen.specs.Kalender.{isWerktagAnswer, addWerktageAnswer}
-use Rattle.mako_fristen.specs.Uhrzeit.{berlinAtAnswer, tagesbeginnUtcAnswer}
-use Rattle.mako_fristen.specs.Frist.{contrlAnswer, fristAnswer}
-use Rattle.mako_fristen.specs.Vorlauf.{vorlaufCheckAnswer, vorlaufSpanAnswer}
+use Rattle.antworten.specs.Kalender.{isWerktagAnswer, addWerktageAnswer}
+use Rattle.antworten.specs.Uhrzeit.{berlinAtAnswer, tagesbeginnUtcAnswer}
+use Rattle.antworten_frist.specs.Frist.{contrlAnswer, fristAnswer}
+use Rattle.antworten_vorlauf.specs.Vorlauf.{vorlaufCheckAnswer, vorlaufSpanAnswer}
 
 abbrev on : ℕ → ℕ → Date
 on m d = record { year = 2026; month = m; day = d }

@@ -1,247 +1,8 @@
 // Due instants: document 01, refusals 4, 5, 6 and 8.
 ghost use mathlib.Core.Path.{_≡_};
-ghost use Prim.Native.Nat.{_≤_};
 ghost use Rattle.antwortsatz.specs.Bytes.{repliedTo};
 ghost use Rattle.berlin.specs.Berlin.{readInstant, readClock};
-ghost use Rattle.fristen.specs.Fristen.{properDue};
-ghost use Rattle.mako_fristen.specs.Reading.{properReading, properClock};
-ghost use Rattle.mako_fristen.specs.FristReading.{anlassOf, dueAnswer, shapeOf, properShapeReading};
-ghost use Rattle.mako_fristen.specs.Frist.{contrlAnswer, aperakStromAnswer, aperakStromAllgemeinAnswer, aperakGasFolgeprozessAnswer, aperakGasInitialprozessAnswer, aperakGasAnswer, addHoursAnswer, deadlineAtWerktageAnswer, endOfWerktagAfterAnswer, nextWerktagAtAnswer, nthWerktagAtAnswer, fristAnswer};
-use antwortsatz::ABSENT_TIME;
-use antwortsatz::Answer;
-use antwortsatz::LEFT_CALENDAR;
-use antwortsatz::NO_CLOCK;
-use antwortsatz::NO_INSTANT;
-use antwortsatz::UNKNOWN_CODE;
-use berlin::ClockReading;
-use berlin::Reading;
-use fristen::ContrlAnlass;
-use fristen::Due;
-use fristen::FristShape;
-use werktag::HolidayCalendar;
-
-/// The occasion of a code, or that the code is unknown.
-pub enum AnlassCode {
-    Known(ContrlAnlass),
-    Unknown,
-}
-
-fn anlass_of(code: u8) -> AnlassCode
-    ensures { λ r. ⌜ r ≡ anlassOf code ⌝ }
-{
-    if code < 1 {
-        return AnlassCode::Known(ContrlAnlass::Regelfall);
-    }
-    if code < 2 {
-        return AnlassCode::Known(ContrlAnlass::StromUtilmdOderOrders);
-    }
-    if code < 3 {
-        return AnlassCode::Known(ContrlAnlass::GasAlocat);
-    }
-    AnlassCode::Unknown
-}
-
-/// The seconds and nanoseconds of a due instant beside a kind, or refusal 6 or 8.
-fn due_answer(kind: u8, due: Due) -> Answer
-    requires { ⌜ properDue due ⌝ }
-    ensures { λ r. ⌜ r ≡ dueAnswer kind due ⌝ }
-{
-    match due {
-        Due::At(at) => antwortsatz::at_instant(kind, berlin::seconds_of(at), at.nanos),
-        Due::Absent => antwortsatz::refused(ABSENT_TIME),
-        Due::Outside => antwortsatz::refused(LEFT_CALENDAR),
-    }
-}
-
-/// A shape with its count and clock, or that its clock is none. A count or clock that the shape does not use is not looked at.
-pub enum ShapeReading {
-    Known(FristShape),
-    NoClock,
-}
-
-/// The shape of a code from 0 to 3.
-fn shape_of(code: u8, werktage: u32, clock: ClockReading) -> ShapeReading
-    requires { ⌜ properClock clock ⌝ }
-    ensures { λ r. ⌜ (r ≡ shapeOf code werktage clock) × properShapeReading r ⌝ }
-{
-    if code < 1 {
-        let ClockReading::At(at) = clock else {
-            return ShapeReading::NoClock;
-        };
-        return ShapeReading::Known(FristShape::WerktagAt { werktage, at });
-    }
-    if code < 2 {
-        return ShapeReading::Known(FristShape::EndOfWerktag(werktage));
-    }
-    if code < 3 {
-        let ClockReading::At(at) = clock else {
-            return ShapeReading::NoClock;
-        };
-        return ShapeReading::Known(FristShape::SameDayAt(at));
-    }
-    ShapeReading::Known(FristShape::SameDay)
-}
-
-fn contrl_due_at_answer(instant: Reading, code: u8) -> Answer
-    requires { ⌜ properReading instant ⌝ }
-    ensures { λ r. ⌜ r ≡ contrlAnswer instant code ⌝ }
-{
-    let AnlassCode::Known(anlass) = anlass_of(code) else {
-        return antwortsatz::refused(UNKNOWN_CODE);
-    };
-    let Reading::At(received) = instant else {
-        return antwortsatz::refused(NO_INSTANT);
-    };
-    due_answer(0, fristen::contrl_due_at(received, anlass))
-}
-
-fn aperak_strom_due_at_answer(instant: Reading) -> Answer
-    requires { ⌜ properReading instant ⌝ }
-    ensures { λ r. ⌜ r ≡ aperakStromAnswer instant ⌝ }
-{
-    let Reading::At(received) = instant else {
-        return antwortsatz::refused(NO_INSTANT);
-    };
-    due_answer(0, fristen::aperak_strom_due_at(received))
-}
-
-fn aperak_strom_allgemein_due_at_answer(instant: Reading) -> Answer
-    requires { ⌜ properReading instant ⌝ }
-    ensures { λ r. ⌜ r ≡ aperakStromAllgemeinAnswer instant ⌝ }
-{
-    let Reading::At(received) = instant else {
-        return antwortsatz::refused(NO_INSTANT);
-    };
-    due_answer(
-        0,
-        fristen::aperak_strom_allgemein_due_at(received, HolidayCalendar::BdewMaKo),
-    )
-}
-
-fn aperak_gas_folgeprozess_due_at_answer(instant: Reading) -> Answer
-    requires { ⌜ properReading instant ⌝ }
-    ensures { λ r. ⌜ r ≡ aperakGasFolgeprozessAnswer instant ⌝ }
-{
-    let Reading::At(received) = instant else {
-        return antwortsatz::refused(NO_INSTANT);
-    };
-    due_answer(
-        0,
-        fristen::aperak_gas_folgeprozess_due_at(received, HolidayCalendar::BdewMaKo),
-    )
-}
-
-fn aperak_gas_initialprozess_due_at_answer(instant: Reading) -> Answer
-    requires { ⌜ properReading instant ⌝ }
-    ensures { λ r. ⌜ r ≡ aperakGasInitialprozessAnswer instant ⌝ }
-{
-    let Reading::At(received) = instant else {
-        return antwortsatz::refused(NO_INSTANT);
-    };
-    due_answer(
-        1,
-        fristen::aperak_gas_initialprozess_due_at(received, HolidayCalendar::BdewMaKo),
-    )
-}
-
-fn aperak_gas_due_at_answer(pid: u32, instant: Reading) -> Answer
-    requires { ⌜ properReading instant ⌝ }
-    ensures { λ r. ⌜ r ≡ aperakGasAnswer pid instant ⌝ }
-{
-    let Reading::At(received) = instant else {
-        return antwortsatz::refused(NO_INSTANT);
-    };
-    let gas = fristen::aperak_gas_due_at(pid, received, HolidayCalendar::BdewMaKo);
-    let due = gas.due;
-    if gas.initial {
-        return due_answer(1, due);
-    }
-    due_answer(0, due)
-}
-
-fn add_hours_answer(instant: Reading, hours: u32) -> Answer
-    requires { ⌜ properReading instant ⌝ }
-    ensures { λ r. ⌜ r ≡ addHoursAnswer instant hours ⌝ }
-{
-    let Reading::At(from) = instant else {
-        return antwortsatz::refused(NO_INSTANT);
-    };
-    due_answer(0, fristen::add_hours(from, hours))
-}
-
-fn deadline_at_werktage_answer(instant: Reading, werktage: u32) -> Answer
-    requires { ⌜ properReading instant ⌝ }
-    ensures { λ r. ⌜ r ≡ deadlineAtWerktageAnswer instant werktage ⌝ }
-{
-    let Reading::At(from) = instant else {
-        return antwortsatz::refused(NO_INSTANT);
-    };
-    due_answer(
-        0,
-        fristen::deadline_at_werktage(from, werktage, HolidayCalendar::BdewMaKo),
-    )
-}
-
-fn end_of_werktag_after_answer(instant: Reading, werktage: u32) -> Answer
-    requires { ⌜ properReading instant ⌝ }
-    ensures { λ r. ⌜ r ≡ endOfWerktagAfterAnswer instant werktage ⌝ }
-{
-    let Reading::At(received) = instant else {
-        return antwortsatz::refused(NO_INSTANT);
-    };
-    due_answer(
-        0,
-        fristen::end_of_werktag_after(received, werktage, HolidayCalendar::BdewMaKo),
-    )
-}
-
-fn next_werktag_at_answer(instant: Reading, clock: ClockReading) -> Answer
-    requires { ⌜ (properReading instant) × (properClock clock) ⌝ }
-    ensures { λ r. ⌜ r ≡ nextWerktagAtAnswer instant clock ⌝ }
-{
-    let Reading::At(received) = instant else {
-        return antwortsatz::refused(NO_INSTANT);
-    };
-    let ClockReading::At(at) = clock else {
-        return antwortsatz::refused(NO_CLOCK);
-    };
-    due_answer(
-        0,
-        fristen::next_werktag_at(received, at, HolidayCalendar::BdewMaKo),
-    )
-}
-
-fn nth_werktag_at_answer(instant: Reading, n: u32, clock: ClockReading) -> Answer
-    requires { ⌜ (properReading instant) × (properClock clock) ⌝ }
-    ensures { λ r. ⌜ r ≡ nthWerktagAtAnswer instant n clock ⌝ }
-{
-    let Reading::At(received) = instant else {
-        return antwortsatz::refused(NO_INSTANT);
-    };
-    let ClockReading::At(at) = clock else {
-        return antwortsatz::refused(NO_CLOCK);
-    };
-    due_answer(
-        0,
-        fristen::nth_werktag_at(received, n, at, HolidayCalendar::BdewMaKo),
-    )
-}
-
-fn frist_due_at_answer(code: u8, werktage: u32, clock: ClockReading, instant: Reading) -> Answer
-    requires { ⌜ (properReading instant) × (properClock clock) ⌝ }
-    ensures { λ r. ⌜ r ≡ fristAnswer code werktage clock instant ⌝ }
-{
-    if 3 < code {
-        return antwortsatz::refused(UNKNOWN_CODE);
-    }
-    let Reading::At(received) = instant else {
-        return antwortsatz::refused(NO_INSTANT);
-    };
-    let ShapeReading::Known(shape) = shape_of(code, werktage, clock) else {
-        return antwortsatz::refused(NO_CLOCK);
-    };
-    due_answer(0, shape.due_at(received, HolidayCalendar::BdewMaKo))
-}
+ghost use Rattle.antworten_frist.specs.Frist.{contrlAnswer, aperakStromAnswer, aperakStromAllgemeinAnswer, aperakGasFolgeprozessAnswer, aperakGasInitialprozessAnswer, aperakGasAnswer, addHoursAnswer, deadlineAtWerktageAnswer, endOfWerktagAfterAnswer, nextWerktagAtAnswer, nthWerktagAtAnswer, fristAnswer};
 
 /// When a CONTRL is due.
 #[no_mangle]
@@ -249,7 +10,7 @@ pub extern "C" fn mf_contrl_due_at(seconds: i64, nanos: u32, anlass: u8, answer:
     ensures { λ r. ⌜ (r, now (answer .exit)) ≡ repliedTo (now (answer .entry)) (contrlAnswer (readInstant seconds nanos) anlass) ⌝ }
 {
     let instant = berlin::read_instant(seconds, nanos);
-    let a = contrl_due_at_answer(instant, anlass);
+    let a = antworten_frist::contrl_due_at_answer(instant, anlass);
     antwortsatz::reply(answer, a)
 }
 
@@ -259,7 +20,7 @@ pub extern "C" fn mf_aperak_strom_due_at(seconds: i64, nanos: u32, answer: &mut 
     ensures { λ r. ⌜ (r, now (answer .exit)) ≡ repliedTo (now (answer .entry)) (aperakStromAnswer (readInstant seconds nanos)) ⌝ }
 {
     let instant = berlin::read_instant(seconds, nanos);
-    let a = aperak_strom_due_at_answer(instant);
+    let a = antworten_frist::aperak_strom_due_at_answer(instant);
     antwortsatz::reply(answer, a)
 }
 
@@ -273,7 +34,7 @@ pub extern "C" fn mf_aperak_strom_allgemein_due_at(
     ensures { λ r. ⌜ (r, now (answer .exit)) ≡ repliedTo (now (answer .entry)) (aperakStromAllgemeinAnswer (readInstant seconds nanos)) ⌝ }
 {
     let instant = berlin::read_instant(seconds, nanos);
-    let a = aperak_strom_allgemein_due_at_answer(instant);
+    let a = antworten_frist::aperak_strom_allgemein_due_at_answer(instant);
     antwortsatz::reply(answer, a)
 }
 
@@ -287,7 +48,7 @@ pub extern "C" fn mf_aperak_gas_folgeprozess_due_at(
     ensures { λ r. ⌜ (r, now (answer .exit)) ≡ repliedTo (now (answer .entry)) (aperakGasFolgeprozessAnswer (readInstant seconds nanos)) ⌝ }
 {
     let instant = berlin::read_instant(seconds, nanos);
-    let a = aperak_gas_folgeprozess_due_at_answer(instant);
+    let a = antworten_frist::aperak_gas_folgeprozess_due_at_answer(instant);
     antwortsatz::reply(answer, a)
 }
 
@@ -301,7 +62,7 @@ pub extern "C" fn mf_aperak_gas_initialprozess_due_at(
     ensures { λ r. ⌜ (r, now (answer .exit)) ≡ repliedTo (now (answer .entry)) (aperakGasInitialprozessAnswer (readInstant seconds nanos)) ⌝ }
 {
     let instant = berlin::read_instant(seconds, nanos);
-    let a = aperak_gas_initialprozess_due_at_answer(instant);
+    let a = antworten_frist::aperak_gas_initialprozess_due_at_answer(instant);
     antwortsatz::reply(answer, a)
 }
 
@@ -311,7 +72,7 @@ pub extern "C" fn mf_aperak_gas_due_at(pid: u32, seconds: i64, nanos: u32, answe
     ensures { λ r. ⌜ (r, now (answer .exit)) ≡ repliedTo (now (answer .entry)) (aperakGasAnswer pid (readInstant seconds nanos)) ⌝ }
 {
     let instant = berlin::read_instant(seconds, nanos);
-    let a = aperak_gas_due_at_answer(pid, instant);
+    let a = antworten_frist::aperak_gas_due_at_answer(pid, instant);
     antwortsatz::reply(answer, a)
 }
 
@@ -321,7 +82,7 @@ pub extern "C" fn mf_add_hours(seconds: i64, nanos: u32, hours: u32, answer: &mu
     ensures { λ r. ⌜ (r, now (answer .exit)) ≡ repliedTo (now (answer .entry)) (addHoursAnswer (readInstant seconds nanos) hours) ⌝ }
 {
     let instant = berlin::read_instant(seconds, nanos);
-    let a = add_hours_answer(instant, hours);
+    let a = antworten_frist::add_hours_answer(instant, hours);
     antwortsatz::reply(answer, a)
 }
 
@@ -336,7 +97,7 @@ pub extern "C" fn mf_deadline_at_werktage(
     ensures { λ r. ⌜ (r, now (answer .exit)) ≡ repliedTo (now (answer .entry)) (deadlineAtWerktageAnswer (readInstant seconds nanos) werktage) ⌝ }
 {
     let instant = berlin::read_instant(seconds, nanos);
-    let a = deadline_at_werktage_answer(instant, werktage);
+    let a = antworten_frist::deadline_at_werktage_answer(instant, werktage);
     antwortsatz::reply(answer, a)
 }
 
@@ -351,7 +112,7 @@ pub extern "C" fn mf_end_of_werktag_after(
     ensures { λ r. ⌜ (r, now (answer .exit)) ≡ repliedTo (now (answer .entry)) (endOfWerktagAfterAnswer (readInstant seconds nanos) werktage) ⌝ }
 {
     let instant = berlin::read_instant(seconds, nanos);
-    let a = end_of_werktag_after_answer(instant, werktage);
+    let a = antworten_frist::end_of_werktag_after_answer(instant, werktage);
     antwortsatz::reply(answer, a)
 }
 
@@ -370,7 +131,7 @@ pub extern "C" fn mf_next_werktag_at(
 {
     let instant = berlin::read_instant(seconds, nanos);
     let clock = berlin::read_clock(hour, minute, second, nanos_of_second);
-    let a = next_werktag_at_answer(instant, clock);
+    let a = antworten_frist::next_werktag_at_answer(instant, clock);
     antwortsatz::reply(answer, a)
 }
 
@@ -390,7 +151,7 @@ pub extern "C" fn mf_nth_werktag_at(
 {
     let instant = berlin::read_instant(seconds, nanos);
     let clock = berlin::read_clock(hour, minute, second, nanos_of_second);
-    let a = nth_werktag_at_answer(instant, n, clock);
+    let a = antworten_frist::nth_werktag_at_answer(instant, n, clock);
     antwortsatz::reply(answer, a)
 }
 
@@ -411,6 +172,6 @@ pub extern "C" fn mf_frist_due_at(
 {
     let clock = berlin::read_clock(hour, minute, second, nanos_of_second);
     let instant = berlin::read_instant(seconds, nanos);
-    let a = frist_due_at_answer(shape, werktage, clock, instant);
+    let a = antworten_frist::frist_due_at_answer(shape, werktage, clock, instant);
     antwortsatz::reply(answer, a)
 }

@@ -1,16 +1,17 @@
 -- What the proofs of the shifts by months ask, with the premises in the form in which a proof has them: d is what `date_of`
 -- returned, s and v are what shifts returned, r and u steps.
---   month-some target-month    the month of a date is one: what a shift asks
+--   month-some date-month      the month of a date is one: what a shift asks
 --   *-dated first-dated        a shift reaches a date of the range: what `to_step` asks
 --   date-valid                 so that date is valid: what `days_before` asks
 --   toStep-* later-is earlier-is   the returns of `to_step`, `months_later`, `months_earlier`
---   M-on M-first M-gone        the three returns of `months_or_first`
+--   date-gone date-kept date-first   the three returns of `months_or_first_date`; date-reached is what the second promises
+--   M-dated                    the return of `months_or_first`
 --   month-rules                = these, for `search (needs, ..)`
 -- Source: the definitions of Monate.
 -- Assumes nothing.
 use Prim.Native.Nat.{ℕ, _≤_, _<_}
 use mathlib.Core.Bool.{true}
-use mathlib.Core.Path.{_≡_, ap, _∙_}
+use mathlib.Core.Path.{_≡_, refl, sym, ap, _∙_}
 use native.Mathlib.Omega.{arith}
 use Rattle.zaehlung.specs.declared.Step.{Step}
 use Rattle.zaehlung.specs.declared.Step.the-variants.{Day}
@@ -21,7 +22,7 @@ use Rattle.datum.specs.declared.Shifted.{Shifted}
 use Rattle.datum.specs.declared.Shifted.the-variants.{On, Outside as Gone}
 use Rattle.datum.specs.Calendar.{valid, daysBefore, dateOf}
 use Rattle.datum.specs.MonthShift.{addMonths, subtractMonths}
-use Rattle.datum.proofs.Dates.{index-date, valid-is}
+use Rattle.datum.proofs.Dates.{index-date, date-index, index-below, valid-is, is-valid}
 use Rattle.vorlauf.specs.Monate.{isDate, toStep, monthsLater, monthsEarlier, M}
 use Rattle.vorlauf.proofs.Months.{added-date, taken-date, M-kept, M-cut, M-out}
 
@@ -51,38 +52,46 @@ pub earlier-is : (i n : ℕ) (d : Date) (s : Shifted) (r : Step) → d ≡ dateO
 unfolding monthsEarlier
 earlier-is i n d s r e p q = rw (q, p, e)
 
--- the first of the target month, in M
-pub target-month : (i n : ℕ) (d e : Date) (s : Shifted) → i ≤ last → d ≡ dateOf i → s ≡ addMonths d n → s ≡ On e → 1 ≤ e .month
-target-month i n d e s h g p q = valid-is e (date-valid s e (later-dated i n d s h g p) q) .month-from
-
 pub first-dated : (y m : ℕ) (s : Shifted) → s ≡ addMonths (record { year = y; month = m; day = 1 }) 1 → isDate s
 first-dated y m s p = rw p (added-date (record { year = y; month = m; day = 1 }) 1 (omega arith))
 
-pub M-on :
-    (n i k : ℕ) (d e : Date) (s : Shifted) → d ≡ dateOf i → s ≡ addMonths d n → s ≡ On e → d .day ≤ e .day → k ≡ daysBefore e → Day k ≡ M n i
-M-on n i k d e s g p q h m = let l = ap Day m in l ∙ M-kept n i d s g p e q h
+-- a date of the range is that of its own index
+own-date : (d : Date) → valid d ≡ true → d ≡ dateOf (daysBefore d)
+own-date d v = sym (date-index d (valid-is d v))
 
-pub M-first :
-    (n i : ℕ) (d e : Date) (s v : Shifted) (u : Step) →
-    d ≡ dateOf i → s ≡ addMonths d n → s ≡ On e → e .day < d .day →
-    v ≡ addMonths (record { year = e .year; month = e .month; day = 1 }) 1 → u ≡ toStep v → u ≡ M n i
-M-first n i d e s v u g p q h f l = M-cut n i d s g p e v u q h f l
+pub date-month : (d : Date) → valid d ≡ true → 1 ≤ d .month
+date-month d v = valid-is d v .month-from
 
-pub M-gone : (n i : ℕ) (d : Date) (s : Shifted) → i ≤ last → d ≡ dateOf i → s ≡ addMonths d n → s ≡ Gone → Left ≡ M n i
-M-gone n i d s h g p q = M-out n i d s g p h q
+-- months_or_first_date: s is what `add_months` returned for d
+module _ (d : Date) (n : ℕ) (s : Shifted) (v : valid d ≡ true) (p : s ≡ addMonths d n) where
+  inside : daysBefore d ≤ last
+  inside = index-below d (valid-is d v)
 
-pub ruleset month-rules = (
-  month-some,
-  later-dated,
-  earlier-dated,
-  date-valid,
-  toStep-on,
-  toStep-gone,
-  later-is,
-  earlier-is,
-  target-month,
-  first-dated,
-  M-on,
-  M-first,
-  M-gone,
-)
+  pub date-gone : s ≡ Gone → Left ≡ M n (daysBefore d)
+  date-gone q = M-out n (daysBefore d) d s (own-date d v) p inside q
+
+  module _ (e : Date) (q : s ≡ On e) where
+    pub date-reached : valid e ≡ true
+    date-reached = date-valid s e (later-dated (daysBefore d) n d s inside (own-date d v) p) q
+
+    pub reached-month : 1 ≤ e .month
+    reached-month = date-month e date-reached
+
+    pub date-kept : d .day ≤ e .day → Day (daysBefore e) ≡ M n (daysBefore d)
+    date-kept h = M-kept n (daysBefore d) d s (own-date d v) p e q h
+
+    -- w is what it returned for the first of the month reached
+    pub date-first : (w : Shifted) → e .day < d .day → w ≡ addMonths (record { year = e .year; month = e .month; day = 1 }) 1 → toStep w ≡ M n (daysBefore d)
+    date-first w h f = M-cut n (daysBefore d) d s (own-date d v) p e w (toStep w) q h f refl
+
+pub ruleset date-shift-rules = (date-month, date-gone, date-reached, reached-month, date-kept, date-first, first-dated)
+
+pub day-valid : (i : ℕ) (d : Date) → i ≤ last → d ≡ dateOf i → valid d ≡ true
+day-valid i d h e = rw e (is-valid (dateOf i) (index-date i h .0))
+
+pub M-dated : (n i : ℕ) (d : Date) (s : Shifted) (u : Step) → i ≤ last → d ≡ dateOf i → toStep s ≡ M n (daysBefore d) → u ≡ toStep s → u ≡ M n i
+M-dated n i d s u h e p q =
+    let k : daysBefore d ≡ i = rw e (index-date i h .1) in
+    q ∙ p ∙ ap (M n) k
+
+pub ruleset month-rules = (month-some, later-dated, earlier-dated, date-valid, toStep-on, toStep-gone, later-is, earlier-is, day-valid, M-dated)

@@ -17,7 +17,7 @@ use zaehlung::LAST;
 use zaehlung::Step;
 
 pub mod abmeldung;
-mod monate;
+pub mod monate;
 
 /// The shape of a Vorlauffrist, in Werktagen or months relative to its anchor date.
 pub enum VorlaufShape {

@@ -1,6 +1,6 @@
 -- `datum::on_month` meets its contract: after the two tests the number is a natural one, where signed division is the unsigned one.
 -- Assumes nothing.
-use Rattle.datum.proofs.MonthRules.{InRange, early, late, in-range, year-cast, month-fits, month-cast, year-within, on-it}
+use Rattle.datum.proofs.MonthRules.{InRange, early, late, in-range, year-cast, month-fits, month-cast, within, on-it}
 use borrow.Author.Needs.{needs}
 use Rattle.datum.proofs.on_month.Statement.{statement}
 use Rattle.datum.proofs.on_month.Tie as tie
@@ -38,7 +38,7 @@ cast-in-month-2 : tie.Need-cast-in-month-2
 cast-in-month-2 c = month-cast (range c)
 
 in-month-requires : tie.Need-in-month-requires
-in-month-requires c κs = year-within (range c)
+in-month-requires c κs = within (range c)
 
 returns-3 : tie.Need-returns-3
 returns-3 c = on-it (range (c .before)) (c .before .before .before .before .before .before .args .day) (c .in-month .result) (c .in-month .ensures)

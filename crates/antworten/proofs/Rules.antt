@@ -1,0 +1,256 @@
+-- What the proofs of the host calls cite, with premises in the form in which they stand there. The same rules serve every call: a date that
+-- is none, a date that is taken, a step, a shift.
+-- Assumes nothing.
+use Prim.Native.Nat.{ℕ, zero, suc, _≤_, _<_}
+use mathlib.Core.Bool.{Bool, true, false, not}
+use mathlib.Core.Path.{_≡_, refl, sym, ap, _∙_}
+use native.Mathlib.Omega.{arith}
+use lib.IntN.{ℤ, pos}
+use mir.Syntax.{w64}
+use mir.Val.{SFits}
+use mir.Facts.{toZ-ofZ}
+use Rattle.zaehlung.specs.declared.Step.{Step}
+use Rattle.zaehlung.specs.declared.Step.the-variants.{Day, Outside}
+use Rattle.zaehlung.specs.Walk.{bit, last, add, sub, next, between}
+use Rattle.zaehlung.specs.Laws.{add-inside, sub-inside, next-inside}
+use Rattle.datum.specs.declared.Date.{Date}
+use Rattle.datum.specs.declared.Index.{Index}
+use Rattle.datum.specs.declared.Index.the-variants.{Day as At, NoDate}
+use Rattle.datum.specs.declared.Shifted.{Shifted}
+use Rattle.datum.specs.declared.Shifted.the-variants.{On, Outside as Left}
+use Rattle.datum.specs.Calendar.{valid, daysBefore, indexOf, dateOf}
+use Rattle.datum.proofs.Dates.{valid-is}
+use Rattle.datum.proofs.RoundTrip.{index-inside}
+use Rattle.berlin.specs.declared.Moment.{Moment}
+use Rattle.berlin.specs.declared.Clock.{Clock}
+use Rattle.berlin.specs.declared.Reading.{Reading}
+use Rattle.berlin.specs.declared.Reading.the-variants.{At as Read, NoInstant}
+use Rattle.berlin.specs.declared.ClockReading.{ClockReading}
+use Rattle.berlin.specs.declared.ClockReading.the-variants.{At as Clocked, NoClock}
+use Rattle.berlin.specs.declared.Resolved.{Resolved}
+use Rattle.berlin.specs.declared.Resolved.the-variants.{At as Shown, Absent as Never}
+use Rattle.berlin.specs.declared.Beginn.{Beginn}
+use Rattle.berlin.specs.declared.Beginn.the-variants.{Day as Begins, NoBeginning}
+use Rattle.berlin.specs.declared.Sparte.{Sparte}
+use Rattle.berlin.specs.declared.Sparte.the-variants.{Strom, Gas}
+use Rattle.berlin.specs.Berlin.{Proper, ProperClock, secondsOf, readInstant, readClock, berlinAt, berlinMidnight, endOfDayBerlin, tagesbeginnUtc, tagDesBeginns}
+use Rattle.berlin.proofs.Proper.{read-proper, clock-proper as read-clock-proper, at-proper, midnight-proper, end-proper, begin-proper, beginn-le}
+use Rattle.datum.proofs.Signed.{back, back-pos}
+use Rattle.werktag.specs.declared.HolidayCalendar.{HolidayCalendar}
+use Rattle.werktag.specs.declared.HolidayCalendar.the-variants.{BdewMaKo}
+use Rattle.werktag.specs.Werktag.{werktag}
+use Rattle.antwortsatz.specs.declared.Answer.{Answer}
+use Rattle.antwortsatz.specs.Answers.{refusedWith, kindAnswer, countAnswer, dateAnswer, instantAnswer}
+use Rattle.antworten.specs.declared.uhrzeit.SparteCode.{SparteCode}
+use Rattle.antworten.specs.declared.uhrzeit.SparteCode.the-variants.{Known, Unknown}
+use Rattle.antworten.specs.Reading.{inside, onDate, stepAnswer, shiftAnswer, onInstant, onClock, sparteOf, onSparte, momentAnswer, resolvedAnswer, beginnAnswer, insideBeginn, properReading, properClock, properResolved}
+
+-- x is what `index_of` returned for d
+module _ (d : Date) (x : Index) where
+  pub date-refused : (f : ℕ → Answer) (r : Answer) → x ≡ indexOf d → x ≡ NoDate → r ≡ refusedWith 3 → r ≡ onDate (indexOf d) f
+  date-refused f r e q p = rw (sym e ∙ q) p
+
+  pub date-taken : (f : ℕ → Answer) (r : Answer) (i : ℕ) → x ≡ indexOf d → x ≡ At i → r ≡ f i → r ≡ onDate (indexOf d) f
+  date-taken f r i e q p = rw (sym e ∙ q) p
+
+  pub day-inside : (i : ℕ) → x ≡ indexOf d → x ≡ At i → i ≤ last
+  day-inside i e q = index-inside d i (sym e ∙ q)
+
+not-true : (b : Bool) → not b ≡ true → b ≡ false
+not-true true t = sym t
+not-true false t = refl
+
+not-false : (b : Bool) → not b ≡ false → b ≡ true
+not-false true t = refl
+not-false false t = sym t
+
+-- b is what `is_date` returned for d
+module _ (d : Date) (b : Bool) (g : b ≡ valid d) where
+  pub date-none : (f : ℕ → Answer) (r : Answer) → not b ≡ true → r ≡ refusedWith 3 → r ≡ onDate (indexOf d) f
+  unfolding indexOf
+  date-none f r t p = rw (sym g ∙ not-true b t) p
+
+  pub date-valid : not b ≡ false → valid d ≡ true
+  date-valid t = sym g ∙ not-false b t
+
+  pub date-given : (f : ℕ → Answer) (r : Answer) → not b ≡ false → r ≡ f (daysBefore d) → r ≡ onDate (indexOf d) f
+  unfolding indexOf
+  date-given f r t p = rw (date-valid t) p
+
+  pub date-month : not b ≡ false → 1 ≤ d .month
+  date-month t = valid-is d (date-valid t) .month-from
+
+pub ruleset date-rules = (date-none, date-given, date-valid, date-month)
+
+-- is_werktag_answer: b is what `is_werktag` returned
+pub open-kind : (i : ℕ) (b : Bool) (r : Answer) → b ≡ werktag BdewMaKo i → b ≡ true → r ≡ kindAnswer 1 → r ≡ kindAnswer (bit (werktag BdewMaKo i))
+open-kind i b r e t p = rw (sym e ∙ t) p
+
+pub shut-kind : (i : ℕ) (b : Bool) (r : Answer) → b ≡ werktag BdewMaKo i → b ≡ false → r ≡ kindAnswer 0 → r ≡ kindAnswer (bit (werktag BdewMaKo i))
+shut-kind i b r e t p = rw (sym e ∙ t) p
+
+-- a step s that its function returned
+made-inside : (s : Step) → ((e : ℕ) → s ≡ Day e → e ≤ last) → inside s
+made-inside (Day e) f = f e refl
+made-inside Outside f = tt
+
+pub add-in : (w : ℕ → Bool) (i n : ℕ) (s : Step) → i ≤ last → s ≡ add w i n → inside s
+add-in w i n s h p = made-inside s (λ e q. add-inside w i n e h (sym p ∙ q))
+
+pub sub-in : (w : ℕ → Bool) (i n : ℕ) (s : Step) → i ≤ last → s ≡ sub w i n → inside s
+sub-in w i n s h p = made-inside s (λ e q. sub-inside w i n e h (sym p ∙ q))
+
+pub next-in : (w : ℕ → Bool) (i : ℕ) (s : Step) → i ≤ last → s ≡ next w i → inside s
+next-in w i s h p = made-inside s (λ e q. next-inside w i e h (sym p ∙ q))
+
+pub step-made : (s t : Step) (r : Answer) → s ≡ t → r ≡ stepAnswer s → r ≡ stepAnswer t
+step-made s t r e p = p ∙ ap stepAnswer e
+
+pub shift-made : (s t : Shifted) (r : Answer) → s ≡ t → r ≡ shiftAnswer s → r ≡ shiftAnswer t
+shift-made s t r e p = p ∙ ap shiftAnswer e
+
+pub count-made : (n m : ℕ) (r : Answer) → n ≡ m → r ≡ countAnswer n → r ≡ countAnswer m
+count-made n m r e p = p ∙ ap countAnswer e
+
+-- step_answer, shift_answer
+pub day-reached : (s : Step) (i : ℕ) → inside s → s ≡ Day i → i ≤ last
+day-reached (Day j) i h e = let q : j ≡ i = cc in omega arith
+day-reached Outside i h e = let z : _≡_ {A = ℕ} 0 1 = cc in absurd (omega arith)
+
+pub step-day : (s : Step) (i : ℕ) (d : Date) (r : Answer) → s ≡ Day i → d ≡ dateOf i → r ≡ dateAnswer d → r ≡ stepAnswer s
+step-day s i d r e p q = rw (e, ← p) q
+
+pub step-out : (s : Step) (r : Answer) → s ≡ Outside → r ≡ refusedWith 8 → r ≡ stepAnswer s
+step-out s r e q = rw e q
+
+pub shift-on : (s : Shifted) (d : Date) (r : Answer) → s ≡ On d → r ≡ dateAnswer d → r ≡ shiftAnswer s
+shift-on s d r e q = rw e q
+
+pub shift-out : (s : Shifted) (r : Answer) → s ≡ Left → r ≡ refusedWith 8 → r ≡ shiftAnswer s
+shift-out s r e q = rw e q
+
+pub ruleset step-rules = (day-reached, step-day, step-out, shift-on, shift-out)
+
+pub ruleset answer-rules = (date-refused, date-taken, day-inside, open-kind, shut-kind, add-in, sub-in, next-in, step-made, shift-made, count-made)
+
+pub ruleset month-rules = (date-none, date-given, date-month, shift-made)
+
+-- k is what `read_instant` returned, or what a function was handed
+module _ (k : Reading) where
+  pub instant-refused : (f : Moment → Answer) (r : Answer) → k ≡ NoInstant → r ≡ refusedWith 4 → r ≡ onInstant k f
+  instant-refused f r q p = rw q p
+
+  pub instant-taken : (f : Moment → Answer) (r : Answer) (m : Moment) → k ≡ Read m → r ≡ f m → r ≡ onInstant k f
+  instant-taken f r m q p = rw q p
+
+  pub instant-proper : (m : Moment) → properReading k → k ≡ Read m → Proper m
+  instant-proper m h q = rw q at h
+
+-- the same of a clock
+module _ (k : ClockReading) where
+  pub clock-refused : (f : Clock → Answer) (r : Answer) → k ≡ NoClock → r ≡ refusedWith 5 → r ≡ onClock k f
+  clock-refused f r q p = rw q p
+
+  pub clock-taken : (f : Clock → Answer) (r : Answer) (c : Clock) → k ≡ Clocked c → r ≡ f c → r ≡ onClock k f
+  clock-taken f r c q p = rw q p
+
+  pub clock-proper : (c : Clock) → properClock k → k ≡ Clocked c → ProperClock c
+  clock-proper c h q = rw q at h
+
+-- x is what `sparte_of` returned
+pub sparte-refused : (n : ℕ) (x : SparteCode) (f : Sparte → Answer) (r : Answer) → x ≡ sparteOf n → x ≡ Unknown → r ≡ refusedWith 2 → r ≡ onSparte (sparteOf n) f
+sparte-refused n x f r e q p = rw (sym e ∙ q) p
+
+pub sparte-taken : (n : ℕ) (x : SparteCode) (f : Sparte → Answer) (r : Answer) (s : Sparte) → x ≡ sparteOf n → x ≡ Known s → r ≡ f s → r ≡ onSparte (sparteOf n) f
+sparte-taken n x f r s e q p = rw (sym e ∙ q) p
+
+-- sparte_of: codes one by one
+pub sparte-0 : (n : ℕ) → n < 1 → Known Strom ≡ sparteOf n
+sparte-0 zero h = refl
+sparte-0 (suc n) h = absurd (omega arith)
+
+pub sparte-1 : (n : ℕ) → 1 ≤ n → n < 2 → Known Gas ≡ sparteOf n
+sparte-1 zero h g = absurd (omega arith)
+sparte-1 (suc zero) h g = refl
+sparte-1 (suc (suc n)) h g = absurd (omega arith)
+
+pub sparte-none : (n : ℕ) → 2 ≤ n → Unknown ≡ sparteOf n
+sparte-none zero h = absurd (omega arith)
+sparte-none (suc zero) h = absurd (omega arith)
+sparte-none (suc (suc n)) h = refl
+
+pub ruleset sparte-rules = (sparte-0, sparte-1, sparte-none)
+
+-- z is what `seconds_of` returned for m
+seconds-back : (m : Moment) (z : ℤ) → Proper m → z ≡ pos (secondsOf m) → back z ≡ pos (secondsOf m)
+seconds-back m z h e = rw e (back-pos (secondsOf m) (omega (arith, h .to)))
+
+pub moment-made : (k : ℕ) (m : Moment) (z : ℤ) (r : Answer) → Proper m → z ≡ pos (secondsOf m) → r ≡ instantAnswer k (back z) (m .nanos) → r ≡ momentAnswer k m
+moment-made k m z r h e p = rw (seconds-back m z h e) at p
+
+pub resolved-at : (s : Resolved) (m : Moment) (r : Answer) → s ≡ Shown m → r ≡ momentAnswer 0 m → r ≡ resolvedAnswer s
+resolved-at s m r q p = rw q p
+
+pub resolved-never : (s : Resolved) (r : Answer) → s ≡ Never → r ≡ refusedWith 6 → r ≡ resolvedAnswer s
+resolved-never s r q p = rw q p
+
+pub resolved-proper : (s : Resolved) (m : Moment) → properResolved s → s ≡ Shown m → Proper m
+resolved-proper s m h q = rw q at h
+
+pub beginn-day : (s : Beginn) (i : ℕ) (d : Date) (r : Answer) → s ≡ Begins i → d ≡ dateOf i → r ≡ dateAnswer d → r ≡ beginnAnswer s
+beginn-day s i d r q e p = rw (q, ← e) p
+
+pub beginn-none : (s : Beginn) (r : Answer) → s ≡ NoBeginning → r ≡ refusedWith 7 → r ≡ beginnAnswer s
+beginn-none s r q p = rw q p
+
+pub beginn-inside : (s : Beginn) (i : ℕ) → insideBeginn s → s ≡ Begins i → i ≤ last
+beginn-inside s i h q = rw q at h
+
+pub ruleset moment-rules = (moment-made, resolved-at, resolved-never, resolved-proper, beginn-day, beginn-none, beginn-inside)
+
+-- what berlin returns is inside the calendar
+pub read-in : (z : ℤ) (x : ℕ) (k : Reading) → k ≡ readInstant z x → properReading k
+read-in z x (Read m) e = read-proper z x (Read m) m e refl
+read-in z x NoInstant e = tt
+
+pub clock-in : (h m s x : ℕ) (k : ClockReading) → k ≡ readClock h m s x → properClock k
+clock-in h m s x (Clocked c) e = read-clock-proper h m s x (Clocked c) c e refl
+clock-in h m s x NoClock e = tt
+
+pub resolved-in : (i : ℕ) (c : Clock) (r : Resolved) → i ≤ last → ProperClock c → r ≡ berlinAt i c → properResolved r
+resolved-in i c (Shown m) h p e = at-proper i c (Shown m) m h p e refl
+resolved-in i c Never h p e = tt
+
+pub beginn-in : (m : Moment) (p : Sparte) (b : Beginn) → Proper m → b ≡ tagDesBeginns m p → insideBeginn b
+beginn-in m p (Begins i) h e = beginn-le m p (Begins i) i h e refl
+beginn-in m p NoBeginning h e = tt
+
+pub midnight-in : (i : ℕ) (m : Moment) → i ≤ last → m ≡ berlinMidnight i → Proper m
+midnight-in i m h e = midnight-proper i h m e
+
+pub end-in : (i : ℕ) (m : Moment) → i ≤ last → m ≡ endOfDayBerlin i → Proper m
+end-in i m h e = end-proper i h m e
+
+pub tagesbeginn-in : (i : ℕ) (p : Sparte) (m : Moment) → i ≤ last → m ≡ tagesbeginnUtc i p → Proper m
+tagesbeginn-in i p m h e = begin-proper i h p m e
+
+pub ruleset read-rules = (read-in, clock-in)
+
+-- what `read_instant` returned is what its definition gives for the call's own seconds
+pub read-same : (z : ℤ) (x : ℕ) (k : Reading) → SFits w64 z → k ≡ readInstant (back z) x → readInstant z x ≡ k
+read-same z x k f e = sym (e ∙ ap (λ (y : ℤ). readInstant y x) (toZ-ofZ f))
+
+-- answers made of what a layer below returned
+pub moment-same : (k : ℕ) (m n : Moment) (r : Answer) → m ≡ n → r ≡ momentAnswer k m → r ≡ momentAnswer k n
+moment-same k m n r e p = p ∙ ap (momentAnswer k) e
+
+pub resolved-same : (s t : Resolved) (r : Answer) → s ≡ t → r ≡ resolvedAnswer s → r ≡ resolvedAnswer t
+resolved-same s t r e p = p ∙ ap resolvedAnswer e
+
+pub beginn-same : (s t : Beginn) (r : Answer) → s ≡ t → r ≡ beginnAnswer s → r ≡ beginnAnswer t
+beginn-same s t r e p = p ∙ ap beginnAnswer e
+
+pub date-same : (i j : ℕ) (d : Date) (r : Answer) → i ≡ j → d ≡ dateOf i → r ≡ dateAnswer d → r ≡ dateAnswer (dateOf j)
+date-same i j d r e q p = p ∙ ap dateAnswer (q ∙ ap dateOf e)
+
+pub ruleset uhrzeit-rules = (date-refused, date-taken, day-inside, instant-refused, instant-taken, instant-proper, clock-refused, clock-taken, clock-proper, sparte-refused, sparte-taken, moment-same, resolved-same, beginn-same, date-same, resolved-in, beginn-in, midnight-in, end-in, tagesbeginn-in)

@@ -1,0 +1,46 @@
+-- `antworten::kalender::add_werktage_answer` meets its contract: a date that is none is refused, and one that is taken goes to the layer below.
+-- Assumes nothing.
+use Rattle.antworten.proofs.Rules.{answer-rules}
+use Rattle.antworten.specs.Kalender.{addWerktageAnswer}
+use borrow.Author.Needs.{needs}
+use Rattle.antworten.proofs.kalender.add_werktage_answer.Statement.{statement}
+use Rattle.antworten.proofs.kalender.add_werktage_answer.Tie as tie
+
+index-of-requires : tie.Need-index-of-requires
+index-of-requires c κs = search needs
+
+enum-known-from : tie.Need-enum-known-from
+enum-known-from c = search needs
+
+enum-told : tie.Need-enum-told
+enum-told c = search needs
+
+refused-requires : tie.Need-refused-requires
+refused-requires c κs = search needs
+
+returns : tie.Need-returns
+unfolding addWerktageAnswer
+returns c = search (needs, answer-rules)
+
+add-werktage-requires : tie.Need-add-werktage-requires
+add-werktage-requires c κs = search (needs, answer-rules)
+
+step-answer-requires : tie.Need-step-answer-requires
+step-answer-requires c κs = search (needs, answer-rules)
+
+returns-2 : tie.Need-returns-2
+unfolding addWerktageAnswer
+returns-2 c = search (needs, answer-rules)
+
+pub add-werktage-answer-spec : {M : Type 1} → statement M
+add-werktage-answer-spec =
+    tie.close
+    (tie.spec
+    index-of-requires
+    enum-known-from
+    enum-told
+    refused-requires
+    returns
+    add-werktage-requires
+    step-answer-requires
+    returns-2)

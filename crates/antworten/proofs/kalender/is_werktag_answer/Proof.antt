@@ -1,0 +1,55 @@
+-- `antworten::kalender::is_werktag_answer` meets its contract: a date that is none is refused, and one that is taken goes to the layer below.
+-- Assumes nothing.
+use Rattle.antworten.proofs.Rules.{answer-rules}
+use Rattle.antworten.specs.Kalender.{isWerktagAnswer}
+use borrow.Author.Needs.{needs}
+use Rattle.antworten.proofs.kalender.is_werktag_answer.Statement.{statement}
+use Rattle.antworten.proofs.kalender.is_werktag_answer.Tie as tie
+
+index-of-requires : tie.Need-index-of-requires
+index-of-requires c κs = search needs
+
+enum-known-day : tie.Need-enum-known-day
+enum-known-day c = search needs
+
+enum-told : tie.Need-enum-told
+enum-told c = search needs
+
+refused-requires : tie.Need-refused-requires
+refused-requires c κs = search needs
+
+returns : tie.Need-returns
+unfolding isWerktagAnswer
+returns c = search (needs, answer-rules)
+
+is-werktag-requires : tie.Need-is-werktag-requires
+is-werktag-requires c κs = search (needs, answer-rules)
+
+of-kind-requires : tie.Need-of-kind-requires
+of-kind-requires c κs = search needs
+
+returns-2 : tie.Need-returns-2
+unfolding isWerktagAnswer
+returns-2 c = search (needs, answer-rules)
+
+of-kind-requires-2 : tie.Need-of-kind-requires-2
+of-kind-requires-2 c κs = search needs
+
+returns-3 : tie.Need-returns-3
+unfolding isWerktagAnswer
+returns-3 c = search (needs, answer-rules)
+
+pub is-werktag-answer-spec : {M : Type 1} → statement M
+is-werktag-answer-spec =
+    tie.close
+    (tie.spec
+    index-of-requires
+    enum-known-day
+    enum-told
+    refused-requires
+    returns
+    is-werktag-requires
+    of-kind-requires
+    returns-2
+    of-kind-requires-2
+    returns-3)

@@ -1,0 +1,46 @@
+-- `antworten::kalender::sub_werktage_answer` meets its contract: a date that is none is refused, and one that is taken goes to the layer below.
+-- Assumes nothing.
+use Rattle.antworten.proofs.Rules.{answer-rules}
+use Rattle.antworten.specs.Kalender.{subWerktageAnswer}
+use borrow.Author.Needs.{needs}
+use Rattle.antworten.proofs.kalender.sub_werktage_answer.Statement.{statement}
+use Rattle.antworten.proofs.kalender.sub_werktage_answer.Tie as tie
+
+index-of-requires : tie.Need-index-of-requires
+index-of-requires c κs = search needs
+
+enum-known-from : tie.Need-enum-known-from
+enum-known-from c = search needs
+
+enum-told : tie.Need-enum-told
+enum-told c = search needs
+
+refused-requires : tie.Need-refused-requires
+refused-requires c κs = search needs
+
+returns : tie.Need-returns
+unfolding subWerktageAnswer
+returns c = search (needs, answer-rules)
+
+sub-werktage-requires : tie.Need-sub-werktage-requires
+sub-werktage-requires c κs = search (needs, answer-rules)
+
+step-answer-requires : tie.Need-step-answer-requires
+step-answer-requires c κs = search (needs, answer-rules)
+
+returns-2 : tie.Need-returns-2
+unfolding subWerktageAnswer
+returns-2 c = search (needs, answer-rules)
+
+pub sub-werktage-answer-spec : {M : Type 1} → statement M
+sub-werktage-answer-spec =
+    tie.close
+    (tie.spec
+    index-of-requires
+    enum-known-from
+    enum-told
+    refused-requires
+    returns
+    sub-werktage-requires
+    step-answer-requires
+    returns-2)

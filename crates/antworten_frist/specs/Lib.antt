@@ -1,0 +1,2 @@
+pub mod FristReading
+pub mod Frist
