@@ -5,12 +5,3 @@ pub mod MonthRules
 pub mod VerdictRules
 pub mod SpanRules
 pub mod AbmeldungRules
-pub mod SpansSteps
-pub mod MonthSpan
-pub mod MonthRun
-pub mod SpansMonths
-pub mod SpansCases
-pub mod SpansShapes
-pub mod SpansFirst
-pub mod SpansNamed
-pub mod Demand3

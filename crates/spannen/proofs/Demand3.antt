@@ -15,16 +15,16 @@ use mathlib.Core.Path.{_≡_}
 use native.Mathlib.Omega.{arith}
 use Rattle.zaehlung.specs.Walk.{last}
 use Rattle.datum.specs.Calendar.{dateOf}
 use Rattle.vorlauf.specs.declared.VorlaufShape.{VorlaufShape}
 use Rattle.vorlauf.specs.declared.VorlaufShape.the-variants.{LatestWerktageBefore, WindowWerktageBefore, LatestWerktageAfter, EarliestWerktageAfter}
 use Rattle.vorlauf.specs.declared.VorlaufShape.the-variants.{Korridor, TagVorDemLetztenWerktagVor, LatestMonateBefore}
 use Rattle.vorlauf.specs.declared.VorlaufVerdict.the-variants.{Ok, TooLate, Outside as Refused}
 use Rattle.vorlauf.specs.declared.Span.the-variants.{Empty, Outside as Leaves}
 use Rattle.vorlauf.specs.Verdict.{checkOf}
 use Rattle.vorlauf.specs.Span.{spanOf, liesIn, begins}
-use Rattle.vorlauf.proofs.SpansShapes.{shape-spans}
-use Rattle.vorlauf.proofs.SpansFirst.{accepted-least, first-accepted, empty-rejects}
-use Rattle.vorlauf.proofs.SpansNamed.{earliest-named, tag-named, month-named, before-named, window-named, after-named, korridor-named, before-ok}
+use Rattle.spannen.proofs.SpansShapes.{shape-spans}
+use Rattle.spannen.proofs.SpansFirst.{accepted-least, first-accepted, empty-rejects}
+use Rattle.spannen.proofs.SpansNamed.{earliest-named, tag-named, month-named, before-named, window-named, after-named, korridor-named, before-ok}
 
 module _ (w : ℕ → Bool) (t : ℕ) (ht : t ≤ last) where
   -- Where 'the span stays inside the calendar', an anchor whose verdict isn't refused is acceptable exactly if it 'lies in the

@@ -13,18 +13,18 @@ use Rattle.zaehlung.specs.declared.Step.{Step}
 use Rattle.zaehlung.specs.declared.Step.the-variants.{Day}
 use Rattle.zaehlung.specs.Walk.{last, add, sub, W}
 use Rattle.zaehlung.specs.Laws.{add-inside, sub-inside, W-inside}
 use Rattle.vorlauf.specs.declared.VorlaufShape.{VorlaufShape}
 use Rattle.vorlauf.specs.declared.VorlaufShape.the-variants.{LatestWerktageBefore, WindowWerktageBefore, LatestWerktageAfter, EarliestWerktageAfter}
 use Rattle.vorlauf.specs.declared.VorlaufShape.the-variants.{Korridor, TagVorDemLetztenWerktagVor, LatestMonateBefore, LatestMonateUndWerktageBefore}
 use Rattle.vorlauf.specs.declared.VorlaufVerdict.the-variants.{Ok, Outside as Refused}
 use Rattle.vorlauf.specs.declared.Span.{Span}
 use Rattle.vorlauf.specs.declared.Span.the-variants.{From, Both, Empty, Outside}
 use Rattle.vorlauf.specs.Monate.{M}
 use Rattle.vorlauf.specs.Verdict.{goOn, dayAfter, checkOf}
 use Rattle.vorlauf.specs.Span.{from, both, spanOf, liesIn, begins}
-use Rattle.vorlauf.proofs.SpansMonths.{M-inside}
-use Rattle.vorlauf.proofs.SpansCases.{from-cases, both-cases}
-use Rattle.vorlauf.proofs.SpansShapes.{after-is, went, shape-spans}
+use Rattle.spannen.proofs.SpansMonths.{M-inside}
+use Rattle.spannen.proofs.SpansCases.{from-cases, both-cases}
+use Rattle.spannen.proofs.SpansShapes.{after-is, went, shape-spans}
 
 -- a span that has a first day stays inside the calendar
 begins-inside : (p : Span) (f : ℕ) → begins p f → p ≢ Outside

@@ -14,15 +14,15 @@ use Rattle.zaehlung.specs.declared.Step.the-variants.{Day}
 use Rattle.zaehlung.specs.declared.Step.the-variants.{Outside as Left}
 use Rattle.zaehlung.specs.Walk.{last, add, sub, W, between}
 use Rattle.zaehlung.specs.Laws.{W-inside}
 use Rattle.vorlauf.specs.declared.VorlaufShape.{VorlaufShape}
 use Rattle.vorlauf.specs.declared.VorlaufShape.the-variants.{LatestWerktageBefore, WindowWerktageBefore, LatestWerktageAfter, EarliestWerktageAfter}
 use Rattle.vorlauf.specs.declared.VorlaufShape.the-variants.{Korridor, TagVorDemLetztenWerktagVor, LatestMonateBefore, LatestMonateUndWerktageBefore}
 use Rattle.vorlauf.specs.Monate.{monthsEarlier, monthsLater, M}
 use Rattle.vorlauf.specs.Verdict.{goOn, dayBefore, dayAfter, dayAfterNext, checkOf}
 use Rattle.vorlauf.specs.Span.{spanOf}
-use Rattle.vorlauf.proofs.SpansSteps.{before-iff, after-iff, tag-iff}
-use Rattle.vorlauf.proofs.SpansMonths.{month-iff}
-use Rattle.vorlauf.proofs.SpansCases.{Spans, under-cases, late-not, late-day-not, day-accepts, upto-ok, window-ok, from-spans, both-spans}
+use Rattle.spannen.proofs.SpansSteps.{before-iff, after-iff, tag-iff}
+use Rattle.spannen.proofs.SpansMonths.{month-iff}
+use Rattle.spannen.proofs.SpansCases.{Spans, under-cases, late-not, late-day-not, day-accepts, upto-ok, window-ok, from-spans, both-spans}
 
 -- the day after a day, and the day before one
 pub after-is : (d f : ℕ) → dayAfter d ≡ Day f → (f ≡ suc d) × (f ≤ last)

@@ -20,9 +20,9 @@ use Rattle.zaehlung.specs.Blocks.{start, start-suc}
 use Rattle.datum.specs.Calendar.{dateOf}
 use Rattle.datum.specs.MonthShift.{ordinal, onMonth, addMonths, subtractMonths}
 use Rattle.datum.proofs.Signed.{sub-pos, sub-neg}
 use Rattle.vorlauf.specs.Monate.{toStep, monthsLater, monthsEarlier, M}
-use Rattle.vorlauf.proofs.MonthSpan.{backDay, kept, cut}
-use Rattle.vorlauf.proofs.MonthRun.{monthDays, origin, month-has, day-run, on-run, on-inside, on-day}
+use Rattle.spannen.proofs.MonthSpan.{backDay, kept, cut}
+use Rattle.spannen.proofs.MonthRun.{monthDays, origin, month-has, day-run, on-run, on-inside, on-day}
 
 -- the number of a day's month, and the day in it, from 0 on
 abbrev monthAt : ℕ → ℕ

@@ -22,17 +22,17 @@ use Rattle.zaehlung.specs.Count.{count-open}
 use Rattle.zaehlung.specs.Laws.{add-iff, add-out-iff, next-iff, next-out-iff}
 use Rattle.zaehlung.specs.Reach.{sub-day}
 use Rattle.datum.specs.Calendar.{dateOf}
 use Rattle.vorlauf.specs.declared.VorlaufShape.the-variants.{LatestWerktageBefore, WindowWerktageBefore, LatestWerktageAfter, EarliestWerktageAfter}
 use Rattle.vorlauf.specs.declared.VorlaufShape.the-variants.{Korridor, TagVorDemLetztenWerktagVor, LatestMonateBefore}
 use Rattle.vorlauf.specs.declared.VorlaufVerdict.the-variants.{Ok, TooLate}
 use Rattle.vorlauf.specs.declared.Span.{Span}
 use Rattle.vorlauf.specs.declared.Span.the-variants.{From, Both, Empty, Outside}
 use Rattle.vorlauf.specs.Monate.{monthsEarlier, monthsLater, M}
 use Rattle.vorlauf.specs.Verdict.{onDay, goOn, dayBefore, dayAfter, dayAfterNext, checkOf}
 use Rattle.vorlauf.specs.Span.{from, both, spanOf, begins}
-use Rattle.vorlauf.proofs.SpansSteps.{after-iff, W-add-iff, back-iff, back-out}
-use Rattle.vorlauf.proofs.SpansMonths.{M-kept, M-later-iff, later-day-iff}
-use Rattle.vorlauf.proofs.SpansCases.{day-cases, late-day-not, refused-not, upto-ok, from-begins, both-begins, late-day, late-upto, late-window}
+use Rattle.spannen.proofs.SpansSteps.{after-iff, W-add-iff, back-iff, back-out}
+use Rattle.spannen.proofs.SpansMonths.{M-kept, M-later-iff, later-day-iff}
+use Rattle.spannen.proofs.SpansCases.{day-cases, late-day-not, refused-not, upto-ok, from-begins, both-begins, late-day, late-upto, late-window}
 
 module _ (w : ℕ → Bool) where
   next-add : (t : ℕ) → t < last → next w (suc t) ≡ add w t 1

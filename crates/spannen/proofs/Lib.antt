@@ -1,0 +1,9 @@
+pub mod SpansSteps
+pub mod MonthSpan
+pub mod MonthRun
+pub mod SpansMonths
+pub mod SpansCases
+pub mod SpansShapes
+pub mod SpansFirst
+pub mod SpansNamed
+pub mod Demand3
