@@ -1,4 +1,4 @@
-// Due instants: document 01, refusals 4, 5, 6 and 8.
+// What the calls for due instants answer: document 01, refusals 2, 4, 5, 6 and 8.
 ghost use mathlib.Core.Path.{_≡_};
 ghost use Rattle.fristen.specs.Fristen.{properDue};
 ghost use Rattle.antworten.specs.Reading.{properReading, properClock};

@@ -1,4 +1,5 @@
-// Verdicts, spans, deregistrations and the 13:00 announcement: document 01, refusals 3, 4, 7 and 8.
+// What the calls answer that give verdicts, spans, deregistrations and the 13:00 announcement: document 01, refusals 2, 3, 4, 7
+// and 8.
 ghost use mathlib.Core.Bool.{true};
 ghost use mathlib.Core.Path.{_≡_};
 ghost use Rattle.datum.specs.Calendar.{valid, daysBefore};
