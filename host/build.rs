@@ -1,5 +1,5 @@
-//! Finds the archive `libmako_fristen.a`: in the folder that `MAKO_FRISTEN_LIB` names, else where
-//! `rt staticlib` writes it.
+//! Finds the archive `libmako_fristen.a`: in the folder that `MAKO_FRISTEN_LIB` names, an absolute
+//! path, else where `rt staticlib` writes it.
 
 use std::path::PathBuf;
 use std::{env, process};
@@ -12,6 +12,11 @@ fn main() {
         Some(folder) => PathBuf::from(folder),
         None => PathBuf::from(env!("CARGO_MANIFEST_DIR")).join("../target/staticlib"),
     };
+    // The build script and the linker do not start in the same folder.
+    if !folder.is_absolute() {
+        eprintln!("error: {FOLDER} is no absolute path: {}", folder.display());
+        process::exit(1);
+    }
     let archive = folder.join("libmako_fristen.a");
     println!("cargo:rerun-if-changed={}", archive.display());
     if !archive.is_file() {

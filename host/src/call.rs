@@ -1,27 +1,41 @@
 //! The host calls by name and parameters. A new call is a new row of `calls!`, with the parameters
-//! that docs/host-calls.md gives; its number is its place there.
+//! that docs/host-calls.md gives; its number is its place there. Neither enum here is
+//! `non_exhaustive`: whoever goes through all calls is to be stopped by a new one.
 
 use crate::{ffi, ContrlAnlass, Eeg, FristShape, Question, Sparte, VorlaufShape};
 
 /// What a call takes before its answer.
 #[derive(Clone, Copy, Debug, PartialEq, Eq, Hash)]
 pub enum Parameter {
+    /// Year, month and day.
     Date,
+    /// The second of two dates.
     SecondDate,
     /// Werktage, months or hours.
     Count,
+    /// The second count of a shape.
     SecondCount,
+    /// The Prüfidentifikator, any number.
     Pid,
+    /// Seconds and nanoseconds.
     Instant,
+    /// The second of two instants.
     SecondInstant,
+    /// Hour, minute, second and nanoseconds.
     Clock,
+    /// The code of a [`ContrlAnlass`].
     Anlass,
+    /// The code of a [`Sparte`].
     Sparte,
     /// The Sparte of a call whose first code is a shape.
     SecondSparte,
+    /// The code of a [`FristShape`].
     Shape,
+    /// The code of a [`VorlaufShape`].
     VorlaufShape,
+    /// The code of an [`Eeg`] mark.
     Eeg,
+    /// The bytes of a Transaktionsgrund.
     Reason,
 }
 
@@ -85,15 +99,20 @@ macro_rules! put {
 macro_rules! calls {
     ($($call:ident $name:ident($($parameter:ident),+);)+) => {
         /// A host call. The order is that of docs/host-calls.md.
-        #[derive(Clone, Copy, Debug, PartialEq, Eq, Hash)]
+        #[derive(Clone, Copy, Debug, PartialEq, Eq, PartialOrd, Ord, Hash)]
         #[repr(u8)]
         pub enum Call {
-            $($call,)+
+            $(
+                #[doc = concat!("[`", stringify!($name), "`](crate::ffi::", stringify!($name), ").")]
+                $call,
+            )+
         }
 
         impl Call {
+            /// In the order of their numbers, from 0.
             pub const ALL: [Call; [$(Call::$call),+].len()] = [$(Call::$call),+];
 
+            /// As C knows it.
             #[must_use]
             pub const fn name(self) -> &'static str {
                 match self {
@@ -101,6 +120,7 @@ macro_rules! calls {
                 }
             }
 
+            /// What it takes before its answer, in this order.
             #[must_use]
             pub const fn parameters(self) -> &'static [Parameter] {
                 match self {
@@ -154,11 +174,13 @@ calls! {
 }
 
 impl Call {
+    /// Its place in docs/host-calls.md, from 0.
     #[must_use]
     pub const fn number(self) -> u8 {
         self as u8
     }
 
+    /// Whether `parameter` is among its parameters.
     #[must_use]
     pub fn takes(self, parameter: Parameter) -> bool {
         self.parameters().contains(&parameter)

@@ -13,9 +13,11 @@ pub enum ContrlAnlass {
 }
 
 impl ContrlAnlass {
+    /// In the order of their codes, from 0.
     pub const ALL: [ContrlAnlass; 3] =
         [ContrlAnlass::Regelfall, ContrlAnlass::StromUtilmdOderOrders, ContrlAnlass::GasAlocat];
 
+    /// The number by which a call knows the case.
     #[must_use]
     pub const fn code(self) -> u8 {
         self as u8
@@ -33,8 +35,10 @@ pub enum Sparte {
 }
 
 impl Sparte {
+    /// In the order of their codes, from 0.
     pub const ALL: [Sparte; 2] = [Sparte::Strom, Sparte::Gas];
 
+    /// The number by which a call knows the case.
     #[must_use]
     pub const fn code(self) -> u8 {
         self as u8
@@ -45,14 +49,19 @@ impl Sparte {
 #[derive(Clone, Copy, Debug, PartialEq, Eq, Hash)]
 #[repr(u8)]
 pub enum Eeg {
+    /// It is none.
     No,
+    /// It is one.
     Yes,
+    /// It is not known.
     Unknown,
 }
 
 impl Eeg {
+    /// In the order of their codes, from 0.
     pub const ALL: [Eeg; 3] = [Eeg::No, Eeg::Yes, Eeg::Unknown];
 
+    /// The number by which a call knows the case.
     #[must_use]
     pub const fn code(self) -> u8 {
         self as u8

@@ -1,5 +1,15 @@
 //! The host calls as C declares them, one row each, and a function over each that lends a slice.
 //!
+//! ```
+//! use mako_fristen_host::ffi::mf_is_werktag;
+//!
+//! let mut answer = [0; 32];
+//! assert_eq!(mf_is_werktag(2026, 4, 2, &mut answer), 0);
+//! assert_eq!(answer[1], 1, "a Werktag");
+//! assert_eq!(mf_is_werktag(2026, 2, 29, &mut answer), 3, "no date");
+//! assert_eq!(mf_is_werktag(2026, 4, 2, &mut answer[..31]), 1, "no room for an answer");
+//! ```
+//!
 //! This is the only module with `unsafe`. A new call is a new row of `calls!`, with the parameters
 //! that docs/host-calls.md gives before `answer`; `&reason` stands for a slice, which C sees as a
 //! pointer and a length.
@@ -20,6 +30,7 @@ macro_rules! calls {
         }
         $(
             /// Lends `answer`, of any length, to the call of this name; returns its number.
+            #[must_use]
             pub fn $call($($slice: &[u8],)? $($parameter: $number,)+ answer: &mut [u8]) -> u8 {
                 // SAFETY: a pointer and its length are one slice's, lent for the call alone. The
                 // call is proved to write nothing beyond `answer` and to demand nothing of its

@@ -5,6 +5,15 @@
 use crate::{Call, Date, Question, Refusal};
 
 /// Whether `date` is a Werktag: not Saturday, Sunday or a holiday of any Bundesland (GPKE Teil 1).
+/// Karfreitag 2026 is none, and neither is Buß- und Bettag, a holiday of Sachsen alone.
+///
+/// ```
+/// use mako_fristen_host::{is_werktag, Date};
+///
+/// assert_eq!(is_werktag(Date::new(2026, 4, 2)), Ok(true));
+/// assert_eq!(is_werktag(Date::new(2026, 4, 3)), Ok(false));
+/// assert_eq!(is_werktag(Date::new(2026, 11, 18)), Ok(false));
+/// ```
 ///
 /// # Errors
 ///
@@ -13,7 +22,14 @@ pub fn is_werktag(date: Date) -> Result<bool, Refusal> {
     Ok(Question::on(Call::IsWerktag, date).answer()?.kind() == 1)
 }
 
-/// The first Werktag on or after `from`.
+/// The first Werktag on or after `from`: a Werktag is its own, Karfreitag's is the Tuesday.
+///
+/// ```
+/// use mako_fristen_host::{next_werktag, Date};
+///
+/// assert_eq!(next_werktag(Date::new(2026, 4, 2)), Ok(Date::new(2026, 4, 2)));
+/// assert_eq!(next_werktag(Date::new(2026, 4, 3)), Ok(Date::new(2026, 4, 7)));
+/// ```
 ///
 /// # Errors
 ///
@@ -24,6 +40,14 @@ pub fn next_werktag(from: Date) -> Result<Date, Refusal> {
 
 /// The `n`-th Werktag after `from`; `from` itself, Werktag or not, for 0.
 ///
+/// ```
+/// use mako_fristen_host::{add_werktage, Date};
+///
+/// let (thursday, saturday) = (Date::new(2026, 4, 2), Date::new(2026, 4, 4));
+/// assert_eq!(add_werktage(thursday, 1), Ok(Date::new(2026, 4, 7)));
+/// assert_eq!(add_werktage(saturday, 0), Ok(saturday));
+/// ```
+///
 /// # Errors
 ///
 /// [`Refusal::NoDate`], [`Refusal::LeavesCalendar`].
@@ -31,7 +55,15 @@ pub fn add_werktage(from: Date, n: u32) -> Result<Date, Refusal> {
     step(Call::AddWerktage, from, n)
 }
 
-/// The `n`-th Werktag before `from`; `from` itself, Werktag or not, for 0.
+/// The `n`-th Werktag before `from`; `from` itself, Werktag or not, for 0. There is none before
+/// 2 January 1996.
+///
+/// ```
+/// use mako_fristen_host::{sub_werktage, Date, Refusal};
+///
+/// assert_eq!(sub_werktage(Date::new(2026, 4, 7), 1), Ok(Date::new(2026, 4, 2)));
+/// assert_eq!(sub_werktage(Date::new(1996, 1, 2), 1), Err(Refusal::LeavesCalendar));
+/// ```
 ///
 /// # Errors
 ///
@@ -40,7 +72,16 @@ pub fn sub_werktage(from: Date, n: u32) -> Result<Date, Refusal> {
     step(Call::SubWerktage, from, n)
 }
 
-/// The Werktage after `from` up to and including `to`; 0 if `to` is not later.
+/// The Werktage after `from` up to and including `to`; 0 if `to` is not later. Over Christmas and
+/// New Year 15 days have five.
+///
+/// ```
+/// use mako_fristen_host::{werktage_between, Date};
+///
+/// let (before, after) = (Date::new(2025, 12, 23), Date::new(2026, 1, 7));
+/// assert_eq!(werktage_between(before, after), Ok(5));
+/// assert_eq!(werktage_between(after, before), Ok(0));
+/// ```
 ///
 /// # Errors
 ///
@@ -51,6 +92,12 @@ pub fn werktage_between(from: Date, to: Date) -> Result<u32, Refusal> {
 
 /// `n` months after `date`; a day that the month lacks becomes its last (BGB §188).
 ///
+/// ```
+/// use mako_fristen_host::{add_months, Date};
+///
+/// assert_eq!(add_months(Date::new(2026, 1, 31), 1), Ok(Date::new(2026, 2, 28)));
+/// ```
+///
 /// # Errors
 ///
 /// [`Refusal::NoDate`], [`Refusal::LeavesCalendar`].
@@ -59,6 +106,12 @@ pub fn add_months(date: Date, n: u32) -> Result<Date, Refusal> {
 }
 
 /// `n` months before `date`; a day that the month lacks becomes its last (BGB §188).
+///
+/// ```
+/// use mako_fristen_host::{subtract_months, Date};
+///
+/// assert_eq!(subtract_months(Date::new(2024, 3, 31), 1), Ok(Date::new(2024, 2, 29)));
+/// ```
 ///
 /// # Errors
 ///

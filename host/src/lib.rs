@@ -22,40 +22,105 @@
 //! A call answers, or refuses with one of the numbers of document 01, which [`Refusal`] names.
 //! No input makes a function of this crate panic. [`Question`] puts any call as a value, and
 //! [`ffi`] has the calls themselves, with an answer of any length.
+//!
+//! A service that receives a message, sends its CONTRL in time and judges the date that it carries:
+//!
+//! ```
+//! use mako_fristen_host::{
+//!     berlin_date, contrl_due_at, ContrlAnlass, Date, Instant, Refusal, VorlaufShape,
+//!     VorlaufVerdict,
+//! };
+//! use std::time::{Duration, SystemTime, UNIX_EPOCH};
+//!
+//! /// When the CONTRL is due, and whether the message came five Werktage before `anchor`.
+//! fn receive(at: SystemTime, anchor: Date) -> Result<(SystemTime, VorlaufVerdict), Refusal> {
+//!     let at = Instant::from(at);
+//!     let due = contrl_due_at(at, ContrlAnlass::StromUtilmdOderOrders)?;
+//!     let verdict = VorlaufShape::LatestWerktageBefore(5).check(berlin_date(at)?, anchor)?;
+//!     Ok((SystemTime::try_from(due)?, verdict))
+//! }
+//!
+//! // 23 December 2025, 10:00 in Berlin: the fifth Werktag before 6 January 2026.
+//! let received = UNIX_EPOCH + Duration::from_secs(1_766_480_400);
+//! let (due, verdict) = receive(received, Date::new(2026, 1, 6))?;
+//! assert_eq!(due, received + Duration::from_secs(15 * 60));
+//! assert_eq!(verdict, VorlaufVerdict::Ok);
+//! let (_, verdict) = receive(received, Date::new(2026, 1, 5))?;
+//! assert!(matches!(verdict, VorlaufVerdict::TooLate { shortfall_wt: 1, .. }));
+//! assert_eq!(receive(UNIX_EPOCH, Date::new(2026, 1, 5)), Err(Refusal::InstantOutside));
+//! # Ok::<(), Refusal>(())
+//! ```
+//!
+//! # Linking
+//!
+//! The calls stand in the archive `libmako_fristen.a`, which `rt staticlib mako_fristen` writes to
+//! target/staticlib. The build script takes it from there, or from the folder that the variable
+//! `MAKO_FRISTEN_LIB` names, and says so if there is none. Nothing is needed when a program runs.
+//!
+//! # Refusals
+//!
+//! A refusal is no verdict: it says that the question has no answer, since a date or an instant
+//! lies outside the calendar, a time is none, or a result leaves the calendar. It depends on the
+//! question alone, so asking again does not help. Each function lists its own. [`Refusal::Unlisted`]
+//! is not among them: it comes only from an archive that is newer than this crate.
+//!
+//! # Threads, memory, time
+//!
+//! The calls have no state, and read neither a clock nor a file: any number of threads may ask at
+//! the same time, without a lock, and the same question always has the same answer. They take no
+//! memory from the heap. A step or a count walks day by day, at most to the calendar's edge:
+//! docs/BENCHMARKS.md has the times.
 
+#![deny(missing_docs)]
 #![deny(unsafe_code)]
 
 mod abmeldung;
+mod abmeldung_shape;
 mod answer;
 mod berlin;
+mod berlin_time;
+mod beschreibung;
 mod call;
 mod clock;
+mod clock_text;
 mod codes;
 mod date;
+mod date_text;
+mod day_number;
+mod feiertage;
 pub mod ffi;
 mod fristen;
 mod instant;
+mod instant_text;
 mod kalender;
 mod question;
 mod reason;
 mod refusal;
+mod text;
+mod utc;
 mod vorlauf;
+mod weekday;
 
 pub use abmeldung::AbmeldungVorlauf;
 pub use answer::Answer;
 pub use berlin::{
     berlin_at, berlin_date, berlin_midnight, end_of_day_berlin, tag_des_beginns, tagesbeginn_utc,
 };
+pub use berlin_time::BerlinTime;
 pub use call::{Call, Parameter};
 pub use clock::Clock;
+pub use clock_text::ClockError;
 pub use codes::{ContrlAnlass, Eeg, Sparte};
 pub use date::Date;
+pub use date_text::DateError;
+pub use feiertage::Feiertag;
 pub use fristen::{
     add_hours, aperak_gas_due_at, aperak_gas_folgeprozess_due_at, aperak_gas_initialprozess_due_at,
     aperak_strom_allgemein_due_at, aperak_strom_due_at, contrl_due_at, deadline_at_werktage,
     end_of_werktag_after, next_werktag_at, nth_werktag_at, FristShape, GasDue, GasProzess,
 };
 pub use instant::Instant;
+pub use instant_text::InstantError;
 pub use kalender::{
     add_months, add_werktage, is_werktag, next_werktag, sub_werktage, subtract_months,
     werktage_between,
@@ -64,3 +129,9 @@ pub use question::Question;
 pub use reason::Reason;
 pub use refusal::Refusal;
 pub use vorlauf::{eog_ankuendigung_fristgerecht, Span, VorlaufShape, VorlaufVerdict};
+pub use weekday::Weekday;
+
+/// The examples of README.md are tests as well.
+#[cfg(doctest)]
+#[doc = include_str!("../README.md")]
+struct Readme;

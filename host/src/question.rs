@@ -2,25 +2,48 @@ use crate::{call, Answer, Call, Clock, Date, Instant, Parameter, Reason, Refusal
 use std::fmt;
 
 /// A call with its arguments. What the call does not take is zero.
+///
+/// A service that asks one thing takes the function of that name. A question is for one that keeps
+/// a list of them, logs them, or has codes and counts as numbers from elsewhere: it can hold any
+/// numbers, and the call refuses what it does not know.
+///
+/// ```
+/// use mako_fristen_host::{Call, Date, Question, Refusal};
+///
+/// let question = Question::on(Call::AddWerktage, Date::new(2026, 4, 2)).with_count(1);
+/// assert_eq!(question.to_string(), "mf_add_werktage(2026-04-02, 1)");
+/// assert_eq!(question.answer().map(|answer| answer.date()), Ok(Date::new(2026, 4, 7)));
+/// let no_sparte = Question::on(Call::TagesbeginnUtc, Date::new(2026, 4, 2)).with_code(2);
+/// assert_eq!(no_sparte.answer(), Err(Refusal::UnknownCode));
+/// ```
 #[derive(Clone, Copy, Debug, PartialEq, Eq, Hash)]
 pub struct Question {
+    /// Which call is put.
     pub call: Call,
     /// The Anlass, the Sparte, the shape or the EEG mark.
     pub code: u8,
     /// The Sparte beside a shape.
     pub code2: u8,
+    /// The date, or the first of two: of a verdict the transmission day.
     pub date: Date,
+    /// The second date: of a verdict the anchor.
     pub date2: Date,
     /// The count or the pid.
     pub n: u32,
+    /// The second count of a shape.
     pub n2: u32,
+    /// The instant, or the first of two: of a verdict the transmission.
     pub instant: Instant,
+    /// The second instant: of a verdict the beginning of the anchor.
     pub instant2: Instant,
+    /// The clock time.
     pub clock: Clock,
+    /// The Transaktionsgrund.
     pub reason: Reason,
 }
 
 impl Question {
+    /// How many bytes [`to_bytes`](Question::to_bytes) gives.
     pub const LEN: usize = 64;
 
     /// With zero in every place.
@@ -41,36 +64,43 @@ impl Question {
         }
     }
 
+    /// With a date, and zero in every other place.
     #[must_use]
     pub fn on(call: Call, date: Date) -> Question {
         Question { date, ..Question::new(call) }
     }
 
+    /// With an instant, and zero in every other place.
     #[must_use]
     pub fn at(call: Call, instant: Instant) -> Question {
         Question { instant, ..Question::new(call) }
     }
 
+    /// With this code.
     #[must_use]
     pub fn with_code(self, code: u8) -> Question {
         Question { code, ..self }
     }
 
+    /// With this Sparte beside a shape.
     #[must_use]
     pub fn with_second_code(self, code2: u8) -> Question {
         Question { code2, ..self }
     }
 
+    /// With this second date.
     #[must_use]
     pub fn with_second(self, date2: Date) -> Question {
         Question { date2, ..self }
     }
 
+    /// With this count or pid.
     #[must_use]
     pub fn with_count(self, n: u32) -> Question {
         Question { n, ..self }
     }
 
+    /// With this second count.
     #[must_use]
     pub fn with_second_count(self, n2: u32) -> Question {
         Question { n2, ..self }
@@ -83,27 +113,50 @@ impl Question {
         Question { code: shape.code(), n, n2, ..self }
     }
 
+    /// With this second instant.
     #[must_use]
     pub fn with_second_instant(self, instant2: Instant) -> Question {
         Question { instant2, ..self }
     }
 
+    /// With this clock time.
     #[must_use]
     pub fn with_clock(self, clock: Clock) -> Question {
         Question { clock, ..self }
     }
 
+    /// With this Transaktionsgrund.
     #[must_use]
     pub fn with_reason(self, reason: Reason) -> Question {
         Question { reason, ..self }
     }
 
-    /// Puts the question with a lent answer of any length; returns the refusal number or 0.
+    /// Puts the question with a lent answer of any length; returns the refusal number or 0. An
+    /// answer that is not 32 bytes long is refused with 1 and left untouched.
+    ///
+    /// ```
+    /// use mako_fristen_host::{Call, Date, Question};
+    ///
+    /// let question = Question::on(Call::IsWerktag, Date::new(2026, 4, 2));
+    /// let mut answers = [7; 33];
+    /// assert_eq!((question.ask(&mut answers), answers), (1, [7; 33]));
+    /// assert_eq!((question.ask(&mut answers[..32]), answers[1]), (0, 1));
+    /// ```
+    #[must_use]
     pub fn ask(&self, answer: &mut [u8]) -> u8 {
         call::put(self, answer)
     }
 
     /// The answer, unless the call refuses.
+    ///
+    /// ```
+    /// use mako_fristen_host::{Call, Date, Question};
+    ///
+    /// let question = Question::on(Call::WerktageBetween, Date::new(2025, 12, 31));
+    /// let answer = question.with_second(Date::new(2026, 12, 31)).answer()?;
+    /// assert_eq!(answer.count(), 249);
+    /// # Ok::<(), mako_fristen_host::Refusal>(())
+    /// ```
     ///
     /// # Errors
     ///

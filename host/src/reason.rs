@@ -9,6 +9,7 @@ pub struct Reason {
 }
 
 impl Reason {
+    /// How many bytes there is room for.
     pub const LONGEST: usize = 14;
 
     /// None if there is no room for so many bytes.
@@ -19,12 +20,14 @@ impl Reason {
         Some(Reason { len: reason.len() as u8, bytes })
     }
 
+    /// The bytes, as they were given.
     #[must_use]
     pub fn as_bytes(&self) -> &[u8] {
         &self.bytes[..usize::from(self.len)]
     }
 }
 
+/// In quotes, with what is no printable ASCII escaped.
 impl fmt::Display for Reason {
     fn fmt(&self, f: &mut fmt::Formatter<'_>) -> fmt::Result {
         write!(f, "\"{}\"", self.as_bytes().escape_ascii())

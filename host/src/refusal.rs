@@ -1,21 +1,45 @@
 use std::{error, fmt};
 
-/// Why a call gives no answer. The numbers are document 01's.
-#[derive(Clone, Copy, Debug, PartialEq, Eq, Hash)]
+/// Why a call gives no answer. The numbers are document 01's; where several apply, the call refuses
+/// with the lowest. Further numbers will come, so a `match` needs a case for the rest.
+///
+/// A refusal says that the question has no answer, never that a Frist was kept or missed. It is
+/// final: the same question is always refused with the same number.
+///
+/// ```
+/// use mako_fristen_host::{add_werktage, is_werktag, Date, Refusal};
+///
+/// assert_eq!(is_werktag(Date::new(2026, 2, 29)), Err(Refusal::NoDate));
+/// let refusal = add_werktage(Date::LAST, 1).unwrap_err();
+/// assert_eq!((refusal, refusal.number()), (Refusal::LeavesCalendar, 8));
+/// ```
+#[derive(Clone, Copy, Debug, PartialEq, Eq, PartialOrd, Ord, Hash)]
+#[non_exhaustive]
 pub enum Refusal {
+    /// 1: the answer is not 32 bytes long. Only [`ffi`](crate::ffi) and
+    /// [`Question::ask`](crate::Question::ask) can meet it.
     AnswerLength,
+    /// 2: a code is unknown. The functions with plain types have only known ones.
     UnknownCode,
+    /// 3: a given date is no date from 1 January 1996 to 31 December 2899.
     NoDate,
+    /// 4: an instant lies outside [`Instant::FIRST`](crate::Instant::FIRST) to
+    /// [`Instant::LAST`](crate::Instant::LAST), or its nanoseconds are over 999,999,999.
     InstantOutside,
+    /// 5: an hour over 23, a minute or second over 59, nanoseconds over 999,999,999.
     NoClock,
+    /// 6: Berlin's clock does not show this time on this day.
     LocalTimeAbsent,
+    /// 7: the instant is not the beginning of a day in its Sparte.
     NoBeginning,
+    /// 8: a result leaves the calendar.
     LeavesCalendar,
     /// A number that document 01 does not have: the archive is of another edition than this host.
     Unlisted(u8),
 }
 
 impl Refusal {
+    /// Those of document 01, in the order of their numbers, from 1.
     pub const ALL: [Refusal; 8] = [
         Refusal::AnswerLength,
         Refusal::UnknownCode,
@@ -27,6 +51,7 @@ impl Refusal {
         Refusal::LeavesCalendar,
     ];
 
+    /// The number that the call returned.
     #[must_use]
     pub const fn number(self) -> u8 {
         match self {
@@ -53,6 +78,7 @@ impl Refusal {
     }
 }
 
+/// A sentence for a log, without a full stop.
 impl fmt::Display for Refusal {
     fn fmt(&self, f: &mut fmt::Formatter<'_>) -> fmt::Result {
         f.write_str(match self {

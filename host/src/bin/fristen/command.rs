@@ -1,0 +1,97 @@
+//! The table of subcommands. A new one is a row of a file in `commands/`.
+
+use crate::commands::{abmeldung, berlin, fristen, kalender, vorlauf};
+use mako_fristen_host::{Call, Parameter};
+
+/// How the program is called.
+pub const PROGRAM: &str = "./fristen";
+
+/// A subcommand.
+#[derive(Debug, PartialEq, Eq)]
+pub struct Command {
+    pub name: &'static str,
+    /// None for the year's calendar, which is made of many calls.
+    pub call: Option<Call>,
+    /// What stands behind the name, in this order, each with its name in the usage line. A shape
+    /// stands for its counts and its clock time too.
+    pub operands: &'static [(Parameter, &'static str)],
+    /// For the list of all.
+    pub summary: &'static str,
+    /// For its own help.
+    pub meaning: &'static str,
+    /// The arguments of a call, and what it prints.
+    pub example: &'static str,
+    pub output: &'static str,
+}
+
+/// The subcommands under the headings of the help.
+pub const GROUPS: [(&str, &[Command]); 5] = [
+    ("Kalender", &kalender::COMMANDS),
+    ("Uhr", &berlin::COMMANDS),
+    ("Fristen", &fristen::COMMANDS),
+    ("Vorlauf", &vorlauf::COMMANDS),
+    ("Abmeldung und Ankündigung", &abmeldung::COMMANDS),
+];
+
+pub fn all() -> impl Iterator<Item = &'static Command> {
+    GROUPS.iter().flat_map(|(_, commands)| commands.iter())
+}
+
+impl Command {
+    /// By its name or the source's.
+    pub fn find(name: &str) -> Option<&'static Command> {
+        all().find(|command| command.name == name || command.source_name().as_deref() == Some(name))
+    }
+
+    /// The call's name in the source, with hyphens.
+    pub fn source_name(&self) -> Option<String> {
+        Some(self.call?.name().trim_start_matches("mf_").replace('_', "-"))
+    }
+
+    /// The name with what stands behind it.
+    pub fn usage(&self) -> String {
+        let labels = self.operands.iter().map(|(_, label)| *label);
+        [self.name].into_iter().chain(labels).collect::<Vec<_>>().join(" ")
+    }
+}
+
+#[cfg(test)]
+mod tests {
+    use super::*;
+
+    #[test]
+    fn every_call_has_one_command() {
+        for call in Call::ALL {
+            assert_eq!(all().filter(|c| c.call == Some(call)).count(), 1, "{}", call.name());
+        }
+        assert_eq!(all().count(), Call::ALL.len() + 1);
+    }
+
+    #[test]
+    fn a_command_is_found_by_either_name_and_no_name_is_used_twice() {
+        for command in all() {
+            let source_name = command.source_name();
+            for name in [Some(command.name), source_name.as_deref()].into_iter().flatten() {
+                assert_eq!(Command::find(name), Some(command), "{name}");
+            }
+            assert!(command.example.starts_with(&format!("{} ", command.name)));
+        }
+    }
+
+    /// A shape brings its counts and its clock time.
+    #[test]
+    fn the_operands_are_the_calls_parameters() {
+        for command in all() {
+            let Some(call) = command.call else { continue };
+            let given: Vec<_> = command.operands.iter().map(|(parameter, _)| *parameter).collect();
+            let shape =
+                given.iter().any(|p| matches!(p, Parameter::Shape | Parameter::VorlaufShape));
+            let brought = [Parameter::Count, Parameter::SecondCount, Parameter::Clock];
+            for parameter in call.parameters() {
+                let missing = shape && brought.contains(parameter);
+                assert_eq!(given.contains(parameter), !missing, "{} {parameter:?}", command.name);
+            }
+            assert!(given.iter().all(|parameter| call.takes(*parameter)), "{}", command.name);
+        }
+    }
+}

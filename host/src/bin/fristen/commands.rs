@@ -1,0 +1,7 @@
+//! The rows of the table in `command`.
+
+pub mod abmeldung;
+pub mod berlin;
+pub mod fristen;
+pub mod kalender;
+pub mod vorlauf;

@@ -1,0 +1,83 @@
+//! The help of the program and of each subcommand.
+
+use crate::command::{Command, GROUPS, PROGRAM};
+use crate::names::{FRISTEN, VORLAUF};
+use mako_fristen_host::Parameter;
+
+const HEAD: &str = "\
+Werktage und Fristen der Marktkommunikation
+
+Aufruf: ./fristen BEFEHL ANGABEN [--json | --bytes]
+";
+
+const FOOT: &str = "\
+Jeder Befehl auch unter dem Namen der Quelle: is-werktag, contrl-due-at, vorlauf-check ...
+
+Angaben
+  DATUM       wie 2026-04-02, vom 1. Januar 1996 bis zum 31. Dezember 2899
+  UHRZEIT     in Berlin, wie 13:00, 13:00:00 oder 13:00:00.5
+  ZEITPUNKT   wie 2026-03-31T11:59:59+02:00 oder 2026-03-31T09:59:59Z,
+              oder @SEKUNDEN.NANOSEKUNDEN seit 1970
+  N, PID      eine Zahl von 0 bis 4294967295
+  Namen       in beliebiger Groß- und Kleinschreibung
+
+Optionen, an beliebiger Stelle
+  --json      eine Zeile JSON
+  --bytes     die 32 Bytes der Antwort, hexadezimal
+  --help, -h  Hilfe, auch zu einem Befehl
+  --          danach folgen keine Optionen mehr
+
+Ende mit 0: Antwort. 2: abgelehnt. 64: falscher Aufruf. 69: nicht zu bauen. 74: Ausgabe gestört.
+";
+
+/// The list of all subcommands.
+pub fn general() -> String {
+    let row = |command: &Command| format!("  {}\n      {}\n", command.usage(), command.summary);
+    let groups = GROUPS.map(|(heading, commands)| {
+        let rows: Vec<String> = commands.iter().map(row).collect();
+        format!("\n{heading}\n{}", rows.concat())
+    });
+    format!("{HEAD}{}\n{FOOT}", groups.concat())
+}
+
+/// The usage, the meaning and an example with its output.
+pub fn of(command: &Command) -> String {
+    let also = match command.source_name() {
+        Some(name) if name != command.name => format!("Auch: {PROGRAM} {name} ...\n"),
+        _ => String::new(),
+    };
+    let takes = |parameter| command.operands.iter().any(|(operand, _)| *operand == parameter);
+    let shapes = match (takes(Parameter::VorlaufShape), takes(Parameter::Shape)) {
+        (true, _) => format!("\nFORM\n{}", vorlauf_shapes()),
+        (_, true) => format!("\nFORM\n{}", frist_shapes()),
+        _ => String::new(),
+    };
+    let output: String = command.output.lines().map(indented).collect();
+    format!(
+        "Aufruf: {PROGRAM} {}\n{also}\n{}\n{shapes}\nBeispiel\n  $ {PROGRAM} {}\n{output}",
+        command.usage(),
+        command.meaning,
+        command.example
+    )
+}
+
+fn indented(line: &str) -> String {
+    if line.is_empty() {
+        return "\n".to_owned();
+    }
+    format!("  {line}\n")
+}
+
+fn vorlauf_shapes() -> String {
+    let shape = |name: &str, counts: &[&str]| format!("{name} {}", counts.join(" "));
+    VORLAUF.iter().map(|(name, row)| indented(shape(name, row.counts).trim_end())).collect()
+}
+
+fn frist_shapes() -> String {
+    let shape = |(name, row): &(&str, crate::names::Frist)| {
+        let count = if row.count { " N" } else { "" };
+        let clock = if row.clock { " UHRZEIT" } else { "" };
+        indented(&format!("{name}{count}{clock}"))
+    };
+    FRISTEN.iter().map(shape).collect()
+}

@@ -1,0 +1,38 @@
+use mako_fristen_host::{ffi, Answer, Call, FristShape, Question, VorlaufShape};
+
+/// A call with its arguments, as they were given.
+#[derive(Debug)]
+pub struct Inquiry {
+    pub call: Call,
+    pub question: Question,
+    /// Of any length: a question has room for a short one only.
+    pub reason: Vec<u8>,
+    pub frist: Option<FristShape>,
+    pub vorlauf: Option<VorlaufShape>,
+}
+
+impl Inquiry {
+    pub fn new(call: Call) -> Inquiry {
+        let (question, reason) = (Question::new(call), Vec::new());
+        Inquiry { call, question, reason, frist: None, vorlauf: None }
+    }
+
+    /// The 32 bytes, of a refused call too.
+    pub fn answer(&self) -> Answer {
+        let mut bytes = [0; Answer::LEN];
+        self.put(&mut bytes);
+        Answer::from_bytes(bytes)
+    }
+
+    fn put(&self, answer: &mut [u8]) -> u8 {
+        let (reason, eeg) = (&self.reason[..], self.question.code);
+        let (from, to) = (self.question.date, self.question.date2);
+        match self.call {
+            Call::AbmeldungFuer => ffi::mf_abmeldung_fuer(reason, eeg, answer),
+            Call::AbmeldungCheck => ffi::mf_abmeldung_check(
+                reason, eeg, from.year, from.month, from.day, to.year, to.month, to.day, answer,
+            ),
+            _ => self.question.ask(answer),
+        }
+    }
+}

@@ -1,0 +1,186 @@
+//! The calendar of a year.
+
+use crate::deutsch::{monat, werktage};
+use crate::json::Json;
+use crate::report::{arguments, refused};
+use mako_fristen_host::{is_werktag, Date, Feiertag, Refusal, Weekday};
+use std::ffi::OsString;
+
+/// How a closed day is shown.
+#[derive(Clone, Copy, Debug, PartialEq, Eq)]
+pub enum Mark {
+    /// A star behind the day.
+    Star,
+    /// Red, and inverse for a holiday.
+    Colour,
+}
+
+const MONTHS_ABREAST: usize = 3;
+/// `September: 21 Werktage` is the longest.
+const WIDTH: usize = 22;
+const GAP: &str = "  ";
+const WEEKDAYS: &str = "Mo Di Mi Do Fr Sa So";
+
+/// A year with what the calls say of it.
+#[derive(Debug)]
+pub struct Year {
+    number: u16,
+    months: Vec<Month>,
+    holidays: Vec<(Date, Feiertag)>,
+}
+
+#[derive(Debug)]
+struct Month {
+    number: u8,
+    /// Each day, and whether it is a Werktag.
+    days: Vec<(Date, bool)>,
+}
+
+impl Month {
+    fn of(year: u16, number: u8) -> Result<Month, Refusal> {
+        let days = (1..=31).map(|day| Date::new(year, number, day));
+        let days = days.filter(|day| day.weekday().is_some());
+        let days = days.map(|day| Ok((day, is_werktag(day)?))).collect::<Result<_, _>>()?;
+        Ok(Month { number, days })
+    }
+
+    fn werktage(&self) -> u32 {
+        self.days.iter().map(|(_, open)| u32::from(*open)).sum()
+    }
+}
+
+impl Year {
+    /// # Errors
+    ///
+    /// [`Refusal::NoDate`], for a year that is none from 1996 to 2899.
+    pub fn of(year: u32) -> Result<Year, Refusal> {
+        let year = u16::try_from(year).map_err(|_| Refusal::NoDate)?;
+        let holidays = Feiertag::of_year(year)?;
+        let months = (1..=12).map(|month| Month::of(year, month)).collect::<Result<_, _>>()?;
+        Ok(Year { number: year, months, holidays })
+    }
+
+    fn werktage(&self) -> u32 {
+        self.months.iter().map(Month::werktage).sum()
+    }
+
+    fn is_holiday(&self, date: Date) -> bool {
+        self.holidays.iter().any(|(day, _)| *day == date)
+    }
+
+    pub fn text(&self, mark: Mark) -> String {
+        let closed = if mark == Mark::Star { " (* kein Werktag)" } else { "" };
+        let mut lines = vec![format!("Kalender {}{closed}", self.number), String::new()];
+        for months in self.months.chunks(MONTHS_ABREAST) {
+            lines.extend(self.abreast(months, mark));
+            lines.push(String::new());
+        }
+        lines.extend(self.holidays.iter().map(|(date, holiday)| named(*date, holiday.name)));
+        lines.push(String::new());
+        lines.push(format!("{} hat {}.", self.number, werktage(self.werktage())));
+        lines.join("\n")
+    }
+
+    /// The lines of months beside each other.
+    fn abreast(&self, months: &[Month], mark: Mark) -> Vec<String> {
+        let blocks: Vec<_> = months.iter().map(|month| self.block(month, mark)).collect();
+        let height = blocks.iter().map(Vec::len).max().unwrap_or_default();
+        let empty = || " ".repeat(WIDTH);
+        let line = |row: usize| {
+            let cells: Vec<_> =
+                blocks.iter().map(|b| b.get(row).cloned().unwrap_or_else(empty)).collect();
+            cells.join(GAP).trim_end().to_owned()
+        };
+        (0..height).map(line).collect()
+    }
+
+    /// The lines of a month, each of the same width: its name, the weekdays, the weeks.
+    fn block(&self, month: &Month, mark: Mark) -> Vec<String> {
+        let name = format!("{}: {}", monat(month.number), werktage(month.werktage()));
+        let mut lines = vec![format!("{name:WIDTH$}"), format!("{WEEKDAYS:WIDTH$}")];
+        let first = month.days.first().and_then(|(day, _)| day.weekday());
+        let before = first.map_or(0, |weekday| usize::from(weekday.number() - 1));
+        let days = month.days.iter().map(|(date, open)| self.cell(*date, *open, mark));
+        let cells: Vec<_> = vec![" ".repeat(3); before].into_iter().chain(days).collect();
+        for week in cells.chunks(Weekday::ALL.len()) {
+            let padding = " ".repeat(WIDTH - 3 * week.len());
+            lines.push(format!("{}{padding}", week.concat()));
+        }
+        lines
+    }
+
+    /// Three columns.
+    fn cell(&self, date: Date, open: bool, mark: Mark) -> String {
+        let day = date.day;
+        match (open, mark) {
+            (true, _) => format!("{day:2} "),
+            (_, Mark::Star) => format!("{day:2}*"),
+            (_, Mark::Colour) if self.is_holiday(date) => format!("\x1b[7;31m{day:2}\x1b[0m "),
+            (_, Mark::Colour) => format!("\x1b[31m{day:2}\x1b[0m "),
+        }
+    }
+
+    pub fn json(&self, given: &[OsString]) -> Json {
+        let months = self.months.iter().map(|month| Json::Number(i64::from(month.werktage())));
+        let days = self.months.iter().flat_map(|month| &month.days);
+        let closed = days.filter(|(_, open)| !open).map(|(date, _)| Json::text(date));
+        let holidays = self.holidays.iter().map(|(date, holiday)| {
+            let weekday = date.weekday().map_or(Json::Null, Json::text);
+            let name = Json::text(holiday.name);
+            Json::Object(vec![("date", Json::text(date)), ("weekday", weekday), ("name", name)])
+        });
+        Json::Object(vec![
+            ("call", Json::text("kalender")),
+            ("arguments", arguments(given)),
+            ("refusal", Json::Null),
+            ("year", Json::Number(i64::from(self.number))),
+            ("werktage", Json::Number(i64::from(self.werktage()))),
+            ("werktage_by_month", Json::list(months)),
+            ("closed", Json::list(closed)),
+            ("holidays", Json::list(holidays)),
+        ])
+    }
+}
+
+fn named(date: Date, name: &str) -> String {
+    let weekday = date.weekday().map(|day| day.to_string()).unwrap_or_default();
+    format!("{:2}. {:<9}  {weekday:<10}  {name}", date.day, monat(date.month))
+}
+
+/// What the calendar of a refused year is as JSON.
+pub fn refused_json(given: &[OsString], refusal: Refusal) -> Json {
+    Json::Object(vec![
+        ("call", Json::text("kalender")),
+        ("arguments", arguments(given)),
+        ("refusal", refused(refusal)),
+    ])
+}
+
+#[cfg(test)]
+mod tests {
+    use super::*;
+
+    /// Without its colours the sheet is the plain one without its stars.
+    #[test]
+    fn a_closed_day_has_a_star_or_a_colour() {
+        for year in [1996, 2008, 2026, 2899] {
+            let sheet = Year::of(year).expect("a year of the calendar");
+            let plain = sheet.text(Mark::Star).replace(" (* kein Werktag)", "").replace('*', " ");
+            let mut coloured = sheet.text(Mark::Colour);
+            for code in ["\x1b[7;31m", "\x1b[31m", "\x1b[0m"] {
+                assert!(coloured.contains(code));
+                coloured = coloured.replace(code, "");
+            }
+            let lines = |text: &str| text.lines().map(str::trim_end).map(str::to_owned).collect();
+            let (plain, coloured): (Vec<_>, Vec<_>) = (lines(&plain), lines(&coloured));
+            assert_eq!(plain, coloured);
+        }
+    }
+
+    #[test]
+    fn a_year_outside_the_calendar_is_refused() {
+        for year in [0, 1995, 2900, 65_535, 65_536, u32::MAX] {
+            assert_eq!(Year::of(year).err(), Some(Refusal::NoDate), "{year}");
+        }
+    }
+}

@@ -1,0 +1,51 @@
+use crate::command::{Command, PROGRAM};
+use std::ffi::OsStr;
+
+/// A call that the program cannot make sense of.
+#[derive(Debug)]
+pub struct Usage {
+    pub message: String,
+    pub command: Option<&'static Command>,
+}
+
+impl Usage {
+    pub fn new(message: impl Into<String>) -> Usage {
+        Usage { message: message.into(), command: None }
+    }
+
+    pub fn of(self, command: &'static Command) -> Usage {
+        Usage { command: Some(command), ..self }
+    }
+
+    /// What was expected, and how the subcommand is called.
+    pub fn text(&self) -> String {
+        let message = &self.message;
+        match self.command {
+            Some(command) => format!(
+                "fristen: {message}\nAufruf: {PROGRAM} {}\nMehr: {PROGRAM} {} --help\n",
+                command.usage(),
+                command.name
+            ),
+            None => format!("fristen: {message}\nMehr: {PROGRAM} --help\n"),
+        }
+    }
+}
+
+/// In German quotation marks, with nothing in it that would steer a terminal.
+pub fn quoted(text: &OsStr) -> String {
+    quoted_bytes(text.as_encoded_bytes())
+}
+
+/// The same of any bytes.
+pub fn quoted_bytes(text: &[u8]) -> String {
+    let text = String::from_utf8_lossy(text);
+    let text: String = text.chars().flat_map(visible).collect();
+    format!("„{text}“")
+}
+
+fn visible(c: char) -> Vec<char> {
+    if c.is_control() {
+        return c.escape_unicode().collect();
+    }
+    vec![c]
+}

@@ -1,0 +1,493 @@
+//! What a service relies on: every function returns for every input, and for each call the function
+//! with plain types gives what the question gives. Arguments are random, from a fixed seed.
+
+use mako_fristen_host::*;
+use std::fmt::{Debug, Display};
+use std::time::SystemTime;
+
+const ROUNDS: u32 = 1_000;
+
+type Given = Result<Answer, Refusal>;
+
+/// xorshift64* (Vigna, 2016).
+struct Random(u64);
+
+impl Random {
+    fn number(&mut self) -> u64 {
+        self.0 ^= self.0 >> 12;
+        self.0 ^= self.0 << 25;
+        self.0 ^= self.0 >> 27;
+        self.0.wrapping_mul(0x2545_f491_4f6c_dd1d)
+    }
+
+    fn below(&mut self, bound: u64) -> u64 {
+        (self.number() >> 11) % bound
+    }
+
+    fn byte(&mut self) -> u8 {
+        self.number().to_le_bytes()[7]
+    }
+
+    fn bytes<const N: usize>(&mut self) -> [u8; N] {
+        std::array::from_fn(|_| self.byte())
+    }
+
+    /// Mostly a date, sometimes the 29th to 31st of a month that may lack it, or any numbers.
+    fn date(&mut self) -> Date {
+        let year = 1996 + self.below(904) as u16;
+        let month = 1 + self.below(12) as u8;
+        match self.below(16) {
+            0 => Date::from_bytes(self.bytes()),
+            1 => Date::new(year - 1, month, 29 + self.below(4) as u8),
+            _ => Date::new(year, month, 1 + self.below(28) as u8),
+        }
+    }
+
+    /// Mostly a day within three years, since a count over centuries takes its time.
+    fn date_near(&mut self, date: Date) -> Date {
+        match self.below(64) {
+            0 => self.date(),
+            _ => Date { year: date.year.saturating_add(self.below(3) as u16), ..self.date() },
+        }
+    }
+
+    /// Few: a large count walks to the calendar's edge.
+    fn count(&mut self) -> u32 {
+        match self.below(64) {
+            0 => self.number() as u32,
+            _ => self.below(45) as u32,
+        }
+    }
+
+    /// Mostly one that is known, sometimes the first that is not, or any.
+    fn code(&mut self, known: u8) -> u8 {
+        match self.below(32) {
+            0 => self.byte(),
+            1 => known,
+            _ => self.below(u64::from(known.max(1))) as u8,
+        }
+    }
+
+    /// Mostly the beginning of `date` in some Sparte, or some second of the calendar.
+    fn instant(&mut self, date: Date) -> Instant {
+        const SECONDS: u64 = Instant::LAST.seconds.abs_diff(Instant::FIRST.seconds);
+        let sparte = Sparte::ALL[self.below(2) as usize];
+        let some = Instant::FIRST.seconds + self.below(SECONDS) as i64;
+        match self.below(16) {
+            0 => Instant::new(self.number() as i64, self.number() as u32),
+            1 => Instant::new(Instant::LAST.seconds + self.below(3) as i64, 999_999_999),
+            2 => Instant::new(Instant::FIRST.seconds - self.below(3) as i64, 0),
+            3..6 => Instant::new(some, self.below(1_100_000_000) as u32),
+            _ => tagesbeginn_utc(date, sparte).unwrap_or_default(),
+        }
+    }
+
+    fn clock(&mut self) -> Clock {
+        let [hour, minute, second, nanos] = self.bytes();
+        match self.below(8) {
+            0 => Clock::new(hour, minute, second, self.number() as u32),
+            _ => Clock::new(hour % 24, minute % 60, second % 60, u32::from(nanos)),
+        }
+    }
+
+    fn reason(&mut self) -> Reason {
+        let bytes: [u8; Reason::LONGEST] = self.bytes();
+        let len = self.below(Reason::LONGEST as u64 + 1) as usize;
+        let reason = [&b"ZQ7"[..], b"Z33", b"zq7", &bytes[..len]][self.below(4) as usize];
+        Reason::new(reason).unwrap_or_default()
+    }
+
+    fn question(&mut self, call: Call) -> Question {
+        let date = self.date();
+        let date2 = self.date_near(date);
+        Question {
+            call,
+            code: self.code(call.codes().unwrap_or_default()),
+            code2: self.code(Sparte::ALL.len() as u8),
+            date,
+            date2,
+            n: self.count().wrapping_add(if call.takes(Parameter::Pid) { 44_000 } else { 0 }),
+            n2: self.count(),
+            instant: self.instant(date),
+            instant2: self.instant(date2),
+            clock: self.clock(),
+            reason: self.reason(),
+        }
+    }
+}
+
+fn kind(kind: u8) -> Answer {
+    Answer::default().with_kind(kind)
+}
+
+fn dated(date: Date) -> Answer {
+    Answer::default().with_date(date)
+}
+
+fn timed(instant: Instant) -> Answer {
+    Answer::default().with_instant(instant)
+}
+
+fn gas(GasDue { kind: prozess, due }: GasDue) -> Answer {
+    timed(due).with_kind(prozess as u8)
+}
+
+fn judged(verdict: VorlaufVerdict) -> Answer {
+    match verdict {
+        VorlaufVerdict::Ok => kind(0),
+        VorlaufVerdict::TooLate { shortfall_wt, earliest_possible } => {
+            dated(earliest_possible).with_kind(1).with_count(shortfall_wt)
+        }
+        VorlaufVerdict::TooEarly { excess_wt } => kind(2).with_count(excess_wt),
+    }
+}
+
+fn spanned(span: Span) -> Answer {
+    match span {
+        Span::From(first) => dated(first),
+        Span::Between(first, last) => dated(first).with_kind(1).with_last_date(last),
+        Span::Empty => kind(2),
+    }
+}
+
+/// The case of a code; a function with plain types cannot be asked for any other.
+fn case<T: Copy>(all: &[T], code: u8) -> Result<T, Refusal> {
+    all.get(usize::from(code)).copied().ok_or(Refusal::UnknownCode)
+}
+
+fn frist_shape(q: &Question) -> Result<FristShape, Refusal> {
+    let shapes = [
+        FristShape::WerktagAt { werktage: q.n, at: q.clock },
+        FristShape::EndOfWerktag(q.n),
+        FristShape::SameDayAt(q.clock),
+        FristShape::SameDay,
+    ];
+    case(&shapes, q.code)
+}
+
+fn vorlauf_shape(q: &Question) -> Result<VorlaufShape, Refusal> {
+    let shapes = [
+        VorlaufShape::LatestWerktageBefore(q.n),
+        VorlaufShape::WindowWerktageBefore { earliest: q.n, latest: q.n2 },
+        VorlaufShape::LatestWerktageAfter(q.n),
+        VorlaufShape::EarliestWerktageAfter(q.n),
+        VorlaufShape::Korridor(q.n),
+        VorlaufShape::TagVorDemLetztenWerktagVor,
+        VorlaufShape::LatestMonateBefore(q.n),
+        VorlaufShape::LatestMonateUndWerktageBefore { monate: q.n, werktage: q.n2 },
+    ];
+    case(&shapes, q.code)
+}
+
+/// The answer by the function with plain types; none if the call has no such function.
+fn typed(q: &Question) -> Option<Given> {
+    by_date(q).or_else(|| by_instant(q)).or_else(|| by_case(q).transpose())
+}
+
+fn by_date(q: &Question) -> Option<Given> {
+    Some(match q.call {
+        Call::IsWerktag => is_werktag(q.date).map(|yes| kind(yes.into())),
+        Call::NextWerktag => next_werktag(q.date).map(dated),
+        Call::AddWerktage => add_werktage(q.date, q.n).map(dated),
+        Call::SubWerktage => sub_werktage(q.date, q.n).map(dated),
+        Call::WerktageBetween => {
+            werktage_between(q.date, q.date2).map(|count| Answer::default().with_count(count))
+        }
+        Call::AddMonths => add_months(q.date, q.n).map(dated),
+        Call::SubtractMonths => subtract_months(q.date, q.n).map(dated),
+        Call::BerlinAt => berlin_at(q.date, q.clock).map(timed),
+        Call::BerlinMidnight => berlin_midnight(q.date).map(timed),
+        Call::EndOfDayBerlin => end_of_day_berlin(q.date).map(timed),
+        _ => return None,
+    })
+}
+
+fn by_instant(q: &Question) -> Option<Given> {
+    Some(match q.call {
+        Call::BerlinDate => berlin_date(q.instant).map(dated),
+        Call::AperakStromDueAt => aperak_strom_due_at(q.instant).map(timed),
+        Call::AperakStromAllgemeinDueAt => aperak_strom_allgemein_due_at(q.instant).map(timed),
+        Call::AperakGasFolgeprozessDueAt => aperak_gas_folgeprozess_due_at(q.instant).map(gas),
+        Call::AperakGasInitialprozessDueAt => aperak_gas_initialprozess_due_at(q.instant).map(gas),
+        Call::AperakGasDueAt => aperak_gas_due_at(q.n, q.instant).map(gas),
+        Call::AddHours => add_hours(q.instant, q.n).map(timed),
+        Call::DeadlineAtWerktage => deadline_at_werktage(q.instant, q.n).map(timed),
+        Call::EndOfWerktagAfter => end_of_werktag_after(q.instant, q.n).map(timed),
+        Call::NextWerktagAt => next_werktag_at(q.instant, q.clock).map(timed),
+        Call::NthWerktagAt => nth_werktag_at(q.instant, q.n, q.clock).map(timed),
+        Call::EogAnkuendigungFristgerecht => eog_ankuendigung_fristgerecht(q.instant, q.date)
+            .map(|in_time| kind(in_time.map_or(2, u8::from))),
+        _ => return None,
+    })
+}
+
+fn by_case(q: &Question) -> Result<Option<Answer>, Refusal> {
+    let reason = q.reason.as_bytes();
+    Ok(Some(match q.call {
+        Call::TagesbeginnUtc => timed(tagesbeginn_utc(q.date, case(&Sparte::ALL, q.code)?)?),
+        Call::TagDesBeginns => dated(tag_des_beginns(q.instant, case(&Sparte::ALL, q.code)?)?),
+        Call::ContrlDueAt => timed(contrl_due_at(q.instant, case(&ContrlAnlass::ALL, q.code)?)?),
+        Call::FristDueAt => timed(frist_shape(q)?.due_at(q.instant)?),
+        Call::VorlaufCheck => judged(vorlauf_shape(q)?.check(q.date, q.date2)?),
+        Call::VorlaufCheckAt => {
+            let sparte = case(&Sparte::ALL, q.code2)?;
+            judged(vorlauf_shape(q)?.check_at(q.instant, q.instant2, sparte)?)
+        }
+        Call::VorlaufSpan => spanned(vorlauf_shape(q)?.span(q.date)?),
+        Call::AbmeldungFuer => {
+            kind(AbmeldungVorlauf::fuer(reason, case(&Eeg::ALL, q.code)?)? as u8)
+        }
+        Call::AbmeldungCheck => {
+            let eeg = case(&Eeg::ALL, q.code)?;
+            AbmeldungVorlauf::check(reason, eeg, q.date, q.date2)?.map_or(kind(3), judged)
+        }
+        _ => return Ok(None),
+    }))
+}
+
+#[test]
+fn each_call_has_a_function_with_the_same_answers() {
+    let mut random = Random(0x6d61_6b6f);
+    for call in Call::ALL {
+        let mut answered = 0;
+        for _ in 0..ROUNDS {
+            let question = random.question(call);
+            let answer = question.answer();
+            let typed = typed(&question);
+            assert_eq!(typed, Some(answer), "{question}");
+            answered += u32::from(answer.is_ok());
+        }
+        // Else it is only refusals that were compared.
+        assert!(answered > ROUNDS / 8, "{}: {answered} answered", call.name());
+    }
+}
+
+/// The number that is returned, also to an answer that is too short or too long.
+#[test]
+fn an_answer_of_any_length_may_be_lent() {
+    let mut random = Random(0x616e_7477);
+    for round in 0..ROUNDS {
+        let question = random.question(Call::ALL[round as usize % Call::ALL.len()]);
+        let mut answer = vec![0xa5; random.below(70) as usize];
+        let number = question.ask(&mut answer);
+        match answer.len() {
+            Answer::LEN => assert_eq!(answer[0], number, "{question}"),
+            _ => assert_eq!((number, answer.iter().all(|&byte| byte == 0xa5)), (1, true)),
+        }
+    }
+}
+
+/// Written in both forms, and not empty.
+fn is_written(value: impl Display + Debug) {
+    assert!(!format!("{value}").is_empty() && !format!("{value:?}").is_empty());
+}
+
+#[test]
+fn every_question_is_written() {
+    let mut random = Random(0x6672_6167);
+    for round in 0..ROUNDS {
+        let call = Call::ALL[round as usize % Call::ALL.len()];
+        let question = Question {
+            call,
+            code: random.byte(),
+            code2: random.byte(),
+            date: Date::from_bytes(random.bytes()),
+            date2: Date::from_bytes(random.bytes()),
+            n: random.number() as u32,
+            n2: random.number() as u32,
+            instant: Instant::new(random.number() as i64, random.number() as u32),
+            instant2: Instant::new(random.number() as i64, random.number() as u32),
+            clock: Clock::new(random.byte(), random.byte(), random.byte(), random.number() as u32),
+            reason: random.reason(),
+        };
+        assert_eq!(question.to_bytes()[0], call.number());
+        assert_eq!(question.to_bytes()[49], question.reason.as_bytes().len() as u8);
+        is_written(question);
+        is_written(question.date);
+        is_written(question.instant);
+        is_written(question.clock);
+        is_written(question.reason);
+    }
+}
+
+#[test]
+fn every_answer_is_read() {
+    let mut random = Random(0x6279_7465);
+    for _ in 0..ROUNDS {
+        let bytes = random.bytes();
+        let answer = Answer::from_bytes(bytes);
+        assert_eq!(format!("{answer:x}").len(), 2 * Answer::LEN);
+        is_written(answer.date());
+        is_written(answer.last_date());
+        is_written(answer.instant());
+        let again = Answer::default()
+            .with_kind(answer.kind())
+            .with_count(answer.count())
+            .with_instant(answer.instant())
+            .with_date(answer.date())
+            .with_last_date(answer.last_date());
+        // The refusal number, two bytes and the last four are no field of these.
+        assert_eq!(again.as_bytes()[4..28], bytes[4..28]);
+        assert_eq!((again.as_bytes()[1], answer.number()), (bytes[1], bytes[0]));
+    }
+}
+
+#[test]
+fn every_number_is_a_refusal_but_0() {
+    assert_eq!(Refusal::of_number(0), None);
+    for number in 1..=u8::MAX {
+        let refusal = Refusal::of_number(number).expect("not 0");
+        assert_eq!(refusal.number(), number);
+        assert_eq!(Answer::refused(refusal).number(), number);
+        assert_eq!(Answer::of(|_| number), Err(refusal));
+        is_written(refusal);
+    }
+}
+
+/// Longer than a question has room for, too.
+#[test]
+fn a_reason_may_have_any_length() {
+    let mut random = Random(0x005a_5137);
+    let dates = (Date::new(2026, 1, 8), Date::new(2026, 1, 10));
+    for len in 0..=300 {
+        let reason: Vec<u8> = (0..len).map(|_| random.byte()).collect();
+        assert_eq!(Reason::new(&reason).is_some(), len <= Reason::LONGEST);
+        for eeg in Eeg::ALL {
+            let vorlauf = AbmeldungVorlauf::fuer(&reason, eeg);
+            assert_eq!(vorlauf.map(|vorlauf| vorlauf as u8), Ok(eeg_case(eeg)));
+            let verdict = AbmeldungVorlauf::check(&reason, eeg, dates.0, dates.1);
+            assert_eq!(verdict.map(|verdict| verdict.is_some()), Ok(eeg != Eeg::Unknown));
+        }
+    }
+}
+
+fn eeg_case(eeg: Eeg) -> u8 {
+    (match eeg {
+        Eeg::No => AbmeldungVorlauf::TagVorDemLetztenWerktag,
+        Eeg::Yes => AbmeldungVorlauf::EinMonat,
+        Eeg::Unknown => AbmeldungVorlauf::Unbestimmt,
+    }) as u8
+}
+
+#[test]
+fn a_span_is_asked_for_any_date() {
+    let mut random = Random(0x7370_616e);
+    for _ in 0..ROUNDS {
+        let [first, last, anchor] = std::array::from_fn(|_| Date::from_bytes(random.bytes()));
+        assert_eq!(Span::From(first).contains(anchor), first <= anchor);
+        let between = Span::Between(first, last).contains(anchor);
+        assert_eq!(between, first <= anchor && anchor <= last);
+        assert!(!Span::Empty.contains(anchor));
+    }
+}
+
+#[test]
+fn every_instant_has_a_system_time_or_a_refusal() {
+    let mut random = Random(0x7a65_6974);
+    for _ in 0..ROUNDS {
+        let instant = random.instant(Date::FIRST);
+        match SystemTime::try_from(instant) {
+            Ok(time) => assert_eq!(Instant::from(time), instant),
+            Err(refusal) => assert_eq!(refusal, Refusal::InstantOutside, "{instant}"),
+        }
+    }
+}
+
+/// The types of a question and its answer are plain values, which threads may share and keep.
+#[test]
+fn threads_ask_at_the_same_time() {
+    fn is_plain<T: Copy + Send + Sync + std::hash::Hash + 'static>() {}
+    is_plain::<(Question, Answer, Refusal, Date, Clock, Instant, Reason)>();
+    is_plain::<(Call, Parameter, ContrlAnlass, Sparte, Eeg, GasDue, FristShape)>();
+    is_plain::<(VorlaufShape, VorlaufVerdict, Span, AbmeldungVorlauf)>();
+    let mut random = Random(0x6661_6465);
+    let questions: Vec<Question> = Call::ALL.map(|call| random.question(call)).to_vec();
+    let answers = || questions.iter().map(Question::answer).collect::<Vec<Given>>();
+    let alone = answers();
+    std::thread::scope(|scope| {
+        let threads: Vec<_> = (0..4).map(|_| scope.spawn(answers)).collect();
+        for thread in threads {
+            assert_eq!(thread.join().expect("a thread's answers"), alone);
+        }
+    });
+}
+
+/// A text of the signs that dates, clock times and instants have, and of one that none has.
+fn any_text(random: &mut Random) -> String {
+    const SIGNS: [char; 18] =
+        ['0', '1', '2', '3', '4', '5', '6', '7', '8', '9', '-', ':', '.', 'T', 'Z', '+', '@', 'é'];
+    let len = random.below(32);
+    (0..len).map(|_| SIGNS[random.below(18) as usize]).collect()
+}
+
+#[test]
+fn every_text_is_read_or_refused() {
+    let mut random = Random(0x7465_7874);
+    for _ in 0..ROUNDS {
+        let text = any_text(&mut random);
+        let (date, clock) = (random.date(), random.clock());
+        let mut spoiled = format!("{date}T{clock}+02:00").into_bytes();
+        let place = random.below(spoiled.len() as u64) as usize;
+        spoiled[place] = random.byte() & 0x7f;
+        for text in [text, String::from_utf8_lossy(&spoiled).into_owned()] {
+            text.parse::<Date>().map_or_else(is_written, is_written);
+            text.parse::<Clock>().map_or_else(is_written, is_written);
+            text.parse::<Instant>().map_or_else(is_written, is_written);
+        }
+        // Longer ones have more digits in a place than the form allows.
+        let (day, time) = (date.to_string(), clock.to_string());
+        assert_eq!(day.parse() == Ok(date), day.len() == "2026-04-02".len(), "{day}");
+        assert_eq!(time.parse() == Ok(clock), time.len() == "13:00:00.000000000".len(), "{time}");
+    }
+}
+
+/// A date is one of the calendar for the call exactly if it is one here, between the limits.
+#[test]
+fn every_date_is_counted_or_none() {
+    let mut random = Random(0x7461_6765);
+    for _ in 0..ROUNDS {
+        let (date, number) = (random.date(), random.number() as i64);
+        let inside = (Date::FIRST..=Date::LAST).contains(&date);
+        assert_eq!(is_werktag(date).is_ok(), inside && date.day_number().is_some(), "{date}");
+        let again = date.day_number().and_then(Date::of_day_number);
+        assert_eq!((again.is_some(), again.unwrap_or(date)), (date.weekday().is_some(), date));
+        assert_eq!(Date::of_day_number(number), None);
+        assert_eq!(date.plus_days(number), None);
+        let holiday = Feiertag::on(date).is_ok_and(|holidays| !holidays.is_empty());
+        assert!(!(holiday && is_werktag(date) == Ok(true)), "{date}");
+        assert_eq!(Feiertag::of_year(date.year).is_ok(), (1996..2900).contains(&date.year));
+    }
+}
+
+/// Berlin's time of an instant leads back to it, but for the later of two that show the same.
+#[test]
+fn every_instant_is_shown_or_none() {
+    let mut random = Random(0x7368_6f77);
+    for _ in 0..ROUNDS {
+        let (date, clock) = (random.date(), random.clock());
+        let instant = random.instant(date);
+        let shown = BerlinTime::of(instant);
+        assert_eq!(shown.map(|shown| shown.date), berlin_date(instant), "{instant}");
+        if let Ok(BerlinTime { date, clock, summer, repeated }) = shown {
+            let earliest = berlin_at(date, clock) == Ok(instant);
+            assert_eq!(earliest, summer || !repeated, "{instant}");
+        }
+        let utc = instant.utc().and_then(|(date, clock)| Instant::of_utc(date, clock));
+        assert_eq!(utc.unwrap_or(instant), instant);
+        assert_eq!(Instant::of_utc(date, clock).is_some(), date.day_number().is_some());
+        let later = instant.plus_seconds(random.number() as i64);
+        assert!(later.is_none_or(|later| later.nanos == instant.nanos));
+    }
+}
+
+#[test]
+fn every_shape_is_described() {
+    let mut random = Random(0x666f_726d);
+    for _ in 0..ROUNDS {
+        let question = random.question(Call::FristDueAt);
+        assert!(!frist_shape(&question).map_or("none".into(), FristShape::beschreibung).is_empty());
+        let question = random.question(Call::VorlaufSpan);
+        let shape = vorlauf_shape(&question);
+        assert!(!shape.map_or("none".into(), VorlaufShape::beschreibung).is_empty());
+    }
+}

@@ -1,0 +1,58 @@
+//! No call takes memory from the heap, so a service may ask where it must not wait for any.
+
+use mako_fristen_host::{Call, Date, Instant, Question, Reason, Refusal};
+use std::alloc::{GlobalAlloc, Layout, System};
+use std::cell::Cell;
+
+thread_local! {
+    static TAKEN: Cell<u32> = const { Cell::new(0) };
+}
+
+/// The system's, with a count of what this thread takes.
+struct Counting;
+
+#[global_allocator]
+static HEAP: Counting = Counting;
+
+// SAFETY: both are the system's own, with the arguments as they came.
+unsafe impl GlobalAlloc for Counting {
+    unsafe fn alloc(&self, layout: Layout) -> *mut u8 {
+        TAKEN.set(TAKEN.get() + 1);
+        unsafe { System.alloc(layout) }
+    }
+
+    unsafe fn dealloc(&self, memory: *mut u8, layout: Layout) {
+        unsafe { System.dealloc(memory, layout) }
+    }
+}
+
+/// How often `work` takes memory.
+fn taken(work: impl FnOnce()) -> u32 {
+    let before = TAKEN.get();
+    work();
+    TAKEN.get() - before
+}
+
+#[test]
+fn what_is_taken_is_counted() {
+    assert_eq!(taken(|| drop(Box::new(1))), 1);
+}
+
+#[test]
+fn no_answer_and_no_refusal_takes_memory() {
+    let reason = Reason::new(b"Z33").expect("three bytes");
+    for call in Call::ALL {
+        let question = Question {
+            date2: Date::new(2026, 4, 7),
+            instant2: Instant::new(1_775_512_800, 0),
+            date: Date::new(2026, 4, 2),
+            instant: Instant::new(1_775_080_800, 0),
+            ..Question::new(call).with_count(1).with_reason(reason)
+        };
+        assert_eq!(taken(|| assert!(question.answer().is_ok())), 0, "{question}");
+        let refused = Question { code: 99, ..Question::new(call) };
+        let refuses =
+            || assert!(matches!(refused.answer(), Err(refusal) if refusal < Refusal::NoClock));
+        assert_eq!(taken(refuses), 0, "{refused}");
+    }
+}
