@@ -8,13 +8,19 @@
 //! | [`zone`] | what the system's tz database answers |
 //! | [`random`] | seeded numbers |
 //! | [`rows`] | the questions, in rows: a new call is a new set of rows |
-//! | [`run`] | puts the questions of a row to both sides |
+//! | [`run`] | puts the questions of rows to both sides |
+//! | [`fuzz`] | puts any numbers and bytes to the host calls, with guarded slices |
+//! | [`cores`] | work in parts, on all cores |
+//! | [`progress`] | how far a long run has come |
 //! | [`options`] | `--name value` of the programs |
 
+pub mod cores;
 pub mod days;
+pub mod fuzz;
 pub mod instants;
 pub mod options;
 pub mod original;
+pub mod progress;
 pub mod random;
 pub mod rows;
 pub mod run;

@@ -8,12 +8,16 @@ pub const DEFAULT_SEED: u64 = 20_260_405;
 /// program.
 #[must_use]
 pub fn option<T: FromStr>(name: &str, default: T) -> T {
+    given(name).unwrap_or(default)
+}
+
+/// The value of `--name`, if the command line has it.
+#[must_use]
+pub fn given<T: FromStr>(name: &str) -> Option<T> {
     let mut arguments = env::args().skip_while(|argument| argument != name);
-    if arguments.next().is_none() {
-        return default;
-    }
+    arguments.next()?;
     match arguments.next().and_then(|value| value.parse().ok()) {
-        Some(value) => value,
+        Some(value) => Some(value),
         None => stop(&format!("{name} needs a number")),
     }
 }
@@ -27,7 +31,8 @@ pub fn only(names: &[&str]) {
     }
 }
 
-fn stop(why: &str) -> ! {
+/// Says why, and ends the program.
+pub fn stop(why: &str) -> ! {
     eprintln!("{why}");
     process::exit(2)
 }

@@ -2,6 +2,7 @@
 //! from its place alone.
 
 mod abmeldung;
+pub(crate) mod any;
 mod corners;
 mod instants;
 mod kalender;
@@ -73,4 +74,52 @@ pub fn rows(seed: u64, random: u64) -> Vec<Row> {
     rows.extend(abmeldung::rows(seed, random));
     rows.extend(Call::ALL.into_iter().flat_map(corners::rows));
     rows
+}
+
+/// The rows of a long run, with some so many random questions: the rows above, whose random ones
+/// are four times what they are told, and for every call arguments of every kind.
+#[must_use]
+pub fn long(seed: u64, random: u64) -> Vec<Row> {
+    let mut rows = rows(seed, random / 8);
+    rows.extend(any::rows(seed, random / 2));
+    rows
+}
+
+/// How many questions there are where the original walks far and `few` are enough for a short run:
+/// more in a long one.
+fn far(few: u64, random: u64) -> u64 {
+    const SHORT: u64 = 2_000_000;
+    few * (random / SHORT).max(1)
+}
+
+#[cfg(test)]
+mod tests {
+    use super::long;
+    use mako_fristen_host::Call;
+
+    #[test]
+    fn a_long_run_has_millions_of_every_call() {
+        const RANDOM: u64 = 250_000_000;
+        let rows = long(1, RANDOM);
+        for call in Call::ALL {
+            let of_call = rows.iter().filter(|row| row.call == call);
+            let sum: u64 = of_call.map(|row| row.len).sum();
+            assert!(sum > 4_500_000, "{}: {sum}", call.name());
+        }
+        let sum: u64 = rows.iter().map(|row| row.len).sum();
+        assert!((280_000_000..340_000_000).contains(&sum), "{sum}");
+    }
+
+    /// A row and a place mean the same question however many there are.
+    #[test]
+    fn questions_do_not_depend_on_how_many_there_are() {
+        let (few, many) = (long(7, 8_000_000), long(7, 250_000_000));
+        assert_eq!(few.len(), many.len());
+        for (few, many) in few.iter().zip(&many) {
+            assert_eq!((few.call, few.what), (many.call, many.what));
+            let place = few.len.min(many.len) / 2;
+            let questions = [few, many].map(|row| (row.probe)(place).question);
+            assert_eq!(questions[0], questions[1], "{}", few.what);
+        }
+    }
 }

@@ -1,55 +1,67 @@
-//! Puts the questions of a row to both sides.
+//! Puts the questions of rows to both sides.
 
+use crate::cores::{cores, split};
+use crate::progress::Progress;
 use crate::rows::{Probe, Row, LONGEST};
 use mako_fristen_host::{Answer, Refusal};
-use std::sync::atomic::{AtomicU64, Ordering};
 use std::sync::Mutex;
-use std::thread;
 
 const GUARD: usize = 16;
 const SHOWN: usize = 5;
+/// How many questions of a row a thread takes at a time, at the most.
+const SHARE: u64 = 4096;
 
 /// A lent slice of any length up to the longest, with guard bytes on both sides.
 type Lent = [u8; GUARD + LONGEST + GUARD];
 
+/// A question on which the two sides differ, in full.
+pub struct Difference {
+    pub place: u64,
+    pub text: String,
+}
+
 #[derive(Default)]
 pub struct Outcome {
     pub differences: u64,
-    /// The first few, in full.
-    pub shown: Vec<String>,
+    /// Those of the first few places.
+    pub shown: Vec<Difference>,
 }
 
-/// Compares every probe of the row, on all cores.
+impl Outcome {
+    fn add(&mut self, place: u64, text: String) {
+        self.differences += 1;
+        self.shown.push(Difference { place, text });
+        self.shown.sort_by_key(|difference| difference.place);
+        self.shown.truncate(SHOWN);
+    }
+}
+
+/// Compares every probe of the rows, on all cores. All rows advance alike, so that a long run goes
+/// on at the rate at which it began.
 #[must_use]
-pub fn run(row: &Row) -> Outcome {
-    let threads = thread::available_parallelism().map_or(1, usize::from);
-    let share = (row.len / (threads as u64 * 64)).clamp(1, 4096);
-    let next = AtomicU64::new(0);
-    let outcome = Mutex::new(Outcome::default());
-    let work = || loop {
-        let from = next.fetch_add(share, Ordering::Relaxed);
-        if from >= row.len {
-            break;
-        }
-        for place in from..row.len.min(from + share) {
-            if let Some(difference) = difference(row, &(row.probe)(place)) {
-                let mut outcome = outcome.lock().expect("no thread panics");
-                outcome.differences += 1;
-                if outcome.shown.len() < SHOWN {
-                    outcome.shown.push(difference);
-                }
+pub fn run(rows: &[Row], progress: &Progress) -> Vec<Outcome> {
+    let outcomes: Vec<Mutex<Outcome>> = rows.iter().map(|_| Mutex::default()).collect();
+    let longest = rows.iter().map(|row| row.len).max().unwrap_or_default();
+    let parts = (longest / SHARE).max(cores() as u64 * 64);
+    let of_each = rows.len() as u64;
+    let work = |(): &mut (), part: u64| {
+        let (row, part) = ((part % of_each) as usize, part / of_each);
+        let (outcome, row) = (&outcomes[row], &rows[row]);
+        let (from, to) = (row.len * part / parts, row.len * (part + 1) / parts);
+        for place in from..to {
+            if let Some(text) = difference(row, &(row.probe)(place)) {
+                outcome.lock().expect("no thread panics").add(place, text);
             }
         }
+        progress.add(to - from);
     };
-    thread::scope(|scope| {
-        for _ in 0..threads {
-            scope.spawn(work);
-        }
-    });
-    outcome.into_inner().expect("no thread panics")
+    split(cores(), parts * of_each, || (), work);
+    outcomes.into_iter().map(|outcome| outcome.into_inner().expect("no thread panics")).collect()
 }
 
-fn difference(row: &Row, probe: &Probe) -> Option<String> {
+/// What the two sides say, if it is not the same.
+#[must_use]
+pub fn difference(row: &Row, probe: &Probe) -> Option<String> {
     let slice = GUARD..GUARD + probe.len;
     let mut got: Lent = [probe.fill; GUARD + LONGEST + GUARD];
     let mut expected = got;
@@ -84,4 +96,45 @@ fn told(probe: &Probe, expected: (u8, &Lent), got: (u8, &Lent)) -> String {
 #[must_use]
 pub fn hex(bytes: &[u8]) -> String {
     bytes.iter().map(|byte| format!("{byte:02x}")).collect()
+}
+
+#[cfg(test)]
+mod tests {
+    use super::{difference, run};
+    use crate::original;
+    use crate::progress::Progress;
+    use crate::rows::{Probe, Row};
+    use mako_fristen_host::{Answer, Call, Date, Question};
+
+    /// 2 April 2026 and the place's Werktage.
+    fn row(expected: fn(&Question) -> Answer) -> Row {
+        let question = |n| Question::on(Call::AddWerktage, Date::new(2026, 4, 2)).with_count(n);
+        let probe =
+            move |place| Probe { question: question(place as u32), len: Answer::LEN, fill: 0 };
+        Row { call: Call::AddWerktage, what: "", len: 100, probe: Box::new(probe), expected }
+    }
+
+    #[test]
+    fn every_probe_of_every_row_is_compared() {
+        let rows = [row(original::expected), row(|_| Answer::default()), row(original::expected)];
+        let progress = Progress::new(300);
+        let outcomes = run(&rows, &progress);
+        let differences: Vec<u64> = outcomes.iter().map(|outcome| outcome.differences).collect();
+        assert_eq!(differences, [0, 100, 0]);
+        let places: Vec<u64> = outcomes[1].shown.iter().map(|shown| shown.place).collect();
+        assert_eq!(places, [0, 1, 2, 3, 4]);
+    }
+
+    #[test]
+    fn one_wrong_byte_is_a_difference() {
+        let off_by_a_day = |question: &Question| {
+            let answer = original::expected(question);
+            let Date { year, month, day } = answer.date();
+            answer.with_date(Date::new(year, month, day + 1))
+        };
+        let row = row(off_by_a_day);
+        let text = difference(&row, &(row.probe)(1)).expect("a difference");
+        assert!(text.starts_with("mf_add_werktage(2026-04-02, 1) with 32 bytes"), "{text}");
+        assert!(text.contains("ea070408") && text.contains("ea070407"), "{text}");
+    }
 }

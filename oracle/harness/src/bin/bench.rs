@@ -2,7 +2,7 @@
 //! the two take turns. Ours is the C call with its answer of 32 bytes.
 
 use harness::random::Random;
-use harness::{days, instants};
+use harness::{days, instants, options};
 use mako_fristen::abmeldung::AbmeldungVorlauf;
 use mako_fristen::antwort::FristShape;
 use mako_fristen::vorlauf::{self, VorlaufShape};
@@ -372,7 +372,33 @@ fn measured(case: &Case) -> [f64; 2] {
     times.map(|times| median(times) / case.inputs.len() as f64)
 }
 
+/// The least that a call with an answer does: it tests the length and fills 32 bytes.
+#[inline(never)]
+fn fill(_reason: &[u8], eeg: u8, answer: &mut [u8]) -> u8 {
+    if answer.len() != Answer::LEN {
+        return 1;
+    }
+    answer.fill(0);
+    answer[1] = eeg;
+    0
+}
+
+/// Nanoseconds of such a call, which no call of ours can fall below.
+fn floor() -> f64 {
+    const CALLS: u32 = 4000;
+    let pass = || {
+        let mut answer = [0; Answer::LEN];
+        for _ in 0..CALLS {
+            black_box(fill(black_box(b"Z33"), black_box(0), black_box(&mut answer)));
+        }
+    };
+    let passes = passes_of(&pass);
+    median((0..ROUNDS).map(|_| time_of(&pass, passes)).collect()) / f64::from(CALLS)
+}
+
 fn main() {
+    options::only(&["--only"]);
+    let only: String = options::option("--only", String::new());
     println!("Nanoseconds per call, median of {ROUNDS} rounds; a ratio over 1 is in our favour.");
     println!(
         "Ours checks its numbers and writes 32 bytes; the original has its dates made before."
@@ -387,9 +413,13 @@ fn main() {
     );
     println!("{:36} {:16} {:>12} {:>12} {:>8}", "call", "", "ours", "original", "ratio");
     for case in cases() {
-        let [ours, original] = measured(&case);
         let (name, what) = (case.inputs[0].question.call.name(), &case.what);
+        if !format!("{name} {what}").contains(&only) {
+            continue;
+        }
+        let [ours, original] = measured(&case);
         let ratio = original / ours;
         println!("{name:36} {what:16} {ours:12.1} {original:12.1} {ratio:8.2}");
     }
+    println!("{:53} {:12.1}", "a call that only fills 32 bytes", floor());
 }

@@ -2,8 +2,10 @@
 //! Ends with 1 on any difference. Options: `--seed N`, `--random N` (millions).
 
 use harness::options::{self, DEFAULT_SEED};
-use harness::{original, rows, run, zone};
+use harness::progress::Progress;
+use harness::{original, rows, run};
 use std::process::ExitCode;
+use std::slice;
 
 const DEFAULT_MILLIONS: f64 = 2.0;
 
@@ -14,22 +16,17 @@ fn main() -> ExitCode {
     original::silence();
     println!("seed {seed}, {millions} million random questions");
     let mut rows = rows::rows(seed, (millions * 1e6) as u64);
-    match zone::open() {
-        Some(database) => {
-            println!("tz database {database}");
-            rows.extend(rows::zone::rows());
-        }
-        None => println!("no tz database {}: Berlin is NOT compared with it", zone::FILE),
-    }
+    rows.extend(rows::zone::opened());
     println!("{:36} {:32} {:>12} {:>12}", "call", "arguments", "comparisons", "differences");
     let (mut comparisons, mut differences) = (0, 0);
     for row in &rows {
-        let outcome = run::run(row);
         let (call, what, len) = (row.call.name(), row.what, row.len);
-        println!("{call:36} {what:32} {len:12} {:12}", outcome.differences);
-        outcome.shown.iter().for_each(|difference| println!("  {difference}"));
-        comparisons += row.len;
-        differences += outcome.differences;
+        for outcome in run::run(slice::from_ref(row), &Progress::new(len)) {
+            println!("{call:36} {what:32} {len:12} {:12}", outcome.differences);
+            outcome.shown.iter().for_each(|difference| println!("  {}", difference.text));
+            differences += outcome.differences;
+        }
+        comparisons += len;
     }
     println!("{comparisons} comparisons in {} rows, {differences} differences", rows.len());
     ExitCode::from(u8::from(differences != 0))

@@ -41,21 +41,25 @@ pub fn rows(seed: u64, random: u64) -> Vec<Row> {
     ]
 }
 
-fn any_case(call: Call, random: &mut Random) -> Question {
+pub(super) fn any_case(call: Call, random: &mut Random) -> Question {
     Question::new(call).with_reason(any_reason(random)).with_code(any_eeg(random).code())
 }
 
-/// One reason in two is an ordinary one. The anchor is by where the verdict of a shape changes.
 fn any_check(call: Call, random: &mut Random) -> Question {
-    let shapes = [VorlaufShape::TagVorDemLetztenWerktagVor, VorlaufShape::LatestMonateBefore(1)];
     let date = days::date(kalender::any_index(random));
-    let span = Question::on(Call::VorlaufSpan, date).with_shape(random.one_of(&shapes));
+    check_on(Question::on(call, date), random)
+}
+
+/// One reason in two is an ordinary one. The anchor is by where the verdict of a shape changes.
+pub(super) fn check_on(question: Question, random: &mut Random) -> Question {
+    let shapes = [VorlaufShape::TagVorDemLetztenWerktagVor, VorlaufShape::LatestMonateBefore(1)];
+    let span = Question::on(Call::VorlaufSpan, question.date).with_shape(random.one_of(&shapes));
     let anchor = days::date(vorlauf::any_anchor(&span, random));
     let reason = match random.below(2) {
         0 => of_bytes(b"Z33"),
         _ => any_reason(random),
     };
-    let question = Question::on(call, date).with_second(anchor);
+    let question = question.with_second(anchor);
     question.with_reason(reason).with_code(any_eeg(random).code())
 }
 
@@ -63,7 +67,7 @@ fn any_eeg(random: &mut Random) -> Eeg {
     random.one_of(&Eeg::ALL)
 }
 
-fn any_reason(random: &mut Random) -> Reason {
+pub(super) fn any_reason(random: &mut Random) -> Reason {
     let mut bytes = [0; Reason::LONGEST];
     bytes.fill_with(|| random.number() as u8);
     let len = random.below(bytes.len() as u32 + 1) as usize;

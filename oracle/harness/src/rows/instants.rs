@@ -1,6 +1,6 @@
 //! The calls that take an instant: the days of instants, and due instants.
 
-use super::{corners, kalender, uhr, vorlauf, Row};
+use super::{corners, far, kalender, uhr, vorlauf, Row};
 use crate::days::{self, DAYS};
 use crate::instants::{self, moved, SWITCHES, TOLERANCE_ENDS};
 use crate::original;
@@ -34,7 +34,7 @@ fn of_call(call: Call, seed: u64, random: u64) -> Vec<Row> {
         row("random, any instant", random / 10, any_question),
     ];
     if call.takes(Parameter::Count) && call != Call::AddHours {
-        rows.push(row("random, any count", FAR, any_count));
+        rows.push(row("random, any count", far(FAR, random), any_count));
         let uncapped = row("random, any count, uncapped", UNCAPPED, any_count);
         rows.push(Row { expected: original::expected_uncapped, ..uncapped });
     }
@@ -124,9 +124,14 @@ fn by_the_tolerance(call: Call, random: &mut Random) -> Question {
     filled(call, instant, random)
 }
 
-/// A beginning of a day in its Sparte; one in three is off by an hour, a second or a nanosecond.
 fn beginning(call: Call, random: &mut Random) -> Question {
-    let (day, code) = (days::day(kalender::any_index(random)), random.below(2) as u8);
+    let index = kalender::any_index(random);
+    beginning_of(index, call, random)
+}
+
+/// The beginning of the day in a Sparte; one in three is off by an hour, a second or a nanosecond.
+pub(super) fn beginning_of(index: u32, call: Call, random: &mut Random) -> Question {
+    let (day, code) = (days::day(index), random.below(2) as u8);
     let at = time::Time::from_hms(code * 6, 0, 0).expect("a clock time");
     let beginning = instants::to_host(mako_fristen::berlin_at(day, at));
     let off = random.one_of(&[0, 0, 0, 0, 0, 0, 0, 0, -HOUR, HOUR, -SECOND, 1]);
@@ -152,7 +157,7 @@ fn any_count(call: Call, random: &mut Random) -> Question {
 }
 
 /// An instant; half of them lie by an edge, a switch or the tolerance.
-fn any_instant(random: &mut Random) -> Instant {
+pub(super) fn any_instant(random: &mut Random) -> Instant {
     let instant = match random.below(8) {
         0 => moved(Instant::FIRST, spread(random, 300 * 24 * HOUR)),
         1 => moved(Instant::LAST, -spread(random, 300 * 24 * HOUR)),
@@ -179,7 +184,7 @@ fn within(instant: Instant, bound: i64, random: &mut Random) -> Instant {
 }
 
 /// The call at the instant, with all other arguments at random.
-fn filled(call: Call, instant: Instant, random: &mut Random) -> Question {
+pub(super) fn filled(call: Call, instant: Instant, random: &mut Random) -> Question {
     match call {
         Call::VorlaufCheckAt => return vorlauf::at_an_instant(instant, random),
         Call::EogAnkuendigungFristgerecht => return vorlauf::announced_at(instant, random),

@@ -1,6 +1,6 @@
 //! The calendar steps and counts.
 
-use super::Row;
+use super::{far, Row};
 use crate::days::{self, DAYS};
 use crate::original;
 use crate::random::Random;
@@ -36,12 +36,13 @@ fn every_date() -> Vec<Row> {
 fn random_steps(seed: u64, random: u64) -> Vec<Row> {
     const FAR: u64 = 160;
     const UNCAPPED: u64 = 6;
+    let far = far(FAR, random);
     let mut rows = Vec::new();
     for call in [Call::AddWerktage, Call::SubWerktage] {
         let row = |what, len, question| Row::random(call, what, len, seed, question);
         rows.push(row("random, small counts", random / 4, small_count));
         rows.push(row("random near the edge, any count", random / 20, any_count_near_the_edge));
-        rows.push(row("random, any count", FAR, any_count));
+        rows.push(row("random, any count", far, any_count));
         rows.push(Row {
             expected: original::expected_uncapped,
             ..row("random, any count, uncapped", UNCAPPED, any_count)
@@ -55,7 +56,7 @@ fn random_steps(seed: u64, random: u64) -> Vec<Row> {
     }
     let between = Call::WerktageBetween;
     rows.push(Row::random(between, "random, within a year", random / 5, seed, pair_within_a_year));
-    rows.push(Row::random(between, "random, any two dates", FAR, seed, any_pair));
+    rows.push(Row::random(between, "random, any two dates", far, seed, any_pair));
     rows
 }
 
@@ -84,7 +85,7 @@ fn small_count(call: Call, random: &mut Random) -> Question {
 }
 
 /// The holidays on weekdays.
-static HOLIDAYS: LazyLock<Vec<u32>> = LazyLock::new(|| {
+pub(super) static HOLIDAYS: LazyLock<Vec<u32>> = LazyLock::new(|| {
     let closed_weekday = |&index: &u32| {
         let day = days::day(index);
         !matches!(day.weekday(), Saturday | Sunday) && !mako_fristen::is_werktag(day, BdewMaKo)
@@ -116,7 +117,7 @@ fn any_count_near_the_edge(call: Call, random: &mut Random) -> Question {
 }
 
 /// Half of the counts lie within the calendar's 10,848 months.
-fn any_months(call: Call, random: &mut Random) -> Question {
+pub(super) fn any_months(call: Call, random: &mut Random) -> Question {
     let n = if random.below(2) == 0 { random.below(10_850) } else { large_count(random) };
     Question::on(call, days::date(any_index(random))).with_count(n)
 }

@@ -1,6 +1,6 @@
 //! Verdicts and spans of a shape, and the 13:00 announcement.
 
-use super::{kalender, Row};
+use super::{far, kalender, Row};
 use crate::days::{self, DAYS};
 use crate::instants::{given, moved, to_host};
 use crate::original;
@@ -23,7 +23,7 @@ pub fn rows(seed: u64, random: u64) -> Vec<Row> {
         rows.push(every_date(call, shapes, seed));
         rows.push(row(call, "random, by the ends of spans", random / 10, any_question));
         rows.push(row(call, "random near the edge, any count", random / 20, any_count_by_an_edge));
-        rows.push(row(call, "random, any dates and counts", FAR, any_count));
+        rows.push(row(call, "random, any dates and counts", far(FAR, random), any_count));
         let uncapped = row(call, "random, any count, uncapped", UNCAPPED, any_count);
         rows.push(Row { expected: original::expected_uncapped, ..uncapped });
     }
@@ -70,7 +70,7 @@ fn any_count(call: Call, random: &mut Random) -> Question {
 }
 
 /// By the edge to which the shape steps first, so that neither side walks far.
-fn any_count_by_an_edge(call: Call, random: &mut Random) -> Question {
+pub(super) fn any_count_by_an_edge(call: Call, random: &mut Random) -> Question {
     const LATEST_AFTER: u8 = 2;
     const EARLIEST_AFTER: u8 = 3;
     const KORRIDOR: u8 = 4;
@@ -101,7 +101,7 @@ fn any_count_by_an_edge(call: Call, random: &mut Random) -> Question {
 /// The question with a shape: Werktage from 0 to 70 and for a window up to twice as many, months
 /// from 0 to 40 and some as far as the calendar goes and further. What the shape does not have is
 /// anything.
-fn any_shape(question: Question, random: &mut Random) -> Question {
+pub(super) fn any_shape(question: Question, random: &mut Random) -> Question {
     let code = random.below(VorlaufShape::CODES.into()) as u8;
     let count = werktage(random);
     let months = match random.below(8) {
@@ -132,7 +132,7 @@ fn werktage(random: &mut Random) -> u32 {
 }
 
 /// With an anchor, where the call takes one.
-fn anchored(question: Question, random: &mut Random) -> Question {
+pub(super) fn anchored(question: Question, random: &mut Random) -> Question {
     if question.call.takes(Parameter::SecondDate) {
         with_anchor(question, any_anchor(&question, random))
     } else {

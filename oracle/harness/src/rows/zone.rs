@@ -8,8 +8,22 @@ use mako_fristen_host::{Call, Clock, Date, Instant, Question};
 /// The last day of the database's own table.
 const LAST_OF_TABLE: Date = Date::new(2037, 12, 31);
 
+/// Opens the database, says which it is, and gives its rows; none if there is no database.
 #[must_use]
-pub fn rows() -> Vec<Row> {
+pub fn opened() -> Vec<Row> {
+    match zone::open() {
+        Some(database) => {
+            println!("tz database {database}");
+            rows()
+        }
+        None => {
+            println!("no tz database {}: Berlin is NOT compared with it", zone::FILE);
+            Vec::new()
+        }
+    }
+}
+
+fn rows() -> Vec<Row> {
     let by_every_switch = "tz database: by every switch";
     let rows = vec![
         hours("tz database: every hour to 2037", table_days(), 1),

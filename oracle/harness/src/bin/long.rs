@@ -1,0 +1,74 @@
+//! The comparison at scale: every row of `compare`, with more random questions, and for every call
+//! arguments of every kind. Prints a table of the calls; ends with 1 on any difference, and says
+//! how to repeat it. Options: `--seed N`, `--millions N` (random questions), and to put one question
+//! again, `--row N --place N`.
+
+use harness::options::{self, DEFAULT_SEED};
+use harness::original;
+use harness::progress::{span, Progress};
+use harness::rows::{self, Row};
+use harness::run::{self, Difference, Outcome};
+use mako_fristen_host::Call;
+use std::process::ExitCode;
+use std::time::Instant;
+
+const DEFAULT_MILLIONS: f64 = 250.0;
+
+fn main() -> ExitCode {
+    original::silence();
+    options::only(&["--seed", "--millions", "--row", "--place"]);
+    let (seed, millions) =
+        (options::option("--seed", DEFAULT_SEED), options::option("--millions", DEFAULT_MILLIONS));
+    println!("seed {seed}, about {millions} million random questions");
+    let mut rows = rows::long(seed, (millions * 1e6) as u64);
+    rows.extend(rows::zone::opened());
+    if let Some(row) = options::given("--row") {
+        return put_again(&rows, row, options::option("--place", 0));
+    }
+    let started = Instant::now();
+    let progress = Progress::new(rows.iter().map(|row| row.len).sum());
+    let outcomes = progress.shown(|| run::run(&rows, &progress));
+    let differences = table(&rows, &outcomes);
+    for (number, (row, outcome)) in rows.iter().zip(&outcomes).enumerate() {
+        for Difference { place, text } in &outcome.shown {
+            println!("{}, {}: {text}", row.call.name(), row.what);
+            let of_run = format!("--seed {seed} --millions {millions}");
+            println!("    again    oracle/long {of_run} --row {number} --place {place}");
+        }
+    }
+    println!("{} rows in {}", rows.len(), span(started.elapsed()));
+    ExitCode::from(u8::from(differences != 0))
+}
+
+/// Prints comparisons and differences of every call, and gives the sum of the latter.
+fn table(rows: &[Row], outcomes: &[Outcome]) -> u64 {
+    println!("{:36} {:>12} {:>12}", "call", "comparisons", "differences");
+    let (mut comparisons, mut differences) = (0, 0);
+    for call in Call::ALL {
+        let of_call = || rows.iter().zip(outcomes).filter(|(row, _)| row.call == call);
+        let compared: u64 = of_call().map(|(row, _)| row.len).sum();
+        let differing: u64 = of_call().map(|(_, outcome)| outcome.differences).sum();
+        println!("{:36} {compared:12} {differing:12}", call.name());
+        comparisons += compared;
+        differences += differing;
+    }
+    println!("{:36} {comparisons:12} {differences:12}", "sum");
+    differences
+}
+
+fn put_again(rows: &[Row], row: usize, place: u64) -> ExitCode {
+    let Some(row) = rows.get(row).filter(|row| place < row.len) else {
+        options::stop("there is no such row or place");
+    };
+    let probe = (row.probe)(place);
+    match run::difference(row, &probe) {
+        Some(text) => {
+            println!("{text}");
+            ExitCode::FAILURE
+        }
+        None => {
+            println!("{} with {} bytes: no difference", probe.question, probe.len);
+            ExitCode::SUCCESS
+        }
+    }
+}

@@ -1,0 +1,209 @@
+//! Any numbers and bytes for the host calls, with slices that show every byte written or read
+//! outside of them.
+
+mod area;
+mod case;
+mod system;
+
+pub use area::Place;
+pub use case::Case;
+pub use system::{on_valgrind, tell_of_crashes};
+
+use area::{Area, Lent};
+use case::Round;
+use mako_fristen_host::{ffi, Answer, Call, Question, Refusal};
+use std::time::{Duration, Instant};
+use system::Mark;
+
+/// A call that takes longer, each of several times, is wrong: a walk over the whole calendar takes a
+/// tenth of it. Once is no sign, since a thread may have to wait for a core.
+const LONGEST_TIME: Duration = Duration::from_millis(300);
+const SLOWER_ON_VALGRIND: u32 = 50;
+const TIMES: usize = 3;
+const SHOWN: usize = 5;
+
+/// Puts a question with a reason of any length and a lent answer; returns the number.
+pub type Ask = fn(&Question, &[u8], &mut [u8]) -> u8;
+
+/// The host calls.
+#[must_use]
+pub fn host_calls(question: &Question, reason: &[u8], answer: &mut [u8]) -> u8 {
+    let Question { call, code, date, date2, .. } = *question;
+    match call {
+        Call::AbmeldungFuer => ffi::mf_abmeldung_fuer(reason, code, answer),
+        Call::AbmeldungCheck => ffi::mf_abmeldung_check(
+            reason,
+            code,
+            date.year,
+            date.month,
+            date.day,
+            date2.year,
+            date2.month,
+            date2.day,
+            answer,
+        ),
+        _ => question.ask(answer),
+    }
+}
+
+/// What has been found.
+#[derive(Default)]
+pub struct Found {
+    pub calls: u64,
+    /// How many calls had an answer of 32 bytes that the original gave as well.
+    pub told: u64,
+    pub wrong: u64,
+    /// The first few, in full.
+    pub shown: Vec<String>,
+    pub slowest: Duration,
+    /// The question that took longest.
+    pub slowest_question: String,
+}
+
+impl Found {
+    #[must_use]
+    pub fn and(mut self, other: Found) -> Found {
+        if other.slowest > self.slowest {
+            self.slowest = other.slowest;
+            self.slowest_question = other.slowest_question;
+        }
+        self.calls += other.calls;
+        self.told += other.told;
+        self.wrong += other.wrong;
+        self.shown.extend(other.shown);
+        self.shown.truncate(SHOWN);
+        self
+    }
+}
+
+/// Puts cases and checks what comes back.
+pub struct Fuzzer {
+    ask: Ask,
+    answers: Area,
+    reasons: Area,
+    pub found: Found,
+}
+
+impl Fuzzer {
+    #[must_use]
+    pub fn new(ask: Ask) -> Fuzzer {
+        let (answers, reasons, found) = (Area::default(), Area::default(), Found::default());
+        Fuzzer { ask, answers, reasons, found }
+    }
+
+    /// Puts the case at every place, with an answer of 32 bytes and one of another length.
+    pub fn put(&mut self, case: &Case, seed: u64, place: u64) {
+        system::at_place(place);
+        let errors = system::valgrind_errors();
+        let mut first = None;
+        for round in &case.rounds {
+            self.found.calls += 1;
+            let (fault, answer) = self.round(case, round, first);
+            first = first.or(answer);
+            if let Some(fault) = fault {
+                self.wrong(case, &fault, seed, place);
+            }
+        }
+        if system::valgrind_errors() != errors {
+            self.wrong(case, "valgrind reported an error", seed, place);
+        }
+    }
+
+    fn wrong(&mut self, case: &Case, fault: &str, seed: u64, place: u64) {
+        self.found.wrong += 1;
+        if self.found.shown.len() < SHOWN {
+            let again = format!("oracle/fuzz --seed {seed} --place {place}");
+            self.found.shown.push(format!("{case}: {fault}\n    again    {again}"));
+        }
+    }
+
+    /// One call; what is wrong with it, and its answer of 32 bytes.
+    fn round(
+        &mut self,
+        case: &Case,
+        round: &Round,
+        first: Option<Answer>,
+    ) -> (Option<String>, Option<Answer>) {
+        let mut answer = self.answers.lend(round.place, &round.content, round.guard);
+        let mut reason = self.reasons.lend(round.reason_place, &case.reason, round.guard);
+        let whole = round.content.len() == Answer::LEN;
+        answer.mark(if whole { Mark::Undefined } else { Mark::NoAccess });
+        let started = Instant::now();
+        let number = (self.ask)(&case.question, reason.slice(), answer.slice());
+        let took = started.elapsed();
+        if !whole {
+            answer.mark(Mark::Defined);
+        }
+        let beside = beside(&answer, &mut reason, &case.reason);
+        let (fault, given) = match <[u8; Answer::LEN]>::try_from(&*answer.slice()) {
+            Ok(bytes) if whole => {
+                let given = Answer::from_bytes(bytes);
+                self.found.told += u64::from(case.expected.is_some());
+                (answer_fault(number, given, case.expected.or(first)), Some(given))
+            }
+            _ => (length_fault(number, answer.slice() == round.content), None),
+        };
+        let late = self.late(case, took);
+        let fault = fault.or(beside.map(String::from)).or(late);
+        (fault.map(|fault| format!("{fault} ({round})")), given)
+    }
+
+    /// Keeps the slowest call; one that seems slower is put again, and its least time counts.
+    fn late(&mut self, case: &Case, took: Duration) -> Option<String> {
+        if took <= self.found.slowest {
+            return None;
+        }
+        let again = (0..TIMES).map(|_| {
+            let started = Instant::now();
+            let _ = (self.ask)(&case.question, &case.reason, &mut [0; Answer::LEN]);
+            started.elapsed()
+        });
+        let least = again.fold(took, Duration::min);
+        if least > self.found.slowest {
+            self.found.slowest = least;
+            self.found.slowest_question = case.question.to_string();
+        }
+        let slower = if on_valgrind() { SLOWER_ON_VALGRIND } else { 1 };
+        (least > LONGEST_TIME * slower).then(|| format!("it takes {least:?}"))
+    }
+}
+
+/// What is wrong with an answer of 32 bytes.
+fn answer_fault(number: u8, given: Answer, expected: Option<Answer>) -> Option<String> {
+    let bytes = given.as_bytes();
+    let refused = number != 0;
+    let zero = if refused { [&bytes[1..4], &bytes[4..]] } else { [&bytes[2..4], &bytes[28..]] };
+    if number != given.number() {
+        Some(format!("{number} returned, but byte 0 is {}", given.number()))
+    } else if refused && !(Refusal::UnknownCode.number()..=8).contains(&number) {
+        Some(format!("refused with {number}"))
+    } else if zero.into_iter().flatten().any(|&byte| byte != 0) {
+        Some(format!("bytes that have to be zero are not: {given:x}"))
+    } else {
+        let other = expected.filter(|&expected| expected != given);
+        other.map(|expected| format!("expected {expected:x}, got {given:x}"))
+    }
+}
+
+/// What is wrong with an answer of another length.
+fn length_fault(number: u8, untouched: bool) -> Option<String> {
+    if number != Refusal::AnswerLength.number() {
+        Some(format!("{number} returned for an answer of another length"))
+    } else {
+        (!untouched).then(|| String::from("an answer of another length was written"))
+    }
+}
+
+/// What is wrong beside the answer.
+fn beside(answer: &Lent, reason: &mut Lent, content: &[u8]) -> Option<&'static str> {
+    if !answer.is_intact() {
+        Some("bytes beside the answer were written")
+    } else if !reason.is_intact() || reason.slice() != content {
+        Some("the reason or bytes beside it were written")
+    } else {
+        None
+    }
+}
+
+#[cfg(test)]
+mod tests;
