@@ -245,6 +245,8 @@ fn a_call_of_no_command() {
     for (line, expected) in wrong {
         assert!(complaint(&words(line)).contains(expected), "{line}");
     }
+    let expected = complaint(&["gestern"]);
+    assert!(expected.contains("\n  Kalender: tag, next-werktag, add-werktage, "), "{expected}");
     for (call, name) in source_names() {
         assert!(!help.contains(call.name()), "{name}");
     }

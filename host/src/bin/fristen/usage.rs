@@ -1,4 +1,4 @@
-use crate::command::{Command, PROGRAM};
+use crate::command::{Command, GROUPS, PROGRAM};
 use std::ffi::OsStr;
 
 /// A call that the program cannot make sense of.
@@ -26,9 +26,20 @@ impl Usage {
                 command.usage(),
                 command.name
             ),
-            None => format!("fristen: {message}\nMehr: {PROGRAM} --help\n"),
+            None => {
+                format!("fristen: {message}\nBefehle:\n{}Mehr: {PROGRAM} --help\n", commands())
+            }
         }
     }
+}
+
+/// The names of all, a line for each heading.
+fn commands() -> String {
+    let line = |(heading, commands): &(&str, &[Command])| {
+        let names: Vec<_> = commands.iter().map(|command| command.name).collect();
+        format!("  {heading}: {}\n", names.join(", "))
+    };
+    GROUPS.iter().map(line).collect()
 }
 
 /// In German quotation marks, with nothing in it that would steer a terminal.
