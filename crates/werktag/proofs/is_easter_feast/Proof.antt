@@ -19,13 +19,13 @@ cast-is-offset-2 : tie.Need-cast-is-offset-2
 cast-is-offset-2 c = search needs
 
 sub-is-offset : tie.Need-sub-is-offset
-sub-is-offset c = search (needs, distance-fits, feast)
+sub-is-offset c = search (needs, distance-fits)
 
 is-offset-requires : tie.Need-is-offset-requires
 is-offset-requires c κs = search needs
 
 returns : tie.Need-returns
-returns c = search (needs, distance-fits, feast)
+returns c = search (needs, feast)
 
 pub is-easter-feast-spec : {M : Type 1} → statement M
 is-easter-feast-spec =
