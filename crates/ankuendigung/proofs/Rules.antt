@@ -1,8 +1,8 @@
 -- What the proofs of this crate's functions cite: a lemma for each return, with premises in the form in which they stand there.
 -- Assumes nothing.
 use Prim.Native.Nat.{ℕ, _≤_, _<_}
-use mathlib.Core.Bool.{Bool, true, false, not, _&&_}
-use mathlib.Core.Path.{_≡_, refl, sym, _∙_}
+use mathlib.Core.Bool.{Bool, true, false, not}
+use mathlib.Core.Path.{_≡_, sym, _∙_}
 use native.Mathlib.Omega.{arith}
 use borrow.Author.Tests.{eq-eqb, ne-eqb, not-true, not-false}
 use Rattle.zaehlung.specs.declared.Step.{Step}
@@ -10,10 +10,9 @@ use Rattle.zaehlung.specs.declared.Step.the-variants.{Day, Outside as Left}
 use Rattle.zaehlung.specs.Walk.{last, sub}
 use Rattle.zaehlung.specs.Laws.{sub-inside}
 use Rattle.berlin.specs.declared.Moment.{Moment}
-use Rattle.berlin.specs.declared.Clock.{Clock}
 use Rattle.berlin.specs.declared.Resolved.{Resolved}
 use Rattle.berlin.specs.declared.Resolved.the-variants.{At, Absent}
-use Rattle.berlin.specs.Berlin.{Proper, ProperClock, secondsOf, berlinDay, berlinAt, berlinMidnight}
+use Rattle.berlin.specs.Berlin.{ProperClock, secondsOf, berlinDay, berlinAt, berlinMidnight}
 use Rattle.berlin.proofs.Proper.{at-proper, midnight-proper}
 use Rattle.fristen.specs.Fristen.{before, oClock}
 use Rattle.ankuendigung.specs.declared.Fristgerecht.the-variants.{Nein, Ja, Weder, Outside}

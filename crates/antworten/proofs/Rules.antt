@@ -11,7 +11,7 @@ use mir.Val.{SFits}
 use mir.Facts.{toZ-ofZ}
 use Rattle.zaehlung.specs.declared.Step.{Step}
 use Rattle.zaehlung.specs.declared.Step.the-variants.{Day, Outside}
-use Rattle.zaehlung.specs.Walk.{bit, last, add, sub, next, between}
+use Rattle.zaehlung.specs.Walk.{bit, last, add, sub, next}
 use Rattle.zaehlung.specs.Laws.{add-inside, sub-inside, next-inside}
 use Rattle.datum.specs.declared.Date.{Date}
 use Rattle.datum.specs.declared.Index.{Index}
@@ -36,7 +36,6 @@ use Rattle.berlin.specs.declared.Sparte.the-variants.{Strom, Gas}
 use Rattle.berlin.specs.Berlin.{Proper, ProperClock, secondsOf, readInstant, readClock, berlinAt, berlinMidnight, endOfDayBerlin, tagesbeginnUtc, tagDesBeginns}
 use Rattle.berlin.proofs.Proper.{read-proper, clock-proper as read-clock-proper, at-proper, midnight-proper, end-proper, begin-proper, beginn-le}
 use Rattle.datum.proofs.Signed.{back, back-pos}
-use Rattle.werktag.specs.declared.HolidayCalendar.{HolidayCalendar}
 use Rattle.werktag.specs.declared.HolidayCalendar.the-variants.{BdewMaKo}
 use Rattle.werktag.specs.Werktag.{werktag}
 use Rattle.antwortsatz.specs.declared.Answer.{Answer}

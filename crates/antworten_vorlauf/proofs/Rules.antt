@@ -2,18 +2,15 @@
 -- there.
 -- Assumes nothing.
 use Prim.Native.Nat.{ℕ, suc, _-_, _≤_, _<_}
-use mathlib.Core.Bool.{Bool, true}
-use mathlib.Core.List.{List}
-use mathlib.Core.Path.{_≡_, refl, sym, ap, _∙_}
+use mathlib.Core.Bool.{Bool}
+use mathlib.Core.Path.{_≡_, sym, ap, _∙_}
 use native.Mathlib.Omega.{arith}
 use Rattle.zaehlung.specs.Walk.{last}
 use Rattle.datum.specs.declared.Date.{Date}
 use Rattle.datum.specs.declared.Shifted.{Shifted}
 use Rattle.datum.specs.declared.Shifted.the-variants.{On, Outside as Gone}
-use Rattle.datum.specs.Calendar.{valid, daysBefore, indexOf, dateOf}
+use Rattle.datum.specs.Calendar.{daysBefore, dateOf}
 use Rattle.datum.proofs.Dates.{valid-is, date-index}
-use Rattle.werktag.specs.declared.HolidayCalendar.the-variants.{BdewMaKo}
-use Rattle.werktag.specs.Werktag.{werktag}
 use Rattle.berlin.specs.declared.Moment.{Moment}
 use Rattle.berlin.specs.declared.Beginn.{Beginn}
 use Rattle.berlin.specs.declared.Beginn.the-variants.{Day as Begins, NoBeginning}
@@ -35,7 +32,7 @@ use Rattle.vorlauf.specs.declared.abmeldung.AbmeldungVerdict.the-variants.{Verd
 use Rattle.vorlauf.specs.Verdict.{checkOf, insideVerdict}
 use Rattle.vorlauf.specs.Monate.{isDate, toStep, M}
 use Rattle.vorlauf.specs.Span.{from, spanOf, insideSpan}
-use Rattle.vorlauf.specs.Abmeldung.{fuerOf, abmeldungOf, insideAbmeldung}
+use Rattle.vorlauf.specs.Abmeldung.{abmeldungOf, insideAbmeldung}
 use Rattle.ankuendigung.specs.declared.Fristgerecht.{Fristgerecht}
 use Rattle.ankuendigung.specs.declared.Fristgerecht.the-variants.{Nein as No, Ja as Yes, Weder as Neither, Outside as NoWerktag}
 use Rattle.antwortsatz.specs.declared.Answer.{Answer}
@@ -45,7 +42,6 @@ use Rattle.antworten_vorlauf.specs.declared.ShapeCode.the-variants.{Know
 use Rattle.antworten_vorlauf.specs.declared.EegCode.{EegCode}
 use Rattle.antworten_vorlauf.specs.declared.EegCode.the-variants.{Known as Marked, Unknown as Unmarked}
 use Rattle.antworten_vorlauf.specs.Vorlauf.{shapeAt, onVorlauf, eegOf, onEeg, verdict, abmeldung, spanned, caseCode, announced, onBeginn}
-use Rattle.antworten.specs.Reading.{onDate}
 use Rattle.antworten.proofs.Rules.{date-refused, date-taken, day-inside, date-none, date-given, date-valid, instant-refused, instant-taken, instant-proper, sparte-refused, sparte-taken}
 
 -- shape_at, eeg_of: codes one by one

@@ -1,17 +1,16 @@
 -- What the proofs of the month shifts cite: signed numbers and the calendar's months.
 --   InRange      a month's number whose year lies in the calendar: it is a natural number
 -- Assumes nothing.
-use Prim.Native.Nat.{ℕ, zero, suc, _+_, _-_, _*_, _/_, _%_, _^_, _≤_, _<_, min}
-use mathlib.Core.Bool.{Bool, true, false, _&&_}
-use mathlib.Core.Path.{_≡_, refl, sym, ap, _∙_, subst}
+use Prim.Native.Nat.{ℕ, _+_, _-_, _/_, _%_, _^_, _≤_, _<_, min}
+use mathlib.Core.Bool.{Bool, true, false}
+use mathlib.Core.Path.{_≡_, refl}
 use native.Mathlib.Omega.{arith}
-use native.Mathlib.Decide.{decLe}
-use lib.Dec.{T, leb, ltb}
+use lib.Dec.{T}
 use lib.IntN.{ℤ, pos, negsuc, natAbs, _+ℤ_, _-ℤ_, pos-+ℤ-pos}
 use lib.Signed.{ltZ, nonNeg}
-use borrow.Author.Tests.{ltb-true, ltb-false, le-ltb, lt-ltb, le-leb, lt-leb}
+use borrow.Author.Tests.{ltb-true, ltb-false, le-leb, lt-leb}
 use mir.Syntax.{w8, w16, w64}
-use mir.Val.{Fits, SFits, toZ, ofZ}
+use mir.Val.{Fits, SFits, toZ}
 use mir.Facts.{toZ-ofZ}
 use Rattle.datum.specs.declared.Date.{Date}
 use Rattle.datum.specs.declared.Shifted.{Shifted}

@@ -1,17 +1,14 @@
 -- The calendar's definitions against values from outside: weekdays of known days, month lengths, and month shifts by BGB §188 as commentaries
 -- work them out (Palandt/Ellenberger, §188: a Frist of a month from 31 January ends with the last day of February).
 -- Assumes nothing.
-use Prim.Native.Nat.{ℕ, _+_}
-use mathlib.Core.Bool.{Bool, true, false}
-use mathlib.Core.List.{List, [], _∷_}
+use Prim.Native.Nat.{ℕ}
+use mathlib.Core.List.{[], _∷_}
 use mathlib.Core.Path.{_≡_, refl}
-use Rattle.zaehlung.specs.Blocks.{start, at}
+use Rattle.zaehlung.specs.Blocks.{start}
 use Rattle.datum.specs.declared.Date.{Date}
-use Rattle.datum.specs.declared.Index.{Index}
 use Rattle.datum.specs.declared.Index.the-variants.{Day, NoDate}
-use Rattle.datum.specs.declared.Shifted.{Shifted}
 use Rattle.datum.specs.declared.Shifted.the-variants.{On, Outside}
-use Rattle.datum.specs.Calendar.{leap, yearLen, monthLen, valid, indexOf, weekdayOf}
+use Rattle.datum.specs.Calendar.{leap, yearLen, monthLen, valid, indexOf}
 use Rattle.datum.specs.MonthShift.{inMonth, onMonth, addMonths, subtractMonths}
 
 abbrev on : ℕ → ℕ → ℕ → Date

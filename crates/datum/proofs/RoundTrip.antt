@@ -8,11 +8,10 @@
 use Prim.Native.Nat.{ℕ, _≤_}
 use mathlib.Core.Bool.{Bool, true, false}
 use mathlib.Core.Logic.{_↔_}
-use mathlib.Core.Path.{_≡_, refl, sym, ap, _∙_}
+use mathlib.Core.Path.{_≡_, refl, ap, _∙_}
 use native.Mathlib.Omega.{arith}
 use Rattle.zaehlung.specs.Walk.{last}
 use Rattle.datum.specs.declared.Date.{Date}
-use Rattle.datum.specs.declared.Index.{Index}
 use Rattle.datum.specs.declared.Index.the-variants.{Day, NoDate}
 use Rattle.datum.specs.Calendar.{valid, daysBefore, indexOf, dateOf}
 use Rattle.datum.proofs.Dates.{Valid, valid-is, is-valid, date-index, index-below, index-date}

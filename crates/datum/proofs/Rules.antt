@@ -1,7 +1,7 @@
 -- What the proofs of this crate's functions cite: a lemma for each return and each turn of a loop, with premises in the form in which they stand there.
 -- Assumes nothing.
 use Prim.Native.Nat.{ℕ, zero, suc, _+_, _*_, _-_, _/_, _%_, _≤_, _<_}
-use mathlib.Core.Bool.{Bool, true, false, not, _&&_, _||_}
+use mathlib.Core.Bool.{Bool, true, false}
 use mathlib.Core.Path.{_≡_, refl, sym, ap, ap₂, _∙_}
 use mathlib.Core.List.{List, [], _∷_}
 use native.Mathlib.Omega.{arith}
@@ -12,12 +12,12 @@ use mir.Syntax.{w8, w32}
 use mir.Val.{Fits}
 use borrow.Author.Tests.{eqb-true, eq-eqb, ne-eqb, le-leb, lt-leb}
 use Rattle.zaehlung.specs.Walk.{bit, last}
-use Rattle.zaehlung.specs.Blocks.{start, at, at-sum, at-below}
+use Rattle.zaehlung.specs.Blocks.{start, at-sum, at-below}
 use Rattle.datum.specs.declared.Date.{Date}
 use Rattle.datum.specs.declared.Index.the-variants.{Day, NoDate}
-use Rattle.datum.specs.Calendar.{leap, yearLen, yearStart, yearOf, months, monthLen, monthStart, monthOf, dateIn, dateOf, daysBefore, indexOf, valid}
+use Rattle.datum.specs.Calendar.{leap, yearStart, yearOf, months, monthLen, monthStart, monthOf, dateIn, dateOf, daysBefore, indexOf, valid}
 use Rattle.zaehlung.specs.Every.{run, run-at}
-use Rattle.datum.proofs.Years.{closed, year-found, year-le, start-none, year-rest}
+use Rattle.datum.proofs.Years.{closed, year-found, year-le, start-none}
 use Rattle.datum.proofs.Dates.{all-le, at-most, len-le, months-sum, month-first, start-month, month-found, valid-is, is-valid, len-ge, index-below, year-below}
 
 -- is_leap

@@ -4,7 +4,7 @@
 ghost use mathlib.Core.Bool.{true};
 ghost use mathlib.Core.Path.{_≡_};
 ghost use Prim.Native.Nat.{_+_, _-_, _*_, _≤_, _<_};
-ghost use lib.IntN.{pos, _+ℤ_, _-ℤ_};
+ghost use lib.IntN.{pos};
 ghost use Rattle.zaehlung.specs.Walk.{last, bit};
 ghost use Rattle.datum.specs.Calendar.{leap, yearStart, yearOf, monthLen, monthStart, monthOf, valid, daysBefore, indexOf, dateOf, weekdayOf};
 ghost use Rattle.datum.specs.Floor.{floorDiv, floorMod};

@@ -4,7 +4,6 @@ ghost use Rattle.antwortsatz.specs.Bytes.{repliedTo};
 ghost use Rattle.berlin.specs.Berlin.{readInstant, readClock};
 ghost use Rattle.antworten.specs.Reading.{dateFrom};
 ghost use Rattle.antworten.specs.Uhrzeit.{berlinAtAnswer, berlinMidnightAnswer, endOfDayBerlinAnswer, tagesbeginnUtcAnswer, berlinDateAnswer, tagDesBeginnsAnswer};
-use berlin::Sparte;
 use datum::Date;
 
 /// The instant at which the Berlin clock shows a time on a date; a repeated time means its earlier instant.

@@ -3,8 +3,7 @@ ghost use mathlib.Core.Path.{_≡_};
 ghost use Rattle.antwortsatz.specs.Bytes.{repliedTo};
 ghost use Rattle.berlin.specs.Berlin.{readInstant};
 ghost use Rattle.antworten.specs.Reading.{dateFrom};
-ghost use Rattle.antworten_vorlauf.specs.Vorlauf.{verdict, vorlaufCheckAnswer, vorlaufCheckAtAnswer, vorlaufSpanAnswer, abmeldungFuerAnswer, abmeldungCheckAnswer, eogAnswer};
-use berlin::Sparte;
+ghost use Rattle.antworten_vorlauf.specs.Vorlauf.{vorlaufCheckAnswer, vorlaufCheckAtAnswer, vorlaufSpanAnswer, abmeldungFuerAnswer, abmeldungCheckAnswer, eogAnswer};
 use datum::Date;
 
 /// The verdict of a lead-time shape on a transmission date and an anchor.

@@ -1,9 +1,9 @@
 -- The list's definitions against values from outside: Easter Sundays of published tables (Physikalisch-Technische Bundesanstalt; the earliest and
 -- the latest possible date among them), and days whose holidays of 2026 are published.
 -- Assumes nothing.
-use Prim.Native.Nat.{ℕ, _+_}
+use Prim.Native.Nat.{ℕ}
 use mathlib.Core.Bool.{Bool, true, false}
-use mathlib.Core.List.{List, [], _∷_}
+use mathlib.Core.List.{[], _∷_}
 use mathlib.Core.Path.{_≡_, refl}
 use Rattle.zaehlung.specs.Blocks.{start, at}
 use Rattle.datum.specs.declared.Date.{Date}

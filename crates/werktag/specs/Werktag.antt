@@ -9,7 +9,7 @@
 -- Source: GPKE Teil 1 (Werktag: 'alle Tage .., die kein Samstag, Sonntag oder gesetzlicher Feiertag sind'; a holiday of one Land counts
 -- everywhere; 24.12. and 31.12. count as holidays); document 01, 'lib.rs, calendar', for the list.
 use Prim.Native.Nat.{ℕ, _+_}
-use mathlib.Core.Bool.{Bool, true, false, not, _&&_, _||_}
+use mathlib.Core.Bool.{Bool, false, not, _&&_, _||_}
 use mathlib.Core.List.{List, [], _∷_}
 use lib.Dec.{eqb, leb}
 use lib.IntN.{ℤ, pos, negsuc, negℤ, _+ℤ_}

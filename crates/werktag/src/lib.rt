@@ -3,10 +3,8 @@
 // Document 01, lib.rs (calendar). The list is the same in every year.
 ghost use mathlib.Core.Path.{_≡_};
 ghost use Prim.Native.Nat.{_≤_};
-ghost use lib.IntN.{pos, _-ℤ_};
 ghost use Rattle.zaehlung.specs.Walk.{last};
-ghost use Rattle.datum.specs.Calendar.{dateOf};
-ghost use Rattle.werktag.specs.Easter.{easterSunday, easterIndex};
+ghost use Rattle.werktag.specs.Easter.{easterSunday};
 ghost use Rattle.werktag.specs.Werktag.{any, eqZ, easterOffsets, isFixed, isBussUndBettag, isEasterFeast, isHoliday, werktag};
 use datum::Date;
 

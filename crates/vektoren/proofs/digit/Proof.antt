@@ -1,6 +1,6 @@
 -- `vektoren::digit` meets its contract: each return is one rule.
 -- Assumes nothing.
-use Rattle.vektoren.specs.Rules.{digit-rules}
+use Rattle.vektoren.proofs.Rules.{digit-rules}
 use borrow.Author.Needs.{needs}
 use Rattle.vektoren.proofs.digit.Statement.{statement}
 use Rattle.vektoren.proofs.digit.Tie as tie

@@ -1,6 +1,6 @@
 -- `vektoren::is_expected` meets its contract: the number was compared, and `check::same` compares the bytes.
 -- Assumes nothing.
-use Rattle.vektoren.specs.Rules.{never}
+use Rattle.vektoren.proofs.Rules.{never}
 use borrow.Author.Needs.{needs}
 use Rattle.vektoren.proofs.is_expected.Statement.{statement}
 use Rattle.vektoren.proofs.is_expected.Tie as tie

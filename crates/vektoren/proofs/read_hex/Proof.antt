@@ -5,7 +5,7 @@ use mathlib.Core.Path.{_≡_}
 use borrow.Author.Needs.{needs}
 use lib.ListN.{length, take}
 use Rattle.vektoren.specs.Hex.{bytesAt}
-use Rattle.vektoren.specs.Rules.{hex-rules, never}
+use Rattle.vektoren.proofs.Rules.{hex-rules, never}
 use Rattle.vektoren.proofs.read_hex.Statement.{statement}
 use Rattle.vektoren.proofs.read_hex.Tie as tie
 
