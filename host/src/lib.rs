@@ -93,6 +93,7 @@ mod fristen;
 mod instant;
 mod instant_text;
 mod kalender;
+mod label;
 mod question;
 mod reason;
 mod refusal;
@@ -125,6 +126,7 @@ pub use kalender::{
     add_months, add_werktage, is_werktag, next_werktag, sub_werktage, subtract_months,
     werktage_between,
 };
+pub use label::{APERAK_STROM_ALLGEMEIN_LABEL, APERAK_STROM_WINDOW_LABEL, CONTRL_FRIST_LABEL};
 pub use question::Question;
 pub use reason::Reason;
 pub use refusal::Refusal;

@@ -5,7 +5,7 @@
 mod saetze;
 
 use mako_fristen_host::{ffi, Answer, Call, Clock, Date, Instant, Parameter, Question, Reason};
-use saetze::{CASES, DAYS, DUE, JSON, SPANS, VERDICTS};
+use saetze::{CASES, DAYS, DUE, JSON, LABELS, SPANS, VERDICTS, VERDICTS_JSON};
 use std::ffi::{OsStr, OsString};
 use std::process::{Command, Output, Stdio};
 
@@ -76,8 +76,10 @@ fn every_call_is_asked_under_its_own_name() {
         let expected = format!("{{\"call\":\"{}\",\"arguments\":[\"", call.name());
         let json = printed(&arguments, 0);
         assert!(json.starts_with(&expected), "{json}");
-        arguments[0] = &name;
-        assert_eq!(printed(&arguments, 0), json, "{name}");
+        for name in [&name, &name.replace('-', "_"), call.name()] {
+            arguments[0] = name;
+            assert_eq!(printed(&arguments, 0), json, "{name}");
+        }
     }
 }
 
@@ -99,6 +101,21 @@ fn days_and_steps() {
 #[test]
 fn due_instants() {
     assert_prints(DUE);
+}
+
+#[test]
+fn a_due_instant_has_the_originals_label() {
+    for (call, label) in LABELS {
+        let line = format!("{call} 2026-04-02T10:00:00+02:00");
+        let sentence = printed(&words(&line), 0);
+        assert!(sentence.ends_with(&format!(" ({label}).\n")), "{sentence}");
+        let json = printed(&words(&format!("{line} --json")), 0);
+        assert!(json.ends_with(&format!("}},\"label\":\"{label}\"}}\n")), "{json}");
+        let refused = printed(&words(&format!("{call} 1995-01-01T00:00:00Z --json")), 2);
+        assert!(!refused.contains("label"), "{refused}");
+    }
+    let json = printed(&words("next-werktag-at 2026-04-02T10:00:00+02:00 12:00 --json"), 0);
+    assert!(!json.contains("label"), "{json}");
 }
 
 #[test]
@@ -130,8 +147,14 @@ fn deregistrations() {
     let days =
         "Übertragungstag Donnerstag, 8. Januar 2026, Zuordnungsende Montag, 12. Januar 2026.";
     let late = format!(
-        "{eeg}\nZu spät: {days}\nEs fehlen 13 Werktage.\nAls frühester Termin wird Sonntag, der 8. \
-         Februar 2026, genannt; zulässig sind Termine ab diesem Tag."
+        "{eeg}\nZu spät: {days}\nEs fehlen 13 Werktage.\nAls frühestes Zuordnungsende wird \
+         Sonntag, der 8. Februar 2026, genannt; zulässig ist ein Zuordnungsende ab diesem Tag."
+    );
+    let clamped = format!(
+        "{eeg}\nZu spät: Übertragungstag Samstag, 31. Januar 2026, Zuordnungsende Samstag, 28. \
+         Februar 2026.\nEs fehlen 2 Werktage.\nAls frühestes Zuordnungsende wird Samstag, der 28. \
+         Februar 2026, genannt; zulässig ist es nicht.\nZulässig ist ein Zuordnungsende ab \
+         Sonntag, dem 1. März 2026."
     );
     let open = format!("{unknown}\nKein Urteil, also auch nicht „Frist gewahrt“: {days}");
     let zq7 = "Grund „ZQ7“: Die Frist ist die des Prüfschritts 120: „Liegt das Eingangsdatum der \
@@ -142,6 +165,7 @@ fn deregistrations() {
         ("abmeldung-fuer --eeg=unbekannt zq7", unknown),
         ("abmeldung-fuer ZQ7 --eeg nein", zq7),
         ("abmeldung Z33 2026-01-08 --eeg ja 2026-01-12", &late),
+        ("abmeldung Z33 2026-01-31 2026-02-28 --eeg ja", &clamped),
         ("--eeg unbekannt abmeldung zq7 2026-01-08 2026-01-12", &open),
         ("abmeldung ZQ7 2026-01-08 2026-01-12 --eeg ja", &passed),
     ]);
@@ -156,6 +180,7 @@ fn refusals_with_their_number() {
         (3, "tag 9999-99-99"),
         (3, "kalender 1995"),
         (3, "kalender 4294967295"),
+        (3, "kalender 4294967296"),
         (3, "abmeldung ZQ7 --eeg ja 2026-01-08 2026-02-29"),
         (3, "ankuendigung 2026-01-12T00:00:00Z 1995-01-01"),
         (4, "berlin-date 1995-12-31T22:59:59Z"),
@@ -210,7 +235,8 @@ const WRONG: &[(&str, &str)] = &[
     ("abmeldung-fuer Z33 --eeg", "erwartet ja, nein oder unbekannt nach --eeg"),
     ("abmeldung-fuer Z33 --eeg vielleicht", "--eeg: erwartet nein, ja oder unbekannt"),
     ("abmeldung-fuer Z33 --eeg ja --eeg ja", "erwartet --eeg nur einmal"),
-    ("kalender zweitausend", "JAHR: erwartet eine Zahl"),
+    ("kalender abc", "JAHR: erwartet ein Jahr von 1996 bis 2899, nicht „abc“"),
+    ("kalender -2026", "JAHR: erwartet ein Jahr von 1996 bis 2899, nicht „-2026“"),
     ("kalender 2026 --bytes", "--bytes gibt es zu diesem Befehl nicht"),
     ("tag 2026-01-01 --json --bytes", "erwartet --json oder --bytes, nicht beide"),
     ("tag 2026-01-01 --laut", "unbekannte Option „--laut“"),
@@ -235,6 +261,8 @@ fn a_call_of_no_command() {
     let wrong = [
         ("gestern", "unbekannter Befehl „gestern“"),
         ("Tag 2026-01-01", "unbekannter Befehl „Tag“"),
+        ("mf_tag 2026-01-01", "unbekannter Befehl „mf_tag“"),
+        ("MF_IS_WERKTAG 2026-01-01", "unbekannter Befehl „MF_IS_WERKTAG“"),
         ("help gestern", "unbekannter Befehl „gestern“"),
         ("gestern --help", "unbekannter Befehl „gestern“"),
         ("help tag check", "zu viel: „check“"),
@@ -247,14 +275,21 @@ fn a_call_of_no_command() {
     }
     let expected = complaint(&["gestern"]);
     assert!(expected.contains("\n  Kalender: tag, next-werktag, add-werktage, "), "{expected}");
-    for (call, name) in source_names() {
-        assert!(!help.contains(call.name()), "{name}");
-    }
+    assert_eq!(help.matches("mf_").count(), 1, "only the example of a host call's name");
 }
 
 #[test]
 fn answers_as_json() {
     assert_prints(JSON);
+}
+
+/// A `TooLate` says whether its date is allowed, and which dates are; no other verdict does.
+#[test]
+fn verdicts_as_json() {
+    for (line, end) in VERDICTS_JSON {
+        let json = printed(&words(&format!("{line} --json")), 0);
+        assert!(json.ends_with(&format!("{end}\n")), "{json}");
+    }
 }
 
 #[test]

@@ -2,7 +2,8 @@
 
 use mako_fristen_host::{
     berlin_at, is_werktag, AbmeldungVorlauf, BerlinTime, Clock, Date, Feiertag, FristShape,
-    Instant, Refusal, VorlaufShape, Weekday,
+    GasProzess, Instant, Refusal, VorlaufShape, Weekday, APERAK_STROM_ALLGEMEIN_LABEL,
+    APERAK_STROM_WINDOW_LABEL, CONTRL_FRIST_LABEL,
 };
 
 const fn date(year: u16, month: u8, day: u8) -> Date {
@@ -145,6 +146,17 @@ fn the_labels_of_answers() {
     let shapes = AbmeldungVorlauf::ALL.map(AbmeldungVorlauf::shape);
     let day = VorlaufShape::TagVorDemLetztenWerktagVor;
     assert_eq!(shapes, [Some(day), Some(VorlaufShape::LatestMonateBefore(1)), None, None]);
+}
+
+/// The original's strings.
+#[test]
+fn the_labels_of_due_instants() {
+    assert_eq!(CONTRL_FRIST_LABEL, "contrl-delivery-window");
+    assert_eq!(APERAK_STROM_WINDOW_LABEL, "aperak-strom-45min-window");
+    assert_eq!(APERAK_STROM_ALLGEMEIN_LABEL, "aperak-strom-naechster-wt-1200");
+    let folgeprozess = "aperak-gas-folgeprozess-naechster-wt-1200";
+    assert_eq!(GasProzess::Folgeprozess.label(), folgeprozess);
+    assert_eq!(GasProzess::Initialprozess.label(), "aperak-gas-initialprozess-3-werktage");
 }
 
 #[test]

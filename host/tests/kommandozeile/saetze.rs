@@ -26,17 +26,17 @@ pub const CASES: &[(&str, &str)] = &[
     (
         "contrl Regelfall 2026-03-31T11:59:59+02:00",
         "Eingang am Dienstag, 31. März 2026, um 11:59:59 Uhr: Die CONTRL im Regelfall ist \
-         fällig am Dienstag, 31. März 2026, um 17:59:59 Uhr.",
+         fällig am Dienstag, 31. März 2026, um 17:59:59 Uhr (contrl-delivery-window).",
     ),
     (
         "contrl Regelfall 2026-03-31T12:00:00+02:00",
         "Eingang am Dienstag, 31. März 2026, um 12:00 Uhr: Die CONTRL im Regelfall ist fällig \
-         am Donnerstag, 2. April 2026, um 00:00 Uhr. Dann endet der Zeitraum der \
-         Formatumstellung.",
+         am Donnerstag, 2. April 2026, um 00:00 Uhr (contrl-delivery-window). Dann endet der \
+         Zeitraum der Formatumstellung.",
     ),
     (
         "berlin-at 2026-10-25 02:30",
-        "Sonntag, 25. Oktober 2026, 02:30 Uhr Sommerzeit (MESZ), in Berlin ist Sonntag, 25. \
+        "In Berlin Sonntag, 25. Oktober 2026, 02:30 Uhr Sommerzeit (MESZ); das ist Sonntag, 25. \
          Oktober 2026, 00:30 Uhr UTC. Die Uhr zeigt diese Zeit zweimal; es gilt die frühere.",
     ),
 ];
@@ -103,12 +103,12 @@ pub const DAYS: &[(&str, &str)] = &[
     ("next-werktag 2026-04-07", "Dienstag, der 7. April 2026, ist selbst ein Werktag."),
     (
         "werktage-between 2025-12-31 2026-12-31",
-        "Nach Mittwoch, dem 31. Dezember 2025, bis einschließlich Donnerstag, dem 31. Dezember \
+        "Nach Mittwoch, dem 31. Dezember 2025, bis einschließlich Donnerstag, den 31. Dezember \
          2026, liegen 249 Werktage.",
     ),
     (
         "werktage-between 2026-04-07 2026-04-02",
-        "Nach Dienstag, dem 7. April 2026, bis einschließlich Donnerstag, dem 2. April 2026, \
+        "Nach Dienstag, dem 7. April 2026, bis einschließlich Donnerstag, den 2. April 2026, \
          liegen 0 Werktage. Der zweite Tag ist nicht später als der erste.",
     ),
     ("add-months 2026-01-31 0", "Mit 0 Monaten bleibt es bei Samstag, dem 31. Januar 2026."),
@@ -123,6 +123,11 @@ pub const DAYS: &[(&str, &str)] = &[
          25. Oktober 2026, 02:30 Uhr Winterzeit (MEZ).",
     ),
     (
+        "berlin-at 1996-01-01 00:00",
+        "In Berlin Montag, 1. Januar 1996, 00:00 Uhr; das ist Sonntag, 31. Dezember 1995, 23:00 \
+         Uhr UTC.",
+    ),
+    (
         "tagesbeginn-utc 2026-01-01 strom",
         "In der Sparte Strom beginnt Donnerstag, der 1. Januar 2026, in Berlin um 00:00 Uhr; \
          das ist Mittwoch, 31. Dezember 2025, 23:00 Uhr UTC.",
@@ -133,17 +138,18 @@ pub const DUE: &[(&str, &str)] = &[
     (
         "contrl STROMUTILMDODERORDERS 2026-01-10T12:00:00+01:00",
         "Eingang am Samstag, 10. Januar 2026, um 12:00 Uhr: Die CONTRL auf UTILMD oder ORDERS \
-         Strom ist fällig am Samstag, 10. Januar 2026, um 18:00 Uhr.",
+         Strom ist fällig am Samstag, 10. Januar 2026, um 18:00 Uhr (contrl-delivery-window).",
     ),
     (
         "contrl gasalocat 2026-01-10T12:00:00.5+01:00",
         "Eingang am Samstag, 10. Januar 2026, um 12:00:00,5 Uhr: Die CONTRL auf ALOCAT Gas ist \
-         fällig am Samstag, 10. Januar 2026, um 12:45:00,5 Uhr.",
+         fällig am Samstag, 10. Januar 2026, um 12:45:00,5 Uhr (contrl-delivery-window).",
     ),
     (
         "aperak-gas 44002 2026-04-02T10:00:00+02:00",
         "Eingang am Donnerstag, 2. April 2026, um 10:00 Uhr: Die APERAK auf Prüfidentifikator \
-         44002 (Folgeprozess Gas) ist fällig am Dienstag, 7. April 2026, um 12:00 Uhr.",
+         44002 (Folgeprozess Gas) ist fällig am Dienstag, 7. April 2026, um 12:00 Uhr \
+         (aperak-gas-folgeprozess-naechster-wt-1200).",
     ),
     (
         "frist WerktagAt 61 00:00 2026-01-09T12:00:00+01:00",
@@ -177,6 +183,18 @@ pub const DUE: &[(&str, &str)] = &[
         "Eingang am Freitag, 9. Januar 2026, um 11:59:59 Uhr: Die Frist bis 12:00 Uhr am \
          Übertragungstag endet am Freitag, 9. Januar 2026, um 12:00 Uhr.",
     ),
+    (
+        "frist SameDayAt 12:00 2026-01-09T12:00:00+01:00",
+        "Eingang am Freitag, 9. Januar 2026, um 12:00 Uhr: Die Frist bis 12:00 Uhr am \
+         Übertragungstag endet am Montag, 12. Januar 2026, um 12:00 Uhr. Die Uhrzeit war bei \
+         Eingang erreicht: es gilt der nächste Werktag.",
+    ),
+    (
+        "frist SameDayAt 12:00 2026-01-10T09:00:00+01:00",
+        "Eingang am Samstag, 10. Januar 2026, um 09:00 Uhr: Die Frist bis 12:00 Uhr am \
+         Übertragungstag endet am Montag, 12. Januar 2026, um 12:00 Uhr. Der Übertragungstag ist \
+         kein Werktag: es gilt der nächste Werktag.",
+    ),
 ];
 
 pub const SPANS: &[(&str, &str)] = &[
@@ -194,10 +212,17 @@ pub const SPANS: &[(&str, &str)] = &[
          Der Zeitraum beginnt erst in 1 Werktag.",
     ),
     (
+        "check Korridor 0 2026-01-10 2026-01-11",
+        "Zu früh: Übertragungstag Samstag, 10. Januar 2026, Termin Sonntag, 11. Januar 2026.\n\
+         Der Übertragungstag muss der Termin selbst sein.\n\
+         Bis zum Beginn des Zeitraums sind es 0 Werktage: zu früh nur um Tage, die keine Werktage \
+         sind.",
+    ),
+    (
         "span Korridor 2 2026-04-07",
         "Übertragungstag Dienstag, 7. April 2026. Der Übertragungstag muss vom 2. Werktag vor bis zum \
          2. Werktag nach dem Termin liegen.\n\
-         Zulässig sind Termine von Mittwoch, dem 1. April 2026, bis Donnerstag, dem 9. April \
+         Zulässig sind Termine von Mittwoch, dem 1. April 2026, bis Donnerstag, den 9. April \
          2026.",
     ),
     (
@@ -210,8 +235,19 @@ pub const SPANS: &[(&str, &str)] = &[
         "Zu spät: Übertragungstag Freitag, 9. Januar 2026, Termin Freitag, 9. Januar 2026.\n\
          Spätester Übertragungstag ist der 1. Werktag vor dem Termin.\n\
          Es fehlt 1 Werktag.\n\
-         Als frühester Termin wird Montag, der 12. Januar 2026, genannt.\n\
+         Als frühester Termin wird Montag, der 12. Januar 2026, genannt; zulässig ist er, der \
+         früheste ist er nicht.\n\
          Zulässig sind Termine ab Samstag, dem 10. Januar 2026.",
+    ),
+    (
+        "check WindowWerktageBefore 5 2 2026-01-13 2026-01-13",
+        "Zu spät: Übertragungstag Dienstag, 13. Januar 2026, Termin Dienstag, 13. Januar 2026.\n\
+         Frühester Übertragungstag ist der 5. Werktag vor dem Termin, spätester der 2. Werktag \
+         vor dem Termin.\n\
+         Es fehlen 2 Werktage.\n\
+         Als frühester Termin wird Donnerstag, der 15. Januar 2026, genannt; zulässig ist er.\n\
+         Zulässig sind Termine von Donnerstag, dem 15. Januar 2026, bis Dienstag, den 20. Januar \
+         2026.",
     ),
     (
         "check EarliestWerktageAfter 0 2026-04-07 2026-04-02",
@@ -237,11 +273,11 @@ pub const JSON: &[(&str, &str)] = &[
     ),
     (
         "contrl Regelfall 2026-03-31T12:00:00+02:00 --json",
-        r#"{"call":"mf_contrl_due_at","arguments":["Regelfall","2026-03-31T12:00:00+02:00"],"refusal":null,"instant":{"seconds":1775080800,"nanos":0,"utc":"2026-04-01T22:00:00Z","berlin":"2026-04-02T00:00:00+02:00"}}"#,
+        r#"{"call":"mf_contrl_due_at","arguments":["Regelfall","2026-03-31T12:00:00+02:00"],"refusal":null,"instant":{"seconds":1775080800,"nanos":0,"utc":"2026-04-01T22:00:00Z","berlin":"2026-04-02T00:00:00+02:00"},"label":"contrl-delivery-window"}"#,
     ),
     (
         "aperak-gas --json 44001 2026-04-02T10:00:00+02:00",
-        r#"{"call":"mf_aperak_gas_due_at","arguments":["44001","2026-04-02T10:00:00+02:00"],"refusal":null,"kind":1,"kind_name":"Initialprozess","instant":{"seconds":1775771999,"nanos":999999999,"utc":"2026-04-09T21:59:59.999999999Z","berlin":"2026-04-09T23:59:59.999999999+02:00"}}"#,
+        r#"{"call":"mf_aperak_gas_due_at","arguments":["44001","2026-04-02T10:00:00+02:00"],"refusal":null,"kind":1,"kind_name":"Initialprozess","instant":{"seconds":1775771999,"nanos":999999999,"utc":"2026-04-09T21:59:59.999999999Z","berlin":"2026-04-09T23:59:59.999999999+02:00"},"label":"aperak-gas-initialprozess-3-werktage"}"#,
     ),
     (
         "werktage-between 2026-04-02 2026-04-07 --json",
@@ -255,4 +291,49 @@ pub const JSON: &[(&str, &str)] = &[
         "abmeldung ZT0 --eeg nein 2026-01-08 2026-01-12 --json",
         r#"{"call":"mf_abmeldung_check","arguments":["ZT0","--eeg","nein","2026-01-08","2026-01-12"],"reason_hex":"5a5430","refusal":null,"kind":0,"kind_name":"Ok","count":0,"date":null}"#,
     ),
+];
+
+/// The ends of the answers' JSON. The 2nd and the 5th Werktag after 13 January 2026 are the 15th and
+/// the 20th.
+pub const VERDICTS_JSON: &[(&str, &str)] = &[
+    (
+        "check LatestWerktageBefore 1 2026-01-10 2026-01-12",
+        r#""kind_name":"TooLate","count":0,"date":"2026-01-12","date_acceptable":false,"span":{"first":"2026-01-13","last":null}}"#,
+    ),
+    (
+        "check WindowWerktageBefore 5 2 2026-01-13 2026-01-13",
+        r#""kind_name":"TooLate","count":2,"date":"2026-01-15","date_acceptable":true,"span":{"first":"2026-01-15","last":"2026-01-20"}}"#,
+    ),
+    (
+        "check WindowWerktageBefore 1 1 2026-01-10 2026-01-12",
+        r#""kind_name":"TooLate","count":0,"date":"2026-01-12","date_acceptable":false,"span":{"first":null,"last":null}}"#,
+    ),
+    (
+        "check WindowWerktageBefore 3 1 2899-12-28 2899-12-28",
+        r#""kind_name":"TooLate","count":1,"date":"2899-12-29","date_acceptable":null,"span":null}"#,
+    ),
+    (
+        "check-at TagVorDemLetztenWerktagVor 2026-01-07T23:30:00Z 2026-01-09T00:00:00+01:00 Strom",
+        r#""kind_name":"TooLate","count":1,"date":"2026-01-10","date_acceptable":true,"span":{"first":"2026-01-10","last":null}}"#,
+    ),
+    (
+        "abmeldung Z33 --eeg ja 2026-01-31 2026-02-28",
+        r#""kind_name":"TooLate","count":2,"date":"2026-02-28","date_acceptable":false,"span":{"first":"2026-03-01","last":null}}"#,
+    ),
+    ("check Korridor 0 2026-01-10 2026-01-11", r#""kind_name":"TooEarly","count":0,"date":null}"#),
+    (
+        "abmeldung ZQ7 --eeg ja 2026-01-08 2026-01-12",
+        r#""kind_name":"NoShape","count":0,"date":null}"#,
+    ),
+];
+
+/// The original's labels, each beside a call that has it; the receipt comes behind.
+pub const LABELS: &[(&str, &str)] = &[
+    ("contrl GasAlocat", "contrl-delivery-window"),
+    ("aperak-strom", "aperak-strom-45min-window"),
+    ("aperak-strom-allgemein", "aperak-strom-naechster-wt-1200"),
+    ("aperak-gas-folgeprozess", "aperak-gas-folgeprozess-naechster-wt-1200"),
+    ("aperak-gas-initialprozess", "aperak-gas-initialprozess-3-werktage"),
+    ("aperak-gas 44042", "aperak-gas-initialprozess-3-werktage"),
+    ("aperak-gas 44043", "aperak-gas-folgeprozess-naechster-wt-1200"),
 ];

@@ -38,9 +38,14 @@ pub fn all() -> impl Iterator<Item = &'static Command> {
 }
 
 impl Command {
-    /// By its name or the source's.
+    /// By its name or the source's, with hyphens or underscores, or the host call's.
     pub fn find(name: &str) -> Option<&'static Command> {
-        all().find(|command| command.name == name || command.source_name().as_deref() == Some(name))
+        let hyphened = name.replace('_', "-");
+        all().find(|command| {
+            command.name == hyphened
+                || command.source_name().as_ref() == Some(&hyphened)
+                || command.call.is_some_and(|call| call.name() == name)
+        })
     }
 
     /// The call's name in the source, with hyphens.
@@ -68,12 +73,15 @@ mod tests {
     }
 
     #[test]
-    fn a_command_is_found_by_either_name_and_no_name_is_used_twice() {
+    fn a_command_is_found_by_each_name_and_no_name_is_used_twice() {
         for command in all() {
-            let source_name = command.source_name();
-            for name in [Some(command.name), source_name.as_deref()].into_iter().flatten() {
-                assert_eq!(Command::find(name), Some(command), "{name}");
+            let names = [Some(command.name.to_owned()), command.source_name()];
+            for name in names.into_iter().flatten() {
+                assert_eq!(Command::find(&name), Some(command), "{name}");
+                assert_eq!(Command::find(&name.replace('-', "_")), Some(command), "{name}");
             }
+            let host_name = command.call.map_or(command.name, Call::name);
+            assert_eq!(Command::find(host_name), Some(command), "{host_name}");
             assert!(command.example.starts_with(&format!("{} ", command.name)));
         }
     }

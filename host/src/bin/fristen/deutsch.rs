@@ -36,6 +36,11 @@ pub fn dem(date: Date) -> String {
     with_article(date, "dem ")
 }
 
+/// `Dienstag, den 7. April 2026`
+pub fn den(date: Date) -> String {
+    with_article(date, "den ")
+}
+
 /// `Dienstag, 7. April 2026`
 pub fn tag(date: Date) -> String {
     with_article(date, "")

@@ -11,7 +11,8 @@ Aufruf: ./fristen BEFEHL ANGABEN [--json | --bytes]
 ";
 
 const FOOT: &str = "\
-Jeder Befehl auch unter dem Namen der Quelle: is-werktag, contrl-due-at, vorlauf-check ...
+Jeder Befehl auch unter dem Namen der Quelle und dem des Host-Aufrufs, mit Binde- oder
+Unterstrichen: contrl-due-at, contrl_due_at, mf_contrl_due_at ...
 
 Angaben
   DATUM       wie 2026-04-02, vom 1. Januar 1996 bis zum 31. Dezember 2899
@@ -19,7 +20,8 @@ Angaben
   ZEITPUNKT   wie 2026-03-31T11:59:59+02:00 oder 2026-03-31T09:59:59Z,
               oder @SEKUNDEN.NANOSEKUNDEN seit 1970
   N, PID      eine Zahl von 0 bis 4294967295
-  Namen       in beliebiger Groß- und Kleinschreibung
+  Namen       FORM, ANLASS, SPARTE und was nach --eeg steht: in beliebiger Groß- und
+              Kleinschreibung; bei BEFEHL und GRUND kommt es auf sie an
 
 Optionen, an beliebiger Stelle
   --json      eine Zeile JSON

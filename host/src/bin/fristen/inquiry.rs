@@ -1,4 +1,7 @@
-use mako_fristen_host::{ffi, Answer, Call, FristShape, Question, VorlaufShape};
+use mako_fristen_host::{
+    berlin_date, ffi, AbmeldungVorlauf, Answer, Call, Date, Eeg, FristShape, Question, Refusal,
+    Span, VorlaufShape,
+};
 
 /// A call with its arguments, as they were given.
 #[derive(Debug)]
@@ -15,6 +18,31 @@ impl Inquiry {
     pub fn new(call: Call) -> Inquiry {
         let (question, reason) = (Question::new(call), Vec::new());
         Inquiry { call, question, reason, frist: None, vorlauf: None }
+    }
+
+    /// The EEG mark of a deregistration, and its case.
+    pub fn abmeldung(&self) -> Result<(Eeg, AbmeldungVorlauf), Refusal> {
+        let eeg = Eeg::ALL.into_iter().find(|eeg| eeg.code() == self.question.code);
+        let eeg = eeg.ok_or(Refusal::UnknownCode)?;
+        Ok((eeg, AbmeldungVorlauf::fuer(&self.reason, eeg)?))
+    }
+
+    /// The transmission day of a verdict.
+    pub fn transmission_day(&self) -> Result<Date, Refusal> {
+        match self.call {
+            Call::VorlaufCheckAt => berlin_date(self.question.instant),
+            _ => Ok(self.question.date),
+        }
+    }
+
+    /// The anchors that the transmission day of a verdict allows.
+    pub fn allowed(&self) -> Result<Span, Refusal> {
+        let shape = match self.call {
+            Call::AbmeldungCheck => self.abmeldung()?.1.shape(),
+            _ => self.vorlauf,
+        };
+        // Where there is a verdict, there is a shape.
+        shape.ok_or(Refusal::UnknownCode)?.span(self.transmission_day()?)
     }
 
     /// The 32 bytes, of a refused call too.

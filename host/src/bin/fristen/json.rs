@@ -4,6 +4,7 @@ use std::fmt::{self, Write};
 #[derive(Clone, Debug, PartialEq, Eq)]
 pub enum Json {
     Null,
+    Bool(bool),
     Number(i64),
     Text(String),
     List(Vec<Json>),
@@ -25,6 +26,7 @@ impl fmt::Display for Json {
     fn fmt(&self, f: &mut fmt::Formatter<'_>) -> fmt::Result {
         match self {
             Json::Null => f.write_str("null"),
+            Json::Bool(value) => write!(f, "{value}"),
             Json::Number(number) => write!(f, "{number}"),
             Json::Text(text) => string(f, text),
             Json::List(members) => {
@@ -80,9 +82,10 @@ mod tests {
 
     #[test]
     fn a_value_on_one_line() {
-        let list = Json::list([Json::Number(-1), Json::text("ä"), Json::List(vec![])]);
+        let list =
+            Json::list([Json::Number(-1), Json::Bool(true), Json::text("ä"), Json::List(vec![])]);
         let json = Json::Object(vec![("a", Json::Null), ("b", list), ("c", Json::Object(vec![]))]);
-        assert_eq!(json.to_string(), "{\"a\":null,\"b\":[-1,\"ä\",[]],\"c\":{}}");
+        assert_eq!(json.to_string(), "{\"a\":null,\"b\":[-1,true,\"ä\",[]],\"c\":{}}");
     }
 
     #[test]

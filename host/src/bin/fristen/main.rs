@@ -8,6 +8,7 @@ mod help;
 mod inquiry;
 mod json;
 mod kalenderblatt;
+mod labels;
 mod names;
 mod operands;
 mod outcome;

@@ -25,7 +25,7 @@ pub fn year(command: &Command, arguments: &Arguments) -> Result<u32, Usage> {
     let mut words = Words::new(arguments);
     let mut year = 0;
     for (_, label) in command.operands {
-        year = words.count(label)?;
+        year = words.year(label)?;
     }
     words.end()?;
     Ok(year)
@@ -132,10 +132,17 @@ impl<'a> Words<'a> {
     }
 
     fn count(&mut self, label: &str) -> Result<u32, Usage> {
-        let digits = |word: &str| word.bytes().all(|byte| byte.is_ascii_digit());
         self.read(label, |word| {
-            let count = word.parse().ok().filter(|_| digits(word));
+            let count = word.parse().ok().filter(|_| is_number(word));
             count.ok_or_else(|| "eine Zahl von 0 bis 4294967295".to_owned())
+        })
+    }
+
+    /// A number too large is a year that the calendar refuses.
+    fn year(&mut self, label: &str) -> Result<u32, Usage> {
+        self.read(label, |word| match is_number(word) {
+            true => Ok(word.parse().unwrap_or(u32::MAX)),
+            false => Err("ein Jahr von 1996 bis 2899".to_owned()),
         })
     }
 
@@ -151,6 +158,10 @@ impl<'a> Words<'a> {
             || format!("--eeg: erwartet {}, nicht {}", names::expected(&EEG), quoted(mark));
         eeg.map(Eeg::code).ok_or_else(|| Usage::new(expected()))
     }
+}
+
+fn is_number(word: &str) -> bool {
+    !word.is_empty() && word.bytes().all(|byte| byte.is_ascii_digit())
 }
 
 fn of_instant(error: InstantError) -> &'static str {

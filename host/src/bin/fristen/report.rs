@@ -2,10 +2,15 @@
 
 use crate::inquiry::Inquiry;
 use crate::json::Json;
+use crate::labels;
 use crate::refusals;
 use crate::sentences::why_closed;
-use mako_fristen_host::{Answer, BerlinTime, Call, Clock, Date, Instant, Refusal};
+use mako_fristen_host::{Answer, BerlinTime, Call, Clock, Date, Instant, Refusal, Span};
 use std::ffi::OsString;
+
+type Members = Vec<(&'static str, Json)>;
+
+const TOO_LATE: u8 = 1;
 
 /// A part of the answer.
 #[derive(Clone, Copy)]
@@ -51,7 +56,7 @@ fn fields(call: Call) -> &'static [Field] {
     }
 }
 
-/// The call, its arguments as given, the refusal, and what the call filled.
+/// The call, its arguments as given, the refusal, what the call filled, and what the host adds.
 pub fn json(inquiry: &Inquiry, given: &[OsString], answer: &Answer) -> Json {
     let refusal = Refusal::of_number(answer.number());
     let mut members = vec![("call", Json::text(inquiry.call.name()))];
@@ -65,12 +70,42 @@ pub fn json(inquiry: &Inquiry, given: &[OsString], answer: &Answer) -> Json {
         for field in fields(inquiry.call) {
             field.write(answer, &mut members);
         }
-        if inquiry.call == Call::IsWerktag {
-            let why = why_closed(inquiry.question.date).unwrap_or_default();
-            members.push(("why", Json::list(why.into_iter().map(Json::Text))));
-        }
+        members.extend(added(inquiry, answer));
     }
     Json::Object(members)
+}
+
+fn added(inquiry: &Inquiry, answer: &Answer) -> Members {
+    match inquiry.call {
+        Call::IsWerktag => {
+            let why = why_closed(inquiry.question.date).unwrap_or_default();
+            vec![("why", Json::list(why.into_iter().map(Json::Text)))]
+        }
+        Call::VorlaufCheck | Call::VorlaufCheckAt | Call::AbmeldungCheck
+            if answer.kind() == TOO_LATE =>
+        {
+            allowed(answer.date(), inquiry.allowed().ok())
+        }
+        call => {
+            labels::of(call, answer).map(|label| ("label", Json::text(label))).into_iter().collect()
+        }
+    }
+}
+
+/// Whether the named date is an allowed anchor, and which are; null if their span is refused.
+fn allowed(named: Date, span: Option<Span>) -> Members {
+    let acceptable = span.map_or(Json::Null, |span| Json::Bool(span.contains(named)));
+    vec![("date_acceptable", acceptable), ("span", span.map_or(Json::Null, ends))]
+}
+
+/// Null for an end that the span does not have.
+fn ends(span: Span) -> Json {
+    let (first, last) = match span {
+        Span::From(first) => (Json::text(first), Json::Null),
+        Span::Between(first, last) => (Json::text(first), Json::text(last)),
+        Span::Empty => (Json::Null, Json::Null),
+    };
+    Json::Object(vec![("first", first), ("last", last)])
 }
 
 pub fn arguments(given: &[OsString]) -> Json {
@@ -83,7 +118,7 @@ pub fn refused(refusal: Refusal) -> Json {
 }
 
 impl Field {
-    fn write(self, answer: &Answer, members: &mut Vec<(&'static str, Json)>) {
+    fn write(self, answer: &Answer, members: &mut Members) {
         match self {
             Field::Kind(names) => {
                 let name = names.get(usize::from(answer.kind()));

@@ -38,7 +38,8 @@ Frist gewahrt: Übertragungstag Donnerstag, 8. Januar 2026, Zuordnungsende Monta
         name: "ankuendigung",
         call: Some(Call::EogAnkuendigungFristgerecht),
         operands: &[(Parameter::Instant, "EINGANG"), (Parameter::Date, "ZUORDNUNGSBEGINN")],
-        summary: "ob die Ankündigung der Zuordnung des E/G bis 13:00 Uhr kam",
+        summary: "ob die Ankündigung der Zuordnung des E/G von 00:00 bis 13:00 Uhr des letzten \
+                  Werktags davor kam",
         meaning: "Fristgerecht von 00:00 bis 13:00 Uhr des letzten Werktags vor dem Zuordnungsbeginn\n\
                   (GPKE Teil 2 Kap. 2.3.2.2 Nr. 1). Vom Zuordnungsbeginn an weder noch.",
         example: "ankuendigung 2026-01-09T13:00:00+01:00 2026-01-12",

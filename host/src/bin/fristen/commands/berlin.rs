@@ -11,9 +11,9 @@ pub const COMMANDS: [Command; 6] = [
             "Zeigt die Uhr die Zeit zweimal, so gilt die frühere. Gibt es sie an dem Tag nicht,\n\
                   so wird abgelehnt (6).",
         example: "berlin-at 2026-10-25 02:30",
-        output: "Sonntag, 25. Oktober 2026, 02:30 Uhr Sommerzeit (MESZ), in Berlin ist Sonntag, \
-                 25. Oktober 2026, 00:30 Uhr UTC. Die Uhr zeigt diese Zeit zweimal; es gilt die \
-                 frühere.",
+        output: "In Berlin Sonntag, 25. Oktober 2026, 02:30 Uhr Sommerzeit (MESZ); das ist \
+                 Sonntag, 25. Oktober 2026, 00:30 Uhr UTC. Die Uhr zeigt diese Zeit zweimal; es \
+                 gilt die frühere.",
     },
     Command {
         name: "berlin-midnight",

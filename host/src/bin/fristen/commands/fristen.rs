@@ -13,7 +13,7 @@ pub const COMMANDS: [Command; 12] = [
                   00:00 Uhr, ist es dann (CONTRL AHB 1.0).",
         example: "contrl Regelfall 2026-03-31T11:59:59+02:00",
         output: "Eingang am Dienstag, 31. März 2026, um 11:59:59 Uhr: Die CONTRL im Regelfall ist \
-                 fällig am Dienstag, 31. März 2026, um 17:59:59 Uhr.",
+                 fällig am Dienstag, 31. März 2026, um 17:59:59 Uhr (contrl-delivery-window).",
     },
     Command {
         name: "aperak-strom",
@@ -24,7 +24,8 @@ pub const COMMANDS: [Command; 12] = [
                   am Sonntag um 12:00 Uhr.",
         example: "aperak-strom 2026-01-10T10:00:00+01:00",
         output: "Eingang am Samstag, 10. Januar 2026, um 10:00 Uhr: Die APERAK auf UTILMD oder \
-                 ORDERS Strom ist fällig am Sonntag, 11. Januar 2026, um 12:00 Uhr.",
+                 ORDERS Strom ist fällig am Sonntag, 11. Januar 2026, um 12:00 Uhr \
+                 (aperak-strom-45min-window).",
     },
     Command {
         name: "aperak-strom-allgemein",
@@ -34,7 +35,8 @@ pub const COMMANDS: [Command; 12] = [
         meaning: "Um 12:00 Uhr des ersten Werktags nach dem Eingangstag.",
         example: "aperak-strom-allgemein 2026-04-02T10:00:00+02:00",
         output: "Eingang am Donnerstag, 2. April 2026, um 10:00 Uhr: Die APERAK auf eine andere \
-                 Nachricht Strom ist fällig am Dienstag, 7. April 2026, um 12:00 Uhr.",
+                 Nachricht Strom ist fällig am Dienstag, 7. April 2026, um 12:00 Uhr \
+                 (aperak-strom-naechster-wt-1200).",
     },
     Command {
         name: "aperak-gas-folgeprozess",
@@ -44,7 +46,8 @@ pub const COMMANDS: [Command; 12] = [
         meaning: "Um 12:00 Uhr des ersten Werktags nach dem Eingangstag.",
         example: "aperak-gas-folgeprozess 2026-04-02T10:00:00+02:00",
         output: "Eingang am Donnerstag, 2. April 2026, um 10:00 Uhr: Die APERAK im Folgeprozess Gas \
-                 ist fällig am Dienstag, 7. April 2026, um 12:00 Uhr.",
+                 ist fällig am Dienstag, 7. April 2026, um 12:00 Uhr \
+                 (aperak-gas-folgeprozess-naechster-wt-1200).",
     },
     Command {
         name: "aperak-gas-initialprozess",
@@ -54,7 +57,8 @@ pub const COMMANDS: [Command; 12] = [
         meaning: "Mit Ablauf des dritten Werktags nach dem Eingangstag.",
         example: "aperak-gas-initialprozess 2026-04-02T10:00:00+02:00",
         output: "Eingang am Donnerstag, 2. April 2026, um 10:00 Uhr: Die APERAK im Initialprozess \
-                 Gas ist fällig mit Ablauf des Donnerstags, 9. April 2026.",
+                 Gas ist fällig mit Ablauf des Donnerstags, 9. April 2026 \
+                 (aperak-gas-initialprozess-3-werktage).",
     },
     Command {
         name: "aperak-gas",
@@ -66,7 +70,7 @@ pub const COMMANDS: [Command; 12] = [
         example: "aperak-gas 44001 2026-04-02T10:00:00+02:00",
         output: "Eingang am Donnerstag, 2. April 2026, um 10:00 Uhr: Die APERAK auf \
                  Prüfidentifikator 44001 (Initialprozess Gas) ist fällig mit Ablauf des \
-                 Donnerstags, 9. April 2026.",
+                 Donnerstags, 9. April 2026 (aperak-gas-initialprozess-3-werktage).",
     },
     Command {
         name: "add-hours",
@@ -135,8 +139,7 @@ pub const COMMANDS: [Command; 12] = [
                   noch bevorsteht, sonst am nächsten Werktag. SameDay ist das Ende des Eingangstags.",
         example: "frist SameDayAt 12:00 2026-01-09T12:00:00+01:00",
         output: "Eingang am Freitag, 9. Januar 2026, um 12:00 Uhr: Die Frist bis 12:00 Uhr am \
-                 Übertragungstag endet am Montag, 12. Januar 2026, um 12:00 Uhr. Der \
-                 Übertragungstag ist kein Werktag, oder die Uhrzeit war bei Eingang erreicht: es \
-                 gilt der nächste Werktag.",
+                 Übertragungstag endet am Montag, 12. Januar 2026, um 12:00 Uhr. Die \
+                 Uhrzeit war bei Eingang erreicht: es gilt der nächste Werktag.",
     },
 ];

@@ -8,8 +8,9 @@ pub const COMMANDS: [Command; 8] = [
         operands: &[(Parameter::Date, "DATUM")],
         summary: "ob der Tag ein Werktag ist, und warum nicht",
         meaning:
-            "Kein Werktag ist ein Samstag, ein Sonntag und jeder Tag, der in einem Bundesland\n\
-                  Feiertag ist, dazu der 24. und der 31. Dezember (GPKE Teil 1).",
+            "Keine Werktage sind die Samstage, die Sonntage und die Feiertage der Liste, die in\n\
+                  allen Jahren dieselbe ist, dazu der 24. und der 31. Dezember (GPKE Teil 1).\n\
+                  Die ganze Liste zeigt kalender.",
         example: "tag 2026-11-18",
         output: "Mittwoch, der 18. November 2026, ist kein Werktag: Buß- und Bettag.",
     },
@@ -49,13 +50,13 @@ pub const COMMANDS: [Command; 8] = [
         name: "werktage-between",
         call: Some(Call::WerktageBetween),
         operands: &[(Parameter::Date, "VON"), (Parameter::SecondDate, "BIS")],
-        summary: "wie viele Werktage zwischen zwei Tagen liegen",
+        summary: "wie viele Werktage nach dem ersten Tag bis zum zweiten einschließlich liegen",
         meaning:
             "Die Werktage nach dem ersten Tag bis zum zweiten, diesen eingeschlossen. 0, wenn\n\
                   der zweite nicht später ist.",
         example: "werktage-between 2026-04-02 2026-04-07",
         output:
-            "Nach Donnerstag, dem 2. April 2026, bis einschließlich Dienstag, dem 7. April 2026, \
+            "Nach Donnerstag, dem 2. April 2026, bis einschließlich Dienstag, den 7. April 2026, \
                  liegt 1 Werktag.",
     },
     Command {

@@ -1,7 +1,6 @@
-use super::vorlauf::verdict;
+use super::vorlauf::{verdict, ZUORDNUNGSENDE};
 use crate::deutsch::{am, tag};
 use crate::inquiry::Inquiry;
-use crate::names::EEG;
 use crate::usage::quoted_bytes;
 use mako_fristen_host::{sub_werktage, AbmeldungVorlauf, Answer, BerlinTime, Call, Eeg, Refusal};
 
@@ -10,9 +9,7 @@ pub fn sentence(inquiry: &Inquiry, answer: &Answer) -> Result<String, Refusal> {
         return ankuendigung(inquiry, answer.kind());
     }
     let question = &inquiry.question;
-    let eeg = EEG.iter().map(|(_, eeg)| *eeg).find(|eeg| eeg.code() == question.code);
-    let eeg = eeg.ok_or(Refusal::UnknownCode)?;
-    let case = AbmeldungVorlauf::fuer(&inquiry.reason, eeg)?;
+    let (eeg, case) = inquiry.abmeldung()?;
     let heading = heading(&inquiry.reason, eeg, case);
     if inquiry.call == Call::AbmeldungFuer {
         return Ok(heading);
@@ -20,7 +17,7 @@ pub fn sentence(inquiry: &Inquiry, answer: &Answer) -> Result<String, Refusal> {
     let days =
         format!("Übertragungstag {}, Zuordnungsende {}.", tag(question.date), tag(question.date2));
     Ok(match case.shape() {
-        Some(shape) => format!("{heading}\n{}", verdict(shape, question.date, &days, answer)),
+        Some(_) => format!("{heading}\n{}", verdict(inquiry, answer, &ZUORDNUNGSENDE, &days)),
         None => format!("{heading}\nKein Urteil, also auch nicht „Frist gewahrt“: {days}"),
     })
 }

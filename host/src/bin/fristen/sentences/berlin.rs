@@ -34,7 +34,7 @@ pub fn sentence(inquiry: &Inquiry, answer: &Answer) -> Result<String, Refusal> {
 fn at(time: BerlinTime, utc: &str) -> String {
     let twice =
         if time.repeated { " Die Uhr zeigt diese Zeit zweimal; es gilt die frühere." } else { "" };
-    format!("{}, in Berlin ist {utc}.{twice}", zeitpunkt(time))
+    format!("In Berlin {}; das ist {utc}.{twice}", zeitpunkt(time))
 }
 
 pub fn sparte(code: u8) -> &'static str {

@@ -1,6 +1,9 @@
 use crate::deutsch::{am, faellig, stunden, zeitpunkt};
 use crate::inquiry::Inquiry;
-use mako_fristen_host::{Answer, BerlinTime, Call, Clock, FristShape, Refusal};
+use crate::labels;
+use mako_fristen_host::{
+    is_werktag, Answer, BerlinTime, Call, Clock, FristShape, GasProzess, Refusal,
+};
 
 pub fn sentence(inquiry: &Inquiry, answer: &Answer) -> Result<String, Refusal> {
     let question = &inquiry.question;
@@ -13,11 +16,12 @@ pub fn sentence(inquiry: &Inquiry, answer: &Answer) -> Result<String, Refusal> {
     let from = am(received);
     let to = faellig(due);
     if let Some(shape) = shape(inquiry) {
-        let (frist, corner) = (shape.beschreibung(), corner(shape, received, due));
+        let (frist, corner) = (shape.beschreibung(), corner(shape, received, due)?);
         return Ok(format!("Eingang {from}: Die Frist {frist} endet {to}.{corner}"));
     }
     let (message, end) = (message(inquiry, answer), umstellung(inquiry.call, due));
-    Ok(format!("Eingang {from}: {message} ist fällig {to}.{end}"))
+    let label = labels::of(inquiry.call, answer).map_or(String::new(), |l| format!(" ({l})"));
+    Ok(format!("Eingang {from}: {message} ist fällig {to}{label}.{end}"))
 }
 
 /// The calls that step by Werktage are shapes under other names.
@@ -32,22 +36,32 @@ fn shape(inquiry: &Inquiry) -> Option<FristShape> {
 }
 
 /// Where the due instant is not what the words of the shape say.
-fn corner(shape: FristShape, received: BerlinTime, due: BerlinTime) -> &'static str {
-    match shape {
+fn corner(
+    shape: FristShape,
+    received: BerlinTime,
+    due: BerlinTime,
+) -> Result<&'static str, Refusal> {
+    Ok(match shape {
         FristShape::WerktagAt { werktage: 0, .. } => " 0 Werktage zählen hier wie 1.",
         FristShape::EndOfWerktag(0) => {
             " Mit 0 Werktagen ist es der Tag des Eingangs, ob Werktag oder nicht."
         }
-        FristShape::SameDayAt(_) if due.date != received.date => {
-            " Der Übertragungstag ist kein Werktag, oder die Uhrzeit war bei Eingang erreicht: \
-             es gilt der nächste Werktag."
+        FristShape::SameDayAt(_) if due.date == received.date => "",
+        FristShape::SameDayAt(_) if is_werktag(received.date)? => {
+            " Die Uhrzeit war bei Eingang erreicht: es gilt der nächste Werktag."
+        }
+        FristShape::SameDayAt(_) => {
+            " Der Übertragungstag ist kein Werktag: es gilt der nächste Werktag."
         }
         _ => "",
-    }
+    })
 }
 
 fn message(inquiry: &Inquiry, answer: &Answer) -> String {
-    let gas = if answer.kind() == 1 { "Initialprozess" } else { "Folgeprozess" };
+    let gas = match labels::gas(answer) {
+        GasProzess::Initialprozess => "Initialprozess",
+        GasProzess::Folgeprozess => "Folgeprozess",
+    };
     let pid = inquiry.question.n;
     match (inquiry.call, inquiry.question.code) {
         (Call::ContrlDueAt, 0) => "Die CONTRL im Regelfall".to_owned(),

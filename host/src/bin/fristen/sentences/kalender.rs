@@ -1,4 +1,4 @@
-use crate::deutsch::{dem, der, monat, monate, werktage};
+use crate::deutsch::{dem, den, der, monat, monate, werktage};
 use crate::inquiry::Inquiry;
 use mako_fristen_host::{Answer, Call, Date, Feiertag, Refusal, Weekday};
 
@@ -44,7 +44,7 @@ fn step(from: Date, to: Date, n: u32, side: &str) -> String {
 fn between(from: Date, to: Date, n: u32) -> String {
     let verb = if n == 1 { "liegt" } else { "liegen" };
     let later = if to > from { "" } else { " Der zweite Tag ist nicht später als der erste." };
-    let (from, to, n) = (dem(from), dem(to), werktage(n));
+    let (from, to, n) = (dem(from), den(to), werktage(n));
     format!("Nach {from}, bis einschließlich {to}, {verb} {n}.{later}")
 }
 

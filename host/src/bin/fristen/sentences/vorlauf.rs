@@ -1,65 +1,113 @@
-use crate::deutsch::{dem, der, tag, werktage, werktagen};
+use crate::deutsch::{dem, den, der, tag, werktage, werktagen};
 use crate::inquiry::Inquiry;
-use mako_fristen_host::{
-    berlin_date, tag_des_beginns, Answer, Call, Date, Refusal, Span, Sparte, VorlaufShape,
+use mako_fristen_host::{tag_des_beginns, Answer, Call, Date, Refusal, Span, Sparte};
+
+/// What the anchor is called, with the words of its gender and number.
+pub struct Anchor {
+    earliest: &'static str,
+    it: &'static str,
+    the_earliest: &'static str,
+    are_allowed: &'static str,
+    none: &'static str,
+    span: &'static str,
+}
+
+const TERMIN: Anchor = Anchor {
+    earliest: "frühester Termin",
+    it: "er",
+    the_earliest: "der früheste",
+    are_allowed: "sind Termine",
+    none: "kein Termin",
+    span: "die Spanne der zulässigen Termine",
+};
+
+pub const ZUORDNUNGSENDE: Anchor = Anchor {
+    earliest: "frühestes Zuordnungsende",
+    it: "es",
+    the_earliest: "das früheste",
+    are_allowed: "ist ein Zuordnungsende",
+    none: "kein Zuordnungsende",
+    span: "die Spanne der zulässigen Zuordnungsenden",
 };
 
 pub fn sentence(inquiry: &Inquiry, answer: &Answer) -> Result<String, Refusal> {
     // A command of these calls has read a shape.
     let Some(shape) = inquiry.vorlauf else { return Err(Refusal::UnknownCode) };
     let question = &inquiry.question;
-    let rule = shape.beschreibung();
+    let (rule, from) = (shape.beschreibung(), inquiry.transmission_day()?);
     if inquiry.call == Call::VorlaufSpan {
-        let spans = span(shape.span(question.date)?);
-        return Ok(format!("Übertragungstag {}. {rule}\n{spans}", tag(question.date)));
+        let allowed = TERMIN.allowed(inquiry.allowed()?);
+        return Ok(format!("Übertragungstag {}. {rule}\n{allowed}", tag(from)));
     }
-    let (from, anchor) = match inquiry.call {
+    let anchor = match inquiry.call {
         Call::VorlaufCheckAt => {
             let sparte = if question.code2 == 0 { Sparte::Strom } else { Sparte::Gas };
-            (berlin_date(question.instant)?, tag_des_beginns(question.instant2, sparte)?)
+            tag_des_beginns(question.instant2, sparte)?
         }
-        _ => (question.date, question.date2),
+        _ => question.date2,
     };
     let days = format!("Übertragungstag {}, Termin {}.", tag(from), tag(anchor));
-    Ok(verdict(shape, from, &format!("{days}\n{rule}"), answer))
+    Ok(verdict(inquiry, answer, &TERMIN, &format!("{days}\n{rule}")))
 }
 
 /// The verdict, `what` was judged, and for a `TooLate` what is missing and which dates are allowed.
-pub fn verdict(shape: VorlaufShape, from: Date, what: &str, answer: &Answer) -> String {
+pub fn verdict(inquiry: &Inquiry, answer: &Answer, anchor: &Anchor, what: &str) -> String {
     let n = answer.count();
     match answer.kind() {
         0 => format!("Frist gewahrt: {what}"),
-        2 => format!("Zu früh: {what}\nDer Zeitraum beginnt erst in {}.", werktagen(n)),
+        2 => format!("Zu früh: {what}\n{}", too_early(n)),
         _ => {
             let verb = if n == 1 { "fehlt" } else { "fehlen" };
             let why = if n == 0 { ": zu spät nur um Tage, die keine Werktage sind" } else { "" };
             let missing = format!("Es {verb} {}{why}.", werktage(n));
-            let earliest = earliest(answer.date(), shape.span(from));
+            let earliest = anchor.earliest(answer.date(), inquiry.allowed());
             format!("Zu spät: {what}\n{missing}\n{earliest}")
         }
     }
 }
 
-/// The date that the original names, which need not be allowed, and the dates that are.
-fn earliest(named: Date, allowed: Result<Span, Refusal>) -> String {
-    let named_as = format!("Als frühester Termin wird {}, genannt", der(named));
-    match allowed {
-        Err(_) => format!("{named_as}; die Spanne der zulässigen Termine verlässt den Kalender."),
-        Ok(Span::From(first)) if first == named => {
-            format!("{named_as}; zulässig sind Termine ab diesem Tag.")
-        }
-        Ok(allowed) if allowed.contains(named) => format!("{named_as}.\n{}", span(allowed)),
-        Ok(allowed) => format!("{named_as}; zulässig ist er nicht.\n{}", span(allowed)),
+fn too_early(n: u32) -> String {
+    match n {
+        0 => "Bis zum Beginn des Zeitraums sind es 0 Werktage: zu früh nur um Tage, die keine \
+              Werktage sind."
+            .to_owned(),
+        _ => format!("Der Zeitraum beginnt erst in {}.", werktagen(n)),
     }
 }
 
-fn span(span: Span) -> String {
-    match span {
-        Span::From(first) => format!("Zulässig sind Termine ab {}.", dem(first)),
-        Span::Between(first, last) if first == last => format!("Zulässig ist nur {}.", der(first)),
-        Span::Between(first, last) => {
-            format!("Zulässig sind Termine von {}, bis {}.", dem(first), dem(last))
+impl Anchor {
+    /// The date that the original names, which need not be allowed, and the dates that are.
+    fn earliest(&self, named: Date, allowed: Result<Span, Refusal>) -> String {
+        let Anchor { it, the_earliest, are_allowed, span, .. } = self;
+        let named_as = format!("Als {} wird {}, genannt", self.earliest, der(named));
+        let allowed = match allowed {
+            Err(_) => return format!("{named_as}; {span} verlässt den Kalender."),
+            Ok(Span::From(first)) if first == named => {
+                return format!("{named_as}; zulässig {are_allowed} ab diesem Tag.")
+            }
+            Ok(allowed) => allowed,
+        };
+        let judged = match allowed {
+            Span::Between(first, _) if first == named => format!("zulässig ist {it}"),
+            _ if allowed.contains(named) => {
+                format!("zulässig ist {it}, {the_earliest} ist {it} nicht")
+            }
+            _ => format!("zulässig ist {it} nicht"),
+        };
+        format!("{named_as}; {judged}.\n{}", self.allowed(allowed))
+    }
+
+    fn allowed(&self, span: Span) -> String {
+        let are_allowed = self.are_allowed;
+        match span {
+            Span::From(first) => format!("Zulässig {are_allowed} ab {}.", dem(first)),
+            Span::Between(first, last) if first == last => {
+                format!("Zulässig ist nur {}.", der(first))
+            }
+            Span::Between(first, last) => {
+                format!("Zulässig {are_allowed} von {}, bis {}.", dem(first), den(last))
+            }
+            Span::Empty => format!("Zulässig ist {}.", self.none),
         }
-        Span::Empty => "Zulässig ist kein Termin.".to_owned(),
     }
 }
