@@ -132,8 +132,8 @@ fn a_verdict_whose_span_leaves_the_calendar() {
          Frühester Übertragungstag ist der 3. Werktag vor dem Termin, spätester der 1. Werktag vor \
          dem Termin.\n\
          Es fehlt 1 Werktag.\n\
-         Als frühester Termin wird Dienstag, der 29. Dezember 2899, genannt; die Spanne der \
-         zulässigen Termine verlässt den Kalender.",
+         Als frühester Termin wird Dienstag, der 29. Dezember 2899, genannt; zulässig ist er. Die \
+         Spanne der zulässigen Termine verlässt den Kalender.",
     )]);
 }
 

@@ -1,10 +1,11 @@
 -- What the proofs of the host calls cite, with premises in the form in which they stand there. The same rules serve every call: a date that
 -- is none, a date that is taken, a step, a shift.
 -- Assumes nothing.
-use Prim.Native.Nat.{ℕ, zero, suc, _≤_, _<_}
+use Prim.Native.Nat.{ℕ, suc, _-_, _≤_, _<_}
 use mathlib.Core.Bool.{Bool, true, false, not}
 use mathlib.Core.Path.{_≡_, refl, sym, ap, _∙_}
 use native.Mathlib.Omega.{arith}
+use borrow.Author.Tests.{not-true, not-false}
 use lib.IntN.{ℤ, pos}
 use mir.Syntax.{w64}
 use mir.Val.{SFits}
@@ -54,14 +55,6 @@ module _ (d : Date) (x : Index) where
 
   pub day-inside : (i : ℕ) → x ≡ indexOf d → x ≡ At i → i ≤ last
   day-inside i e q = index-inside d i (sym e ∙ q)
-
-not-true : (b : Bool) → not b ≡ true → b ≡ false
-not-true true t = sym t
-not-true false t = refl
-
-not-false : (b : Bool) → not b ≡ false → b ≡ true
-not-false true t = refl
-not-false false t = sym t
 
 -- b is what `is_date` returned for d
 module _ (d : Date) (b : Bool) (g : b ≡ valid d) where
@@ -165,18 +158,13 @@ sparte-taken n x f r s e q p = rw (sym e ∙ q) p
 
 -- sparte_of: codes one by one
 pub sparte-0 : (n : ℕ) → n < 1 → Known Strom ≡ sparteOf n
-sparte-0 zero h = refl
-sparte-0 (suc n) h = absurd (omega arith)
+sparte-0 n h = let z : n ≡ 0 = omega arith in rw z
 
 pub sparte-1 : (n : ℕ) → 1 ≤ n → n < 2 → Known Gas ≡ sparteOf n
-sparte-1 zero h g = absurd (omega arith)
-sparte-1 (suc zero) h g = refl
-sparte-1 (suc (suc n)) h g = absurd (omega arith)
+sparte-1 n h g = let z : n ≡ 1 = omega arith in rw z
 
 pub sparte-none : (n : ℕ) → 2 ≤ n → Unknown ≡ sparteOf n
-sparte-none zero h = absurd (omega arith)
-sparte-none (suc zero) h = absurd (omega arith)
-sparte-none (suc (suc n)) h = refl
+sparte-none n h = let z : n ≡ suc (suc (n - 2)) = omega arith in rw z
 
 pub ruleset sparte-rules = (sparte-0, sparte-1, sparte-none)
 

@@ -1,8 +1,8 @@
 -- What the proofs of the calls for due instants cite, with premises in the form in which they stand there.
 -- Assumes nothing.
-use Prim.Native.Nat.{ℕ, zero, suc, _-_, _≤_, _<_}
+use Prim.Native.Nat.{ℕ, suc, _-_, _≤_, _<_}
 use mathlib.Core.Bool.{true, false, cond}
-use mathlib.Core.Path.{_≡_, refl, sym, ap, _∙_}
+use mathlib.Core.Path.{_≡_, sym, ap, _∙_}
 use native.Mathlib.Omega.{arith}
 use lib.Dec.{ltb}
 use lib.IntN.{ℤ, pos}
@@ -33,25 +33,16 @@ use Rattle.antworten_frist.specs.FristReading.{anlassOf, onAnlass, shape
 use Rattle.antworten.proofs.Rules.{instant-refused, instant-taken, instant-proper, clock-refused, clock-taken, clock-proper, moment-made}
 
 pub anlass-0 : (n : ℕ) → n < 1 → Occasion Regelfall ≡ anlassOf n
-anlass-0 zero h = refl
-anlass-0 (suc n) h = absurd (omega arith)
+anlass-0 n h = let z : n ≡ 0 = omega arith in rw z
 
 pub anlass-1 : (n : ℕ) → 1 ≤ n → n < 2 → Occasion StromUtilmdOderOrders ≡ anlassOf n
-anlass-1 zero h g = absurd (omega arith)
-anlass-1 (suc zero) h g = refl
-anlass-1 (suc (suc n)) h g = absurd (omega arith)
+anlass-1 n h g = let z : n ≡ 1 = omega arith in rw z
 
 pub anlass-2 : (n : ℕ) → 2 ≤ n → n < 3 → Occasion GasAlocat ≡ anlassOf n
-anlass-2 zero h g = absurd (omega arith)
-anlass-2 (suc zero) h g = absurd (omega arith)
-anlass-2 (suc (suc zero)) h g = refl
-anlass-2 (suc (suc (suc n))) h g = absurd (omega arith)
+anlass-2 n h g = let z : n ≡ 2 = omega arith in rw z
 
 pub anlass-none : (n : ℕ) → 3 ≤ n → NoOccasion ≡ anlassOf n
-anlass-none zero h = absurd (omega arith)
-anlass-none (suc zero) h = absurd (omega arith)
-anlass-none (suc (suc zero)) h = absurd (omega arith)
-anlass-none (suc (suc (suc n))) h = refl
+anlass-none n h = let z : n ≡ suc (suc (suc (n - 3))) = omega arith in rw z
 
 pub ruleset anlass-rules = (anlass-0, anlass-1, anlass-2, anlass-none)
 

@@ -310,7 +310,7 @@ pub const VERDICTS_JSON: &[(&str, &str)] = &[
     ),
     (
         "check WindowWerktageBefore 3 1 2899-12-28 2899-12-28",
-        r#""kind_name":"TooLate","count":1,"date":"2899-12-29","date_acceptable":null,"span":null}"#,
+        r#""kind_name":"TooLate","count":1,"date":"2899-12-29","date_acceptable":true,"span":null}"#,
     ),
     (
         "check-at TagVorDemLetztenWerktagVor 2026-01-07T23:30:00Z 2026-01-09T00:00:00+01:00 Strom",

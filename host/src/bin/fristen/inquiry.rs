@@ -1,6 +1,6 @@
 use mako_fristen_host::{
     berlin_date, ffi, AbmeldungVorlauf, Answer, Call, Date, Eeg, FristShape, Question, Refusal,
-    Span, VorlaufShape,
+    Span, VorlaufShape, VorlaufVerdict,
 };
 
 /// A call with its arguments, as they were given.
@@ -37,12 +37,22 @@ impl Inquiry {
 
     /// The anchors that the transmission day of a verdict allows.
     pub fn allowed(&self) -> Result<Span, Refusal> {
+        self.shape()?.span(self.transmission_day()?)
+    }
+
+    /// Whether an anchor is acceptable: its verdict is Ok. One whose verdict is refused is not.
+    pub fn accepts(&self, anchor: Date) -> bool {
+        let judged = |shape: VorlaufShape| shape.check(self.transmission_day()?, anchor);
+        self.shape().and_then(judged) == Ok(VorlaufVerdict::Ok)
+    }
+
+    fn shape(&self) -> Result<VorlaufShape, Refusal> {
         let shape = match self.call {
             Call::AbmeldungCheck => self.abmeldung()?.1.shape(),
             _ => self.vorlauf,
         };
         // Where there is a verdict, there is a shape.
-        shape.ok_or(Refusal::UnknownCode)?.span(self.transmission_day()?)
+        shape.ok_or(Refusal::UnknownCode)
     }
 
     /// The 32 bytes, of a refused call too.

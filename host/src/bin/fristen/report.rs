@@ -84,7 +84,9 @@ fn added(inquiry: &Inquiry, answer: &Answer) -> Members {
         Call::VorlaufCheck | Call::VorlaufCheckAt | Call::AbmeldungCheck
             if answer.kind() == TOO_LATE =>
         {
-            allowed(answer.date(), inquiry.allowed().ok())
+            let span = inquiry.allowed().map_or(Json::Null, ends);
+            let acceptable = Json::Bool(inquiry.accepts(answer.date()));
+            vec![("date_acceptable", acceptable), ("span", span)]
         }
         call => {
             labels::of(call, answer).map(|label| ("label", Json::text(label))).into_iter().collect()
@@ -92,13 +94,7 @@ fn added(inquiry: &Inquiry, answer: &Answer) -> Members {
     }
 }
 
-/// Whether the named date is an allowed anchor, and which are; null if their span is refused.
-fn allowed(named: Date, span: Option<Span>) -> Members {
-    let acceptable = span.map_or(Json::Null, |span| Json::Bool(span.contains(named)));
-    vec![("date_acceptable", acceptable), ("span", span.map_or(Json::Null, ends))]
-}
-
-/// Null for an end that the span does not have.
+/// The ends of the allowed anchors' span; null for one that it does not have.
 fn ends(span: Span) -> Json {
     let (first, last) = match span {
         Span::From(first) => (Json::text(first), Json::Null),

@@ -18,7 +18,7 @@ const TERMIN: Anchor = Anchor {
     the_earliest: "der früheste",
     are_allowed: "sind Termine",
     none: "kein Termin",
-    span: "die Spanne der zulässigen Termine",
+    span: "Die Spanne der zulässigen Termine",
 };
 
 pub const ZUORDNUNGSENDE: Anchor = Anchor {
@@ -27,7 +27,7 @@ pub const ZUORDNUNGSENDE: Anchor = Anchor {
     the_earliest: "das früheste",
     are_allowed: "ist ein Zuordnungsende",
     none: "kein Zuordnungsende",
-    span: "die Spanne der zulässigen Zuordnungsenden",
+    span: "Die Spanne der zulässigen Zuordnungsenden",
 };
 
 pub fn sentence(inquiry: &Inquiry, answer: &Answer) -> Result<String, Refusal> {
@@ -60,7 +60,7 @@ pub fn verdict(inquiry: &Inquiry, answer: &Answer, anchor: &Anchor, what: &str) 
             let verb = if n == 1 { "fehlt" } else { "fehlen" };
             let why = if n == 0 { ": zu spät nur um Tage, die keine Werktage sind" } else { "" };
             let missing = format!("Es {verb} {}{why}.", werktage(n));
-            let earliest = anchor.earliest(answer.date(), inquiry.allowed());
+            let earliest = anchor.earliest(answer.date(), inquiry);
             format!("Zu spät: {what}\n{missing}\n{earliest}")
         }
     }
@@ -76,25 +76,27 @@ fn too_early(n: u32) -> String {
 }
 
 impl Anchor {
-    /// The date that the original names, which need not be allowed, and the dates that are.
-    fn earliest(&self, named: Date, allowed: Result<Span, Refusal>) -> String {
+    /// The date that the original names, which need not be acceptable, and the dates that are.
+    fn earliest(&self, named: Date, inquiry: &Inquiry) -> String {
         let Anchor { it, the_earliest, are_allowed, span, .. } = self;
         let named_as = format!("Als {} wird {}, genannt", self.earliest, der(named));
-        let allowed = match allowed {
-            Err(_) => return format!("{named_as}; {span} verlässt den Kalender."),
-            Ok(Span::From(first)) if first == named => {
-                return format!("{named_as}; zulässig {are_allowed} ab diesem Tag.")
+        let accepted = inquiry.accepts(named);
+        let judged = format!("zulässig ist {it}{}", if accepted { "" } else { " nicht" });
+        match inquiry.allowed() {
+            Err(_) => format!("{named_as}; {judged}. {span} verlässt den Kalender."),
+            Ok(Span::From(first)) if accepted && first == named => {
+                format!("{named_as}; zulässig {are_allowed} ab diesem Tag.")
             }
-            Ok(allowed) => allowed,
-        };
-        let judged = match allowed {
-            Span::Between(first, _) if first == named => format!("zulässig ist {it}"),
-            _ if allowed.contains(named) => {
-                format!("zulässig ist {it}, {the_earliest} ist {it} nicht")
+            Ok(allowed) => {
+                let first = matches!(allowed, Span::Between(first, _) if first == named);
+                let later = if accepted && !first {
+                    format!(", {the_earliest} ist {it} nicht")
+                } else {
+                    String::new()
+                };
+                format!("{named_as}; {judged}{later}.\n{}", self.allowed(allowed))
             }
-            _ => format!("zulässig ist {it} nicht"),
-        };
-        format!("{named_as}; {judged}.\n{}", self.allowed(allowed))
+        }
     }
 
     fn allowed(&self, span: Span) -> String {
