@@ -4,7 +4,7 @@
 -- Assumes nothing.
 use Prim.Native.Nat.{ℕ, zero, suc, _-_, _^_, _≤_, _<_}
 use mathlib.Core.Bool.{true, false}
-use mathlib.Core.Path.{_≡_, refl, sym, ap, _∙_, subst}
+use mathlib.Core.Path.{_≡_, refl, sym, _∙_, subst}
 use native.Mathlib.Omega.{arith}
 use native.Mathlib.Decide.{decLt}
 use lib.Dec.{T}
@@ -14,7 +14,7 @@ use borrow.Author.Tests.{ltb-true, lt-ltb, le-ltb}
 use mir.Syntax.{w64}
 use mir.Val.{Fits, SFits, toZ}
 use mir.Facts.{toZ-ofZ}
-use Rattle.datum.proofs.Signed.{back, back-pos, neg-fits}
+use Rattle.datum.proofs.Signed.{back, back-pos, neg-fits, below}
 use Rattle.antwortsatz.specs.declared.Answer.{Answer}
 use Rattle.antwortsatz.specs.Bytes.{bitsOf, signedOf, laid, bytesOf}
 
@@ -94,10 +94,6 @@ unfolding bytesOf
 bytes-are a s f e = rw (e, toZ-ofZ f)
 
 -- signed_of: x is the bits of a number below zero, y how far that is below -1
-below : (k : ℕ) → negℤ (pos k) -ℤ pos 1 ≡ negsuc k
-below zero = refl
-below (suc k) = ap negsuc (omega arith)
-
 module _ (x : ℕ) where
   pub signed-small : x < 9223372036854775808 → toZ w64 x ≡ signedOf x
   unfolding signedOf

@@ -14,6 +14,7 @@ use native.Mathlib.Decide.{decLe, decLt}
 use borrow.Author.Tests.{le-leb, lt-leb, lt-ltb, le-ltb}
 use Rattle.zaehlung.specs.Walk.{bit, last}
 use Rattle.zaehlung.specs.Blocks.{start, start-suc, at-is, at-sum, at-below}
+use Rattle.datum.proofs.Dates.{yearLen-at}
 use Rattle.datum.specs.Calendar.{leap, yearLen, yearStart, yearOf, monthLen, monthStart, daysBefore, dateIn, dateOf}
 use Rattle.datum.proofs.Years.{closed, yearLen-bounds, start-all, start-none}
 use Rattle.berlin.specs.Berlin.{dayStart, lastSunday, summerFrom, summerTo, yearAt, offset}
@@ -45,10 +46,6 @@ last-is y m i e h =
     let g = back-days i in
     rw e (omega arith, omega arith, back-sunday i b refl (omega arith))
 
-yearLen-is : (k : ℕ) → yearLen k ≡ 365 + bit (leap (1996 + k))
-unfolding yearLen
-yearLen-is k = refl
-
 pub record Sundays (k : ℕ) : Type 0 where
   pub march-from : yearStart k + 83 ≤ lastSunday (1996 + k) 3
   pub march-to : lastSunday (1996 + k) 3 ≤ yearStart k + 90
@@ -64,7 +61,7 @@ sundays k =
     let e = ap yearStart z in
     let a = start-3 l in
     let b = start-10 l in
-    let y = yearLen-is k in
+    let y = yearLen-at (1996 + k) k refl in
     let n = start-suc yearLen k in
     let v = yearLen-bounds k in
     let m = last-is (1996 + k) 3 (yearStart (1996 + k - 1996) + monthStart l 3 + 30) refl (omega arith) in

@@ -1,10 +1,12 @@
 -- A date of the range and its index: what the definitions of Calendar give, field by field.
+--   and-left and-right and-no   what a conjunction tells of its parts, and one with a false part
 --   Valid d         d is a date of the range, as a record of its bounds
 --   valid-is        the test says so; is-valid is the converse
 --   all-le b xs     = whether each number of xs is at most b; at-most says so of each place
 --   len-le len-ge   a month has at most 31 days, and at least 28
 --   start-month     no more than 31 days for each month passed lie before a month
 --   month-found     a month that starts by a day, and whose next starts after it, is the day's
+--   yearLen-at      the days of a year, by its own number
 --   date-index      the date at the index of a date of the range is that date
 --   index-date      the date at an index of the calendar is a date of the range, and lies at that index
 --   index-below     the index of a date of the range is one of the calendar
@@ -33,6 +35,10 @@ and-left false b t = t
 pub and-right : (a b : Bool) → (a && b) ≡ true → b ≡ true
 and-right true b t = t
 and-right false b t = absurd (subst T (sym t) tt)
+
+pub and-no : (a : Bool) → (a && false) ≡ false
+and-no true = refl
+and-no false = refl
 
 pub record Valid (d : Date) : Type 0 where
   pub from : 1996 ≤ d .year
@@ -115,7 +121,7 @@ month-found l r m g h a b =
 in-year : (l : Bool) (m d : ℕ) → m ≤ 12 → 1 ≤ d → d ≤ monthLen l m → monthStart l m + (d - 1) < 365 + bit l
 in-year l m d h a b = omega (arith, start-suc (monthLen l) m, start-mono (monthLen l) (suc m) 13 (omega arith), months-sum l)
 
-yearLen-at : (y k : ℕ) → y ≡ 1996 + k → yearLen k ≡ 365 + bit (leap y)
+pub yearLen-at : (y k : ℕ) → y ≡ 1996 + k → yearLen k ≡ 365 + bit (leap y)
 unfolding yearLen
 yearLen-at y k e = rw e
 

@@ -6,7 +6,7 @@
 -- Assumes nothing.
 use Prim.Native.Nat.{ℕ, zero, suc, _+_, _-_, _/_, _%_, _^_, _≤_, _<_}
 use mathlib.Core.Bool.{Bool, true, false}
-use mathlib.Core.Path.{_≡_, refl, sym, ap}
+use mathlib.Core.Path.{_≡_, refl, sym}
 use native.Mathlib.Omega.{arith}
 use lib.IntN.{ℤ, pos, negsuc, negℤ, _+ℤ_, _-ℤ_}
 use lib.Signed.{mag, ltZ, quotZ, remZ, mag-rem}
@@ -16,7 +16,7 @@ use mir.Val.{SFits}
 use mir.Facts.{toZ-ofZ}
 use mir.ValLaws.{sfits-le}
 use Rattle.datum.specs.Floor.{floorDiv, floorMod}
-use Rattle.datum.proofs.Signed.{back, clash}
+use Rattle.datum.proofs.Signed.{back, clash, below}
 
 pub record Steps (d : ℕ) : Type 0 where
   pub some : 0 < d
@@ -33,11 +33,6 @@ by-12 = record { some = omega arith; fits = omega arith; full = λ a h. omega ar
 mag-neg : (r a : ℕ) → r ≤ suc a → mag (negℤ (pos r)) ≤ a
 mag-neg zero a h = omega arith
 mag-neg (suc r) a h = omega arith
-
--- -(k) - 1 is the number below -k
-below : (k : ℕ) → negℤ (pos k) -ℤ pos 1 ≡ negsuc k
-below zero = refl
-below (suc k) = ap negsuc (omega arith)
 
 -- -(y + 1) + d
 up : (y d : ℕ) → suc y ≤ d → negsuc y +ℤ pos d ≡ pos (d - suc y)

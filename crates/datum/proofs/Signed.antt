@@ -4,15 +4,16 @@
 --   back-pos    such a natural is read back as itself
 --   sub-pos     a difference of naturals that is not negative; sub-neg one that is
 --   sub-fits    a difference of naturals that fit, fits
+--   below       -(k) - 1 is the number below -k
 --   same-bits   two locals with the same bits hold the same number
 -- Assumes nothing.
 use Prim.Native.Nat.{ℕ, zero, suc, _-_, _^_, _≤_, _<_}
 use mathlib.Core.Bool.{Bool, true, false}
-use mathlib.Core.Path.{_≡_, sym, ap, subst, _∙_}
+use mathlib.Core.Path.{_≡_, refl, sym, ap, subst, _∙_}
 use native.Mathlib.Omega.{arith}
 use native.Mathlib.Decide.{decLe}
 use lib.Dec.{T}
-use lib.IntN.{ℤ, pos, negsuc, _-ℤ_}
+use lib.IntN.{ℤ, pos, negsuc, negℤ, _-ℤ_}
 use borrow.Author.Tests.{le-ltb, lt-ltb}
 use mir.Syntax.{w64}
 use mir.Val.{SFits, toZ, ofZ}
@@ -30,6 +31,10 @@ pos-fits k h = record { sfits = h }
 
 pub neg-fits : (k : ℕ) → k < 2 ^ 63 → SFits w64 (negsuc k)
 neg-fits k h = record { sfits = h }
+
+pub below : (k : ℕ) → negℤ (pos k) -ℤ pos 1 ≡ negsuc k
+below zero = refl
+below (suc k) = ap negsuc (omega arith)
 
 pub back-pos : (k : ℕ) → k < 2 ^ 63 → back (pos k) ≡ pos k
 back-pos k h = toZ-ofZ (pos-fits k h)

@@ -7,8 +7,8 @@
 -- Source: the definitions secondsOf and momentOf of berlin, before and later of this crate.
 -- Assumes nothing.
 use Prim.Native.Nat.{ℕ, _+_, _-_, _*_, _/_, _%_, _≤_, _<_}
-use mathlib.Core.Bool.{Bool, true, false, _&&_}
-use mathlib.Core.Path.{_≡_, refl, sym, _∙_}
+use mathlib.Core.Bool.{Bool, true, false}
+use mathlib.Core.Path.{_≡_, sym, _∙_}
 use native.Mathlib.Omega.{arith}
 use native.Mathlib.Decide.{decLe}
 use lib.Dec.{eqb, leb, ltb}
@@ -16,8 +16,10 @@ use mir.Syntax.{w32}
 use mir.Val.{Fits}
 use borrow.Author.Tests.{lt-ltb, le-ltb, le-leb, lt-leb, eq-eqb, ne-eqb, leb-true}
 use Rattle.zaehlung.specs.Walk.{last}
+use Rattle.datum.proofs.Dates.{and-no}
 use Rattle.berlin.specs.declared.Moment.{Moment}
 use Rattle.berlin.specs.Berlin.{Proper, final, momentOf, secondsOf}
+use Rattle.berlin.proofs.Found.{seconds-moment}
 use Rattle.fristen.specs.declared.Due.{Due}
 use Rattle.fristen.specs.declared.Due.the-variants.{At, Outside}
 use Rattle.fristen.specs.Fristen.{before, later, hours}
@@ -59,10 +61,6 @@ pub ruleset before-rules = (day-less, day-more, second-less, second-more, second
 abbrev pub end : Moment
 end = record { day = last + 1; second = 82800; nanos = 0 }
 
-and-no : (a : Bool) → (a && false) ≡ false
-and-no true = refl
-and-no false = refl
-
 late : (m : Moment) → secondsOf end ≤ secondsOf m → before m end ≡ false
 unfolding before
 late m h = rw (le-ltb (secondsOf m) (secondsOf end) h, le-ltb (m .nanos) 0 (omega arith)) (and-no (eqb (secondsOf m) (secondsOf end)))
@@ -75,12 +73,6 @@ before-end m =
     ]
 
 -- an instant is that of its seconds and nanoseconds
-again : (m : Moment) → m .second < 86400 → momentOf (secondsOf m) (m .nanos) ≡ m
-again m h =
-    let a : secondsOf m / 86400 - 9495 ≡ m .day = omega arith in
-    let b : secondsOf m % 86400 ≡ m .second = omega arith in
-    rw (a, b)
-
 module _ (m : Moment) (p : Proper m) where
   pub day-few : m .day ≤ 330180
   day-few = omega (arith, p .to)
@@ -104,7 +96,7 @@ module _ (m : Moment) (p : Proper m) where
       unfolding later
       later-in y =
           let l : leb (secondsOf m + (d * 86400 + t)) final ≡ true = rw (← sum-seconds) (sym (before-end sum) ∙ sym e ∙ y) in
-          let a : momentOf (secondsOf m + (d * 86400 + t)) (m .nanos) ≡ sum = rw (← sum-seconds) (again sum (omega arith)) in
+          let a : momentOf (secondsOf m + (d * 86400 + t)) (m .nanos) ≡ sum = rw (← sum-seconds) (seconds-moment sum (omega arith)) in
           rw (l, a)
 
       pub later-proper : b ≡ true → Proper sum

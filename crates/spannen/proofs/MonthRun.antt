@@ -19,13 +19,13 @@ use lib.Dec.{leb}
 use lib.IntN.{pos}
 use borrow.Author.Tests.{leb-true, le-leb, lt-leb}
 use Rattle.zaehlung.specs.declared.Step.the-variants.{Day, Outside}
-use Rattle.zaehlung.specs.Walk.{last, bit}
+use Rattle.zaehlung.specs.Walk.{last}
 use Rattle.zaehlung.specs.Blocks.{start, start-suc}
 use Rattle.zaehlung.specs.Every.{run, run-at}
 use Rattle.datum.specs.declared.Date.{Date}
 use Rattle.datum.specs.Calendar.{leap, monthLen, monthStart, yearLen, yearStart, daysBefore, dateOf}
 use Rattle.datum.specs.MonthShift.{ordinal, inMonth, onMonth}
-use Rattle.datum.proofs.Dates.{Valid, months-sum, month-first, index-date, index-below, date-index}
+use Rattle.datum.proofs.Dates.{Valid, yearLen-at, months-sum, month-first, index-date, index-below, date-index}
 use Rattle.datum.proofs.Years.{start-none}
 use Rattle.vorlauf.specs.Monate.{toStep}
 
@@ -61,16 +61,12 @@ year-run y (suc j) h =
     rw add-suc
     (omega (arith, year-run y j (omega arith), start-suc monthDays (y * 12 + j), start-suc (monthLen (leap y)) (suc j), month-at y j (omega arith)))
 
-year-days : (k : ℕ) → yearLen k ≡ 365 + bit (leap (1996 + k))
-unfolding yearLen
-year-days k = refl
-
 years-run : (k : ℕ) → start monthDays ((1996 + k) * 12) ≡ origin + yearStart k
 years-run zero = omega (arith, start-none)
 years-run (suc k) =
     let e : (1996 + suc k) * 12 ≡ (1996 + k) * 12 + 12 = omega arith in
     rw e
-    (omega (arith, years-run k, year-run (1996 + k) 12 (omega arith), months-sum (leap (1996 + k)), start-suc yearLen k, year-days k))
+    (omega (arith, years-run k, year-run (1996 + k) 12 (omega arith), months-sum (leap (1996 + k)), start-suc yearLen k, yearLen-at (1996 + k) k refl))
 
 pub date-run :
     (d : Date) → 1996 ≤ d .year → 1 ≤ d .month → d .month ≤ 12 →

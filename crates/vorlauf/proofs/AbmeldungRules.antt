@@ -15,6 +15,7 @@ use lib.Dec.{eqb}
 use lib.ListN.{length, getD, drop}
 use lib.Seq.{drop-cons}
 use borrow.Author.Tests.{eq-eqb, ne-eqb}
+use Rattle.datum.proofs.Dates.{and-no}
 use Rattle.vorlauf.specs.declared.VorlaufShape.{VorlaufShape}
 use Rattle.vorlauf.specs.declared.VorlaufShape.the-variants.{TagVorDemLetztenWerktagVor, LatestMonateBefore}
 use Rattle.vorlauf.specs.declared.VorlaufVerdict.{VorlaufVerdict}
@@ -29,10 +30,6 @@ use Rattle.vorlauf.specs.Verdict.{checkOf}
 use Rattle.vorlauf.specs.Abmeldung.{same, zq7, fuerOf, shapeOf, abmeldungOf}
 
 -- two byte strings, byte by byte
-and-no : (a : Bool) → (a && false) ≡ false
-and-no true = refl
-and-no false = refl
-
 pub bytes-length : (a b : List ℕ) → (length a ≡ length b → ⊥) → false ≡ same a b
 unfolding same
 bytes-length [] [] h = absurd (h refl)

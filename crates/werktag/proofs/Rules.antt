@@ -16,7 +16,7 @@ use Rattle.zaehlung.specs.Walk.{last}
 use Rattle.datum.specs.declared.Date.{Date}
 use Rattle.datum.specs.Calendar.{dateOf, daysBefore, weekdayOf}
 use Rattle.zaehlung.specs.Every.{run, run-at}
-use Rattle.datum.proofs.Dates.{and-left, and-right, index-date}
+use Rattle.datum.proofs.Dates.{and-left, and-right, and-no, index-date}
 use Rattle.datum.proofs.Signed.{back, pos-fits, neg-fits, back-pos, sub-fits, same-bits}
 use Rattle.werktag.specs.declared.HolidayCalendar.{HolidayCalendar}
 use Rattle.werktag.specs.declared.HolidayCalendar.the-variants.{BdewMaKo}
@@ -59,10 +59,6 @@ module _ (m d i : ℕ) (e : any (onDay m d) (drop i fixedDays) ≡ isFixed m d) 
   whole : any (onDay m d) (drop i fixedDays) ≡ any (onDay m d) fixedDays
   unfolding isFixed
   whole = e
-
-  and-no : (a : Bool) → (a && false) ≡ false
-  and-no true = refl
-  and-no false = refl
 
   pub fixed-hit : i < 13 → getD months i 0 ≡ m → getD days i 0 ≡ d → true ≡ isFixed m d
   unfolding isFixed

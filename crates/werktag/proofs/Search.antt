@@ -4,21 +4,14 @@
 --   search-miss  it does not: the rest decides
 --   search-none  nothing is left: the search ends with false
 -- Assumes nothing.
-use Prim.Native.Nat.{ℕ, zero, suc, _+_, _≤_, _<_}
+use Prim.Native.Nat.{ℕ, _+_, _≤_, _<_}
 use mathlib.Core.Bool.{Bool, true, false, _||_}
-use mathlib.Core.List.{List, [], _∷_}
-use mathlib.Core.Path.{_≡_, refl, sym, ap, _∙_}
-use native.Mathlib.Omega.{arith}
+use mathlib.Core.List.{List}
+use mathlib.Core.Path.{_≡_, sym, ap, _∙_}
 use native.Mathlib.Numerals.{add-one}
-use lib.ListN.{length, getD, drop}
+use lib.ListN.{length, getD, drop, drop-of-length-le}
 use lib.Seq.{drop-cons}
 use Rattle.werktag.specs.Werktag.{any}
-
-drop-all : {A : Type 0} (l : List A) (i : ℕ) → length l ≤ i → drop i l ≡ []
-drop-all [] zero h = refl
-drop-all [] (suc i) h = refl
-drop-all (x ∷ l) zero h = absurd (omega arith)
-drop-all (x ∷ l) (suc i) h = drop-all l i (omega arith)
 
 module _ {A : Type 0} (p : A → Bool) (l : List A) (z : A) (i : ℕ) where
   pub any-more : i < length l → any p (drop i l) ≡ (p (getD l i z) || any p (drop (i + 1) l))
@@ -34,4 +27,4 @@ module _ {A : Type 0} (p : A → Bool) (l : List A) (z : A) (i : ℕ) where
 
     pub search-none : length l ≤ i → false ≡ any p l
     unfolding any
-    search-none h = ap (any p) (sym (drop-all l i h)) ∙ e
+    search-none h = ap (any p) (sym (drop-of-length-le l h)) ∙ e

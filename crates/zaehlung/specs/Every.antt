@@ -1,6 +1,7 @@
 -- A test of a run of numbers, which antt computes, and what it says of each: one law for any test.
 --   run p n r   = whether p holds at the n numbers from r on
 --   run-at      so it holds at each of them
+--   split       a test is true or false, and it is known which
 --   more        p holds below a, and at the n numbers from a on: it holds below a + n
 -- Assumes nothing.
 use Prim.Native.Nat.{ℕ, zero, suc, _+_, _-_, _≤_, _<_}
@@ -14,7 +15,7 @@ unfoldable pub run : (ℕ → Bool) → ℕ → ℕ → Bool
 run p zero r = true
 run p (suc n) r = elim (p r) [ true ↦ run p n (suc r) | false ↦ false ]
 
-split : {A : Type 0} (b : Bool) → (b ≡ true → A) → (b ≡ false → A) → A
+pub split : {A : Type 0} (b : Bool) → (b ≡ true → A) → (b ≡ false → A) → A
 split true f g = f refl
 split false f g = g refl
 

@@ -24,6 +24,7 @@ use native.Mathlib.Decide.{decLe, decLt}
 use Rattle.zaehlung.specs.declared.Step.{Step}
 use Rattle.zaehlung.specs.declared.Step.the-variants.{Day, Outside}
 use Rattle.zaehlung.specs.Walk.{last, up, past, down, first, add, sub, W, count}
+use Rattle.zaehlung.specs.Every.{split}
 use Rattle.zaehlung.specs.Turns.{up-none, up-edge, up-open, up-shut, past-none, past-edge, past-open, past-shut}
 use Rattle.zaehlung.specs.Turns.{down-none, down-edge, down-open, down-shut, first-edge, first-open, first-shut}
 use Rattle.zaehlung.specs.Count.{count-none, count-open, count-shut, count-mono, count-back, count-at}
@@ -51,10 +52,6 @@ later (Day e) = Day (suc e)
 later Outside = Outside
 
 -- at a test b, with what each outcome says of it
-split : {A : Type 0} (b : Bool) → (b ≡ true → A) → (b ≡ false → A) → A
-split true f g = f refl
-split false f g = g refl
-
 -- a day is not Outside
 never : {A : Type 0} (s : Step) (d : ℕ) → s ≡ Day d → s ≡ Outside → A
 never s d p q = let z : _≡_ {A = ℕ} 0 1 = cc in absurd (omega arith)
