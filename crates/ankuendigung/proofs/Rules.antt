@@ -8,7 +8,7 @@ use borrow.Author.Tests.{eq-eqb, ne-eqb, not-true, not-false}
 use Rattle.zaehlung.specs.declared.Step.{Step}
 use Rattle.zaehlung.specs.declared.Step.the-variants.{Day, Outside as Left}
 use Rattle.zaehlung.specs.Walk.{last, sub}
-use Rattle.zaehlung.specs.Laws.{sub-inside}
+use Rattle.zaehlung.proofs.Laws.{sub-inside}
 use Rattle.berlin.specs.declared.Moment.{Moment}
 use Rattle.berlin.specs.declared.Resolved.{Resolved}
 use Rattle.berlin.specs.declared.Resolved.the-variants.{At, Absent}

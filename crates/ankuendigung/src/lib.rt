@@ -4,7 +4,7 @@
 ghost use mathlib.Core.Path.{_≡_};
 ghost use Prim.Native.Nat.{_≤_};
 ghost use Rattle.zaehlung.specs.Walk.{last};
-ghost use Rattle.werktag.specs.Werktag.{werktag};
+ghost use Rattle.werktag.specs.Werktag.{isWerktag};
 ghost use Rattle.berlin.specs.Berlin.{Proper};
 ghost use Rattle.ankuendigung.specs.Ankuendigung.{eogAnkuendigung, byThirteen};
 use berlin::Clock;
@@ -47,7 +47,7 @@ pub fn eog_ankuendigung_fristgerecht(
     cal: HolidayCalendar,
 ) -> Fristgerecht
     requires { ⌜ (Proper uez) × (zuordnungsbeginn ≤ last) ⌝ }
-    ensures { λ r. ⌜ r ≡ eogAnkuendigung (werktag cal) uez zuordnungsbeginn ⌝ }
+    ensures { λ r. ⌜ r ≡ eogAnkuendigung (isWerktag cal) uez zuordnungsbeginn ⌝ }
 {
     if !fristen::is_before(uez, berlin::berlin_midnight(zuordnungsbeginn)) {
         return Fristgerecht::Weder;

@@ -13,13 +13,13 @@ use mir.Facts.{toZ-ofZ}
 use Rattle.zaehlung.specs.declared.Step.{Step}
 use Rattle.zaehlung.specs.declared.Step.the-variants.{Day, Outside}
 use Rattle.zaehlung.specs.Walk.{bit, last, add, sub, next}
-use Rattle.zaehlung.specs.Laws.{add-inside, sub-inside, next-inside}
+use Rattle.zaehlung.proofs.Laws.{add-inside, sub-inside, next-inside}
 use Rattle.datum.specs.declared.Date.{Date}
 use Rattle.datum.specs.declared.Index.{Index}
 use Rattle.datum.specs.declared.Index.the-variants.{Day as At, NoDate}
 use Rattle.datum.specs.declared.Shifted.{Shifted}
 use Rattle.datum.specs.declared.Shifted.the-variants.{On, Outside as Left}
-use Rattle.datum.specs.Calendar.{valid, daysBefore, indexOf, dateOf}
+use Rattle.datum.specs.Calendar.{isDate, daysBefore, indexOf, dateOf}
 use Rattle.datum.proofs.Dates.{valid-is}
 use Rattle.datum.proofs.RoundTrip.{index-inside}
 use Rattle.berlin.specs.declared.Moment.{Moment}
@@ -38,7 +38,7 @@ use Rattle.berlin.specs.Berlin.{Proper, ProperClock, secondsOf, readInstant, re
 use Rattle.berlin.proofs.Proper.{read-proper, clock-proper as read-clock-proper, at-proper, midnight-proper, end-proper, begin-proper, beginn-le}
 use Rattle.datum.proofs.Signed.{back, back-pos}
 use Rattle.werktag.specs.declared.HolidayCalendar.the-variants.{BdewMaKo}
-use Rattle.werktag.specs.Werktag.{werktag}
+use Rattle.werktag.specs.Werktag.{isWerktag}
 use Rattle.antwortsatz.specs.declared.Answer.{Answer}
 use Rattle.antwortsatz.specs.Answers.{refusedWith, kindAnswer, countAnswer, dateAnswer, instantAnswer}
 use Rattle.antworten.specs.declared.uhrzeit.SparteCode.{SparteCode}
@@ -57,12 +57,12 @@ module _ (d : Date) (x : Index) where
   day-inside i e q = index-inside d i (sym e ∙ q)
 
 -- b is what `is_date` returned for d
-module _ (d : Date) (b : Bool) (g : b ≡ valid d) where
+module _ (d : Date) (b : Bool) (g : b ≡ isDate d) where
   pub date-none : (f : ℕ → Answer) (r : Answer) → not b ≡ true → r ≡ refusedWith 3 → r ≡ onDate (indexOf d) f
   unfolding indexOf
   date-none f r t p = rw (sym g ∙ not-true b t) p
 
-  pub date-valid : not b ≡ false → valid d ≡ true
+  pub date-valid : not b ≡ false → isDate d ≡ true
   date-valid t = sym g ∙ not-false b t
 
   pub date-given : (f : ℕ → Answer) (r : Answer) → not b ≡ false → r ≡ f (daysBefore d) → r ≡ onDate (indexOf d) f
@@ -75,10 +75,10 @@ module _ (d : Date) (b : Bool) (g : b ≡ valid d) where
 pub ruleset date-rules = (date-none, date-given, date-valid, date-month)
 
 -- is_werktag_answer: b is what `is_werktag` returned
-pub open-kind : (i : ℕ) (b : Bool) (r : Answer) → b ≡ werktag BdewMaKo i → b ≡ true → r ≡ kindAnswer 1 → r ≡ kindAnswer (bit (werktag BdewMaKo i))
+pub open-kind : (i : ℕ) (b : Bool) (r : Answer) → b ≡ isWerktag BdewMaKo i → b ≡ true → r ≡ kindAnswer 1 → r ≡ kindAnswer (bit (isWerktag BdewMaKo i))
 open-kind i b r e t p = rw (sym e ∙ t) p
 
-pub shut-kind : (i : ℕ) (b : Bool) (r : Answer) → b ≡ werktag BdewMaKo i → b ≡ false → r ≡ kindAnswer 0 → r ≡ kindAnswer (bit (werktag BdewMaKo i))
+pub shut-kind : (i : ℕ) (b : Bool) (r : Answer) → b ≡ isWerktag BdewMaKo i → b ≡ false → r ≡ kindAnswer 0 → r ≡ kindAnswer (bit (isWerktag BdewMaKo i))
 shut-kind i b r e t p = rw (sym e ∙ t) p
 
 -- a step s that its function returned

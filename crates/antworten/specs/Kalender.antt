@@ -12,25 +12,25 @@ use Rattle.datum.specs.declared.Date.{Date}
 use Rattle.datum.specs.Calendar.{indexOf}
 use Rattle.datum.specs.MonthShift.{addMonths, subtractMonths}
 use Rattle.werktag.specs.declared.HolidayCalendar.the-variants.{BdewMaKo}
-use Rattle.werktag.specs.Werktag.{werktag}
+use Rattle.werktag.specs.Werktag.{isWerktag}
 use Rattle.antwortsatz.specs.declared.Answer.{Answer}
 use Rattle.antwortsatz.specs.Answers.{kindAnswer, countAnswer}
 use Rattle.antworten.specs.Reading.{onDate, stepAnswer, shiftAnswer}
 
 unfoldable pub isWerktagAnswer : Date → Answer
-isWerktagAnswer d = onDate (indexOf d) (λ i. kindAnswer (bit (werktag BdewMaKo i)))
+isWerktagAnswer d = onDate (indexOf d) (λ i. kindAnswer (bit (isWerktag BdewMaKo i)))
 
 unfoldable pub nextWerktagAnswer : Date → Answer
-nextWerktagAnswer d = onDate (indexOf d) (λ i. stepAnswer (next (werktag BdewMaKo) i))
+nextWerktagAnswer d = onDate (indexOf d) (λ i. stepAnswer (next (isWerktag BdewMaKo) i))
 
 unfoldable pub addWerktageAnswer : Date → ℕ → Answer
-addWerktageAnswer d n = onDate (indexOf d) (λ i. stepAnswer (add (werktag BdewMaKo) i n))
+addWerktageAnswer d n = onDate (indexOf d) (λ i. stepAnswer (add (isWerktag BdewMaKo) i n))
 
 unfoldable pub subWerktageAnswer : Date → ℕ → Answer
-subWerktageAnswer d n = onDate (indexOf d) (λ i. stepAnswer (sub (werktag BdewMaKo) i n))
+subWerktageAnswer d n = onDate (indexOf d) (λ i. stepAnswer (sub (isWerktag BdewMaKo) i n))
 
 unfoldable pub werktageBetweenAnswer : Date → Date → Answer
-werktageBetweenAnswer d e = onDate (indexOf d) (λ i. onDate (indexOf e) (λ j. countAnswer (between (werktag BdewMaKo) i j)))
+werktageBetweenAnswer d e = onDate (indexOf d) (λ i. onDate (indexOf e) (λ j. countAnswer (between (isWerktag BdewMaKo) i j)))
 
 unfoldable pub addMonthsAnswer : Date → ℕ → Answer
 addMonthsAnswer d n = onDate (indexOf d) (λ i. shiftAnswer (addMonths d n))

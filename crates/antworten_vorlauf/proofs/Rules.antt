@@ -30,7 +30,7 @@ use Rattle.vorlauf.specs.declared.abmeldung.AbmeldungVorlauf.{AbmeldungVorlauf}
 use Rattle.vorlauf.specs.declared.abmeldung.AbmeldungVerdict.{AbmeldungVerdict}
 use Rattle.vorlauf.specs.declared.abmeldung.AbmeldungVerdict.the-variants.{Verdict, NoShape}
 use Rattle.vorlauf.specs.Verdict.{checkOf, insideVerdict}
-use Rattle.vorlauf.specs.Monate.{isDate, toStep, M}
+use Rattle.vorlauf.specs.Monate.{insideShift, toStep, M}
 use Rattle.vorlauf.specs.Span.{from, spanOf, insideSpan}
 use Rattle.vorlauf.specs.Abmeldung.{abmeldungOf, insideAbmeldung}
 use Rattle.ankuendigung.specs.declared.Fristgerecht.{Fristgerecht}
@@ -153,7 +153,7 @@ pub ruleset span-rules = (span-from, span-both, span-empty, span-leaves, from-in
 
 -- month_span_answer: s is what `months_or_first_date` returned
 module _ (d : Date) (n : ℕ) (s : Shifted) (p : toStep s ≡ M n (daysBefore d)) where
-  pub month-first : (f z : Date) (r : Answer) → isDate s → s ≡ On f → z ≡ zeroDate → r ≡ spanAnswer 0 f z → r ≡ spanned (from (M n (daysBefore d)))
+  pub month-first : (f z : Date) (r : Answer) → insideShift s → s ≡ On f → z ≡ zeroDate → r ≡ spanAnswer 0 f z → r ≡ spanned (from (M n (daysBefore d)))
   month-first f z r h q g k =
       let u : f ≡ dateOf (daysBefore f) = sym (date-index f (valid-is f (rw q at h))) in
       rw (← p, q, ← u, ← g) k

@@ -20,7 +20,7 @@ use mathlib.Core.List.{List}
 use Rattle.datum.specs.declared.Date.{Date}
 use Rattle.datum.specs.Calendar.{indexOf, dateOf}
 use Rattle.werktag.specs.declared.HolidayCalendar.the-variants.{BdewMaKo}
-use Rattle.werktag.specs.Werktag.{werktag}
+use Rattle.werktag.specs.Werktag.{isWerktag}
 use Rattle.berlin.specs.declared.Reading.{Reading}
 use Rattle.berlin.specs.declared.Beginn.{Beginn}
 use Rattle.berlin.specs.declared.Beginn.the-variants.{Day as Begins, NoBeginning}
@@ -120,25 +120,25 @@ onBeginn NoBeginning f = refusedWith 7
 
 unfoldable pub vorlaufCheckAnswer : ℕ → ℕ → ℕ → Date → Date → Answer
 vorlaufCheckAnswer x n m d e =
-    onVorlauf (shapeAt x n m) (λ s. onDate (indexOf d) (λ t. onDate (indexOf e) (λ a. verdict (checkOf (werktag BdewMaKo) s t a))))
+    onVorlauf (shapeAt x n m) (λ s. onDate (indexOf d) (λ t. onDate (indexOf e) (λ a. verdict (checkOf (isWerktag BdewMaKo) s t a))))
 
 -- the transmission day is the Berlin day in both Sparten; only the anchor goes by the Sparte
 unfoldable pub atInstants : VorlaufShape → Sparte → Reading → Reading → Answer
 atInstants s q k l =
-    onInstant k (λ r. onInstant l (λ b. onBeginn (tagDesBeginns b q) (λ a. verdict (checkOf (werktag BdewMaKo) s (berlinDay (secondsOf r)) a))))
+    onInstant k (λ r. onInstant l (λ b. onBeginn (tagDesBeginns b q) (λ a. verdict (checkOf (isWerktag BdewMaKo) s (berlinDay (secondsOf r)) a))))
 
 unfoldable pub vorlaufCheckAtAnswer : ℕ → ℕ → ℕ → ℕ → Reading → Reading → Answer
 vorlaufCheckAtAnswer x n m p k l = onVorlauf (shapeAt x n m) (λ s. onSparte (sparteOf p) (λ q. atInstants s q k l))
 
 unfoldable pub vorlaufSpanAnswer : ℕ → ℕ → ℕ → Date → Answer
-vorlaufSpanAnswer x n m d = onVorlauf (shapeAt x n m) (λ s. onDate (indexOf d) (λ t. spanned (spanOf (werktag BdewMaKo) s t)))
+vorlaufSpanAnswer x n m d = onVorlauf (shapeAt x n m) (λ s. onDate (indexOf d) (λ t. spanned (spanOf (isWerktag BdewMaKo) s t)))
 
 unfoldable pub abmeldungFuerAnswer : List ℕ → ℕ → Answer
 abmeldungFuerAnswer b x = onEeg (eegOf x) (λ g. kindAnswer (caseCode (fuerOf b g)))
 
 unfoldable pub abmeldungCheckAnswer : List ℕ → ℕ → Date → Date → Answer
 abmeldungCheckAnswer b x d e =
-    onEeg (eegOf x) (λ g. onDate (indexOf d) (λ t. onDate (indexOf e) (λ a. abmeldung (abmeldungOf (werktag BdewMaKo) (fuerOf b g) t a))))
+    onEeg (eegOf x) (λ g. onDate (indexOf d) (λ t. onDate (indexOf e) (λ a. abmeldung (abmeldungOf (isWerktag BdewMaKo) (fuerOf b g) t a))))
 
 unfoldable pub eogAnswer : Reading → Date → Answer
-eogAnswer k d = onDate (indexOf d) (λ i. onInstant k (λ m. announced (eogAnkuendigung (werktag BdewMaKo) m i)))
+eogAnswer k d = onDate (indexOf d) (λ i. onInstant k (λ m. announced (eogAnkuendigung (isWerktag BdewMaKo) m i)))

@@ -2,7 +2,7 @@
 // and 8.
 ghost use mathlib.Core.Bool.{true};
 ghost use mathlib.Core.Path.{_≡_};
-ghost use Rattle.datum.specs.Calendar.{valid, daysBefore};
+ghost use Rattle.datum.specs.Calendar.{isDate, daysBefore};
 ghost use Rattle.vorlauf.specs.Verdict.{insideVerdict};
 ghost use Rattle.vorlauf.specs.Monate.{M};
 ghost use Rattle.vorlauf.specs.Span.{from, insideSpan};
@@ -230,7 +230,7 @@ pub fn vorlauf_check_at_answer(
 
 /// The span of `LatestMonateBefore`: M(n, date) is a matter of dates, and needs no index.
 fn month_span_answer(date: Date, n: u32) -> Answer
-    requires { ⌜ valid date ≡ true ⌝ }
+    requires { ⌜ isDate date ≡ true ⌝ }
     ensures { λ r. ⌜ r ≡ spanned (from (M n (daysBefore date))) ⌝ }
 {
     match vorlauf::monate::months_or_first_date(date, n) {

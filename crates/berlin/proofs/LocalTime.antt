@@ -15,7 +15,7 @@ use native.Mathlib.Decide.{decLe, decLt}
 use lib.Dec.{leb, ltb}
 use borrow.Author.Tests.{eq-eqb, ne-eqb}
 use Rattle.zaehlung.specs.Walk.{last}
-use Rattle.zaehlung.specs.Blocks.{start-mono}
+use Rattle.zaehlung.proofs.BlockLaws.{start-mono}
 use Rattle.datum.specs.Calendar.{yearLen, yearOf}
 use Rattle.datum.proofs.Years.{start-all, start-none}
 use Rattle.berlin.specs.declared.Clock.{Clock}

@@ -8,7 +8,7 @@ use native.Mathlib.Decide.{decLt}
 use lib.Dec.{ltb}
 use borrow.Author.Tests.{eq-eqb, ne-eqb, le-leb, lt-leb, lt-ltb, le-ltb, ltb-true, ltb-false}
 use Rattle.zaehlung.specs.Walk.{last}
-use Rattle.datum.specs.Calendar.{leap, monthLen, daysBefore, weekdayOf, valid}
+use Rattle.datum.specs.Calendar.{isLeap, daysInMonth, daysBefore, weekday, isDate}
 use Rattle.datum.proofs.Dates.{is-valid}
 use Rattle.berlin.specs.declared.Moment.{Moment}
 use Rattle.berlin.specs.declared.Clock.{Clock}
@@ -54,27 +54,27 @@ guess i = i * 400 / 146097
 guess-few : (i : ℕ) → i ≤ last → 1996 + i * 400 / 146097 ≤ 2899
 guess-few i h = let n = guessed i h in omega (arith, n .few)
 
-len-3 : (l : Bool) → monthLen l 3 ≡ 31
-unfolding monthLen
+len-3 : (l : Bool) → daysInMonth l 3 ≡ 31
+unfolding daysInMonth
 len-3 l = refl
 
-march-valid : (y : ℕ) → 1996 ≤ y → y ≤ 2899 → valid (record { year = y; month = 3; day = 31 }) ≡ true
+march-valid : (y : ℕ) → 1996 ≤ y → y ≤ 2899 → isDate (record { year = y; month = 3; day = 31 }) ≡ true
 march-valid y h g =
     is-valid (record { year = y; month = 3; day = 31 })
-    (record { from = h; to = g; month-from = omega arith; month-to = omega arith; day-from = omega arith; day-to = omega (arith, len-3 (leap y)) })
+    (record { from = h; to = g; month-from = omega arith; month-to = omega arith; day-from = omega arith; day-to = omega (arith, len-3 (isLeap y)) })
 
-pub guess-valid : (i : ℕ) → i ≤ last → valid (record { year = 1996 + i * 400 / 146097; month = 3; day = 31 }) ≡ true
+pub guess-valid : (i : ℕ) → i ≤ last → isDate (record { year = 1996 + i * 400 / 146097; month = 3; day = 31 }) ≡ true
 guess-valid i h = march-valid (1996 + guess i) (omega arith) (guess-few i h)
 
 module _ (y n : ℕ) (e : n ≡ daysBefore (record { year = y; month = 3; day = 31 })) where
-  pub march-is : (a : ℕ) → a ≡ n - (weekdayOf n + 1) % 7 → a ≡ lastSunday y 3
+  pub march-is : (a : ℕ) → a ≡ n - (weekday n + 1) % 7 → a ≡ lastSunday y 3
   unfolding lastSunday
   march-is a p = rw e at p
 
-  pub october-is : (b : ℕ) → b ≡ n + 214 - (weekdayOf (n + 214) + 1) % 7 → b ≡ lastSunday y 10
+  pub october-is : (b : ℕ) → b ≡ n + 214 - (weekday (n + 214) + 1) % 7 → b ≡ lastSunday y 10
   unfolding lastSunday
   october-is b p =
-      let q : n + 214 ≡ daysBefore (record { year = y; month = 10; day = 31 }) = omega (arith, start-3 (leap y), start-10 (leap y)) in
+      let q : n + 214 ≡ daysBefore (record { year = y; month = 10; day = 31 }) = omega (arith, start-3 (isLeap y), start-10 (isLeap y)) in
       rw q at p
 
 pub ruleset switch-rules = (guess-valid, march-is, october-is)

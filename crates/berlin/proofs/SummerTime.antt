@@ -13,9 +13,10 @@ use native.Mathlib.Omega.{arith}
 use native.Mathlib.Decide.{decLe, decLt}
 use borrow.Author.Tests.{le-leb, lt-leb, lt-ltb, le-ltb}
 use Rattle.zaehlung.specs.Walk.{bit, last}
-use Rattle.zaehlung.specs.Blocks.{start, start-suc, at-is, at-sum, at-below}
+use Rattle.zaehlung.specs.Blocks.{start}
+use Rattle.zaehlung.proofs.BlockLaws.{start-suc, at-is, at-sum, at-below}
 use Rattle.datum.proofs.Dates.{yearLen-at}
-use Rattle.datum.specs.Calendar.{leap, yearLen, yearStart, yearOf, monthLen, monthStart, daysBefore, dateIn, dateOf}
+use Rattle.datum.specs.Calendar.{isLeap, yearLen, yearStart, yearOf, daysInMonth, monthStart, daysBefore, dateIn, dateOf}
 use Rattle.datum.proofs.Years.{closed, yearLen-bounds, start-all, start-none}
 use Rattle.berlin.specs.Berlin.{dayStart, lastSunday, summerFrom, summerTo, yearAt, offset}
 
@@ -30,12 +31,12 @@ back-sunday : (i b : ℕ) → b ≡ (i % 7 + 1) % 7 → b ≤ i → (i - b) % 7 
 back-sunday i b e h = omega arith
 
 pub start-3 : (l : Bool) → monthStart l 3 ≡ 59 + bit l
-unfolding start monthLen
+unfolding start daysInMonth
 start-3 true = refl
 start-3 false = refl
 
 pub start-10 : (l : Bool) → monthStart l 10 ≡ 273 + bit l
-unfolding start monthLen
+unfolding start daysInMonth
 start-10 true = refl
 start-10 false = refl
 
@@ -56,7 +57,7 @@ pub record Sundays (k : ℕ) : Type 0 where
 
 pub sundays : (k : ℕ) → Sundays k
 sundays k =
-    let l : Bool = leap (1996 + k) in
+    let l : Bool = isLeap (1996 + k) in
     let z : 1996 + k - 1996 ≡ k = omega arith in
     let e = ap yearStart z in
     let a = start-3 l in

@@ -15,11 +15,11 @@ use native.Mathlib.Decide.{decLt}
 use lib.Dec.{ltb}
 use borrow.Author.Tests.{lt-ltb, le-ltb}
 use Rattle.zaehlung.specs.Walk.{last}
-use Rattle.datum.specs.Calendar.{dateOf, weekdayOf}
+use Rattle.datum.specs.Calendar.{dateOf, weekday}
 use Rattle.datum.proofs.Dates.{index-date}
 use Rattle.datum.proofs.Signed.{clash}
 use Rattle.werktag.specs.declared.HolidayCalendar.{HolidayCalendar}
-use Rattle.werktag.specs.Werktag.{werktag}
+use Rattle.werktag.specs.Werktag.{isWerktag}
 use Rattle.werktag.proofs.Rules.{weekend}
 use Rattle.berlin.specs.declared.Moment.{Moment}
 use Rattle.berlin.specs.declared.Clock.{Clock}
@@ -87,10 +87,10 @@ module _ (i s : ℕ) (h : i ≤ last) (from : first ≤ s) (to : s ≤ final) wh
 pub end-in-day : (i : ℕ) → i ≤ last → berlinDay (secondsOf (endOfDayBerlin i)) ≡ i
 end-in-day i h = let e = end-earliest i h in omega (arith, e .shown)
 
-sunday-shut : (cal : HolidayCalendar) (i : ℕ) → i % 7 ≡ 6 → werktag cal i ≡ false
-sunday-shut cal i e = sym (weekend cal i (weekdayOf i) refl (omega arith))
+sunday-shut : (cal : HolidayCalendar) (i : ℕ) → i % 7 ≡ 6 → isWerktag cal i ≡ false
+sunday-shut cal i e = sym (weekend cal i (weekday i) refl (omega arith))
 
-pub switches-shut : (cal : HolidayCalendar) (y : ℕ) → 1996 ≤ y → (werktag cal (lastSunday y 3) ≡ false) × (werktag cal (lastSunday y 10) ≡ false)
+pub switches-shut : (cal : HolidayCalendar) (y : ℕ) → 1996 ≤ y → (isWerktag cal (lastSunday y 3) ≡ false) × (isWerktag cal (lastSunday y 10) ≡ false)
 switches-shut cal y h =
     let n = sundays (y - 1996) in
     let e : 1996 + (y - 1996) ≡ y = omega arith in
@@ -98,8 +98,8 @@ switches-shut cal y h =
     let b = ap (λ (x : ℕ). lastSunday x 10) e in
     (sunday-shut cal (lastSunday y 3) (omega arith), sunday-shut cal (lastSunday y 10) (omega arith))
 
-pub werktag-shown : (cal : HolidayCalendar) (i : ℕ) (c : Clock) (r : Resolved) → i ≤ last → ProperClock c → werktag cal i ≡ true → r ≡ berlinAt i c → r ≡ Absent → ⊥
+pub werktag-shown : (cal : HolidayCalendar) (i : ℕ) (c : Clock) (r : Resolved) → i ≤ last → ProperClock c → isWerktag cal i ≡ true → r ≡ berlinAt i c → r ≡ Absent → ⊥
 werktag-shown cal i c r h u w e p =
     let q = absent-when i c h u (sym e ∙ p) in
     let f = switches-shut cal (dateOf i .year) (index-date i h .0 .from) .0 in
-    clash (werktag cal i) w (ap (werktag cal) (q .0) ∙ f)
+    clash (isWerktag cal i) w (ap (isWerktag cal) (q .0) ∙ f)

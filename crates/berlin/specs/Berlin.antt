@@ -22,7 +22,7 @@ use Prim.Native.Nat.{ℕ, _+_, _-_, _*_, _/_, _%_, _≤_, _<_}
 use mathlib.Core.Bool.{Bool, _&&_, cond}
 use lib.Dec.{eqb, leb, ltb}
 use lib.IntN.{ℤ, pos, negsuc}
-use Rattle.datum.specs.Calendar.{daysBefore, dateOf, weekdayOf}
+use Rattle.datum.specs.Calendar.{daysBefore, dateOf, weekday}
 use Rattle.berlin.specs.declared.Moment.{Moment}
 use Rattle.berlin.specs.declared.Clock.{Clock}
 use Rattle.berlin.specs.declared.Local.{Local}
@@ -76,7 +76,7 @@ readClock h m s x =
 
 -- both months have 31 days; Sunday is weekday 6
 unfoldable pub lastSunday : ℕ → ℕ → ℕ
-lastSunday y m = let i = daysBefore (record { year = y; month = m; day = 31 }) in i - (weekdayOf i + 1) % 7
+lastSunday y m = let i = daysBefore (record { year = y; month = m; day = 31 }) in i - (weekday i + 1) % 7
 
 -- 'UTC+1; UTC+2 from the last Sunday of March 01:00 UTC to the last Sunday of October 01:00 UTC'
 abbrev pub summerFrom : ℕ → ℕ

@@ -7,7 +7,7 @@ ghost use Prim.Native.Nat.{_+_, _-_, _*_, _/_, _%_, _≤_, _<_};
 ghost use lib.Dec.{ltb};
 ghost use lib.IntN.{pos};
 ghost use Rattle.zaehlung.specs.Walk.{last};
-ghost use Rattle.datum.specs.Calendar.{weekdayOf};
+ghost use Rattle.datum.specs.Calendar.{weekday};
 ghost use Rattle.datum.specs.Floor.{floorDiv, floorMod};
 ghost use Rattle.berlin.specs.Berlin.{dayStart, momentOf, secondsOf, Proper, ProperClock, lastSunday, offset, readInstant, readClock, localOf, berlinDay, berlinAt, resolvedOr, berlinMidnight, endOfDayBerlin, tagesbeginnUtc, tagDesBeginns};
 use datum::Date;
@@ -157,7 +157,7 @@ pub fn seconds_of(at: Moment) -> i64
 // The Sunday on or before a day.
 fn sunday_by(day: u32) -> u32
     requires { ⌜ 6 ≤ day ⌝ }
-    ensures { λ r. ⌜ (r ≡ day - (weekdayOf day + 1) % 7) × (r ≤ day) ⌝ }
+    ensures { λ r. ⌜ (r ≡ day - (weekday day + 1) % 7) × (r ≤ day) ⌝ }
 {
     day - (datum::weekday(day) + 1) % 7
 }

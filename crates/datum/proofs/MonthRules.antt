@@ -15,25 +15,25 @@ use mir.Facts.{toZ-ofZ}
 use Rattle.datum.specs.declared.Date.{Date}
 use Rattle.datum.specs.declared.Shifted.{Shifted}
 use Rattle.datum.specs.declared.Shifted.the-variants.{On, Outside}
-use Rattle.datum.specs.Calendar.{leap, monthLen}
+use Rattle.datum.specs.Calendar.{isLeap, daysInMonth}
 use Rattle.datum.specs.Floor.{floorDiv, floorMod}
-use Rattle.datum.specs.MonthShift.{ordinal, inMonth, onMonth, addMonths, subtractMonths}
+use Rattle.datum.specs.MonthShift.{ordinalOf, inMonth, onMonth, addMonths, subtractMonths}
 use Rattle.datum.proofs.Dates.{len-ge}
 use Rattle.datum.proofs.Signed.{back, clash, pos-fits, neg-fits, back-pos, sub-fits}
 
 -- in_month: n is what `days_in_month` returned
-module _ (y m x : ℕ) (l : Bool) (n : ℕ) (a : 1996 ≤ y) (b : y ≤ 2899) (g : l ≡ leap y) (e : n ≡ monthLen l m) where
+module _ (y m x : ℕ) (l : Bool) (n : ℕ) (a : 1996 ≤ y) (b : y ≤ 2899) (g : l ≡ isLeap y) (e : n ≡ daysInMonth l m) where
   pub cut : n < x → _≡_ {A = Shifted} (On (record { year = y; month = m; day = n })) (inMonth y m x)
   unfolding inMonth
-  cut h = let q : n ≡ min x (monthLen (leap y) m) = (let k : n ≡ monthLen (leap y) m = rw g at e in omega arith) in rw (le-leb 1996 y a, le-leb y 2899 b, q)
+  cut h = let q : n ≡ min x (daysInMonth (isLeap y) m) = (let k : n ≡ daysInMonth (isLeap y) m = rw g at e in omega arith) in rw (le-leb 1996 y a, le-leb y 2899 b, q)
 
   pub kept : x ≤ n → _≡_ {A = Shifted} (On (record { year = y; month = m; day = x })) (inMonth y m x)
   unfolding inMonth
-  kept h = let q : min x (monthLen (leap y) m) ≡ x = (let k : n ≡ monthLen (leap y) m = rw g at e in omega arith) in rw (le-leb 1996 y a, le-leb y 2899 b, q)
+  kept h = let q : min x (daysInMonth (isLeap y) m) ≡ x = (let k : n ≡ daysInMonth (isLeap y) m = rw g at e in omega arith) in rw (le-leb 1996 y a, le-leb y 2899 b, q)
 
 -- a day that every month has
 pub kept-in-all : (y m x : ℕ) → 1996 ≤ y → y ≤ 2899 → 1 ≤ m → m ≤ 12 → x ≤ 28 → _≡_ {A = Shifted} (On (record { year = y; month = m; day = x })) (inMonth y m x)
-kept-in-all y m x a b c e h = kept y m x (leap y) (monthLen (leap y) m) a b refl refl (omega (arith, len-ge (leap y) m c e))
+kept-in-all y m x a b c e h = kept y m x (isLeap y) (daysInMonth (isLeap y) m) a b refl refl (omega (arith, len-ge (isLeap y) m c e))
 
 pub ruleset in-month-rules = (cut, kept, kept-in-all)
 
@@ -108,15 +108,15 @@ pub ordinal-is : (t : ℕ) → t < 2 ^ 63 → toZ w64 t ≡ pos t
 ordinal-is t h = back-pos t h
 
 -- o is what `ordinal_of` returned
-module _ (d : Date) (o : ℤ) (n : ℕ) (e : o ≡ pos (ordinal d)) (h : ordinal d < 2 ^ 32) (g : n < 2 ^ 32) where
-  parts : (back o ≡ pos (ordinal d)) × (toZ w64 n ≡ pos n)
-  parts = (rw e (back-pos (ordinal d) (omega arith)), back-pos n (omega arith))
+module _ (d : Date) (o : ℤ) (n : ℕ) (e : o ≡ pos (ordinalOf d)) (h : ordinalOf d < 2 ^ 32) (g : n < 2 ^ 32) where
+  parts : (back o ≡ pos (ordinalOf d)) × (toZ w64 n ≡ pos n)
+  parts = (rw e (back-pos (ordinalOf d) (omega arith)), back-pos n (omega arith))
 
   pub add-fits : SFits w64 (back o +ℤ toZ w64 n)
-  add-fits = rw (parts .0, parts .1, pos-+ℤ-pos (ordinal d) n) (pos-fits (ordinal d + n) (omega arith))
+  add-fits = rw (parts .0, parts .1, pos-+ℤ-pos (ordinalOf d) n) (pos-fits (ordinalOf d + n) (omega arith))
 
   pub subtract-fits : SFits w64 (back o -ℤ toZ w64 n)
-  subtract-fits = rw (parts .0, parts .1) (sub-fits (ordinal d) n (omega arith) (omega arith))
+  subtract-fits = rw (parts .0, parts .1) (sub-fits (ordinalOf d) n (omega arith) (omega arith))
 
   pub add-is : (r : Shifted) → r ≡ onMonth (back (back o +ℤ toZ w64 n)) (d .day) → r ≡ addMonths d n
   unfolding addMonths
@@ -127,7 +127,7 @@ module _ (d : Date) (o : ℤ) (n : ℕ) (e : o ≡ pos (ordinal d)) (h : ordinal
   subtract-is r p = rw (toZ-ofZ subtract-fits, parts .0, parts .1) at p
 
 -- a date's month number is small
-pub ordinal-small : (d : Date) → Fits w16 (d .year) → Fits w8 (d .month) → ordinal d < 2 ^ 32
+pub ordinal-small : (d : Date) → Fits w16 (d .year) → Fits w8 (d .month) → ordinalOf d < 2 ^ 32
 ordinal-small d a b = omega (arith, a .fits, b .fits)
 
 pub ruleset shift-rules = (ordinal-small, add-fits, subtract-fits, add-is, subtract-is)

@@ -13,22 +13,22 @@ use native.Mathlib.Omega.{arith}
 use Rattle.zaehlung.specs.Walk.{last}
 use Rattle.datum.specs.declared.Date.{Date}
 use Rattle.datum.specs.declared.Index.the-variants.{Day, NoDate}
-use Rattle.datum.specs.Calendar.{valid, daysBefore, indexOf, dateOf}
+use Rattle.datum.specs.Calendar.{isDate, daysBefore, indexOf, dateOf}
 use Rattle.datum.proofs.Dates.{Valid, valid-is, is-valid, date-index, index-below, index-date}
 
-at-valid : (d : Date) → valid d ≡ true → indexOf d ≡ Day (daysBefore d)
+at-valid : (d : Date) → isDate d ≡ true → indexOf d ≡ Day (daysBefore d)
 unfolding indexOf
 at-valid d t = rw t
 
-at-invalid : (d : Date) → valid d ≡ false → indexOf d ≡ NoDate
+at-invalid : (d : Date) → isDate d ≡ false → indexOf d ≡ NoDate
 unfolding indexOf
 at-invalid d t = rw t
 
--- a date with an index is valid, and the index is the number of days before it
+-- a date with an index is isDate, and the index is the number of days before it
 pub has-index : (d : Date) (i : ℕ) → indexOf d ≡ Day i → Valid d × (daysBefore d ≡ i)
-has-index d i e = go (valid d) refl
+has-index d i e = go (isDate d) refl
   where
-    go : (b : Bool) → valid d ≡ b → Valid d × (daysBefore d ≡ i)
+    go : (b : Bool) → isDate d ≡ b → Valid d × (daysBefore d ≡ i)
     go true t = let a = at-valid d t in (valid-is d t, (cc))
     go false t = let a = at-invalid d t in let z : _≡_ {A = ℕ} 0 1 = cc in absurd (omega arith)
 
@@ -42,11 +42,11 @@ pub index-inside : (d : Date) (i : ℕ) → indexOf d ≡ Day i → i ≤ last
 index-inside d i e = let v = has-index d i e in omega (arith, index-below d (v .0))
 
 pub no-date : (d : Date) → (indexOf d ≡ NoDate) ↔ (Valid d → ⊥)
-no-date d = (none, (λ f. go f (valid d) refl))
+no-date d = (none, (λ f. go f (isDate d) refl))
   where
     none : indexOf d ≡ NoDate → Valid d → ⊥
     none e v = let a = at-valid d (is-valid d v) in let z : _≡_ {A = ℕ} 0 1 = cc in omega arith
 
-    go : (Valid d → ⊥) → (b : Bool) → valid d ≡ b → indexOf d ≡ NoDate
+    go : (Valid d → ⊥) → (b : Bool) → isDate d ≡ b → indexOf d ≡ NoDate
     go f true t = absurd (f (valid-is d t))
     go f false t = at-invalid d t

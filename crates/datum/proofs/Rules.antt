@@ -12,48 +12,49 @@ use mir.Syntax.{w8, w32}
 use mir.Val.{Fits}
 use borrow.Author.Tests.{eqb-true, eq-eqb, ne-eqb, le-leb, lt-leb}
 use Rattle.zaehlung.specs.Walk.{bit, last}
-use Rattle.zaehlung.specs.Blocks.{start, at-sum, at-below}
+use Rattle.zaehlung.specs.Blocks.{start}
+use Rattle.zaehlung.proofs.BlockLaws.{at-sum, at-below}
 use Rattle.datum.specs.declared.Date.{Date}
 use Rattle.datum.specs.declared.Index.the-variants.{Day, NoDate}
-use Rattle.datum.specs.Calendar.{leap, yearStart, yearOf, months, monthLen, monthStart, monthOf, dateIn, dateOf, daysBefore, indexOf, valid}
-use Rattle.zaehlung.specs.Every.{run, run-at}
+use Rattle.datum.specs.Calendar.{isLeap, yearStart, yearOf, months, daysInMonth, monthStart, monthOf, dateIn, dateOf, daysBefore, indexOf, isDate}
+use Rattle.zaehlung.proofs.Every.{run, run-at}
 use Rattle.datum.proofs.Years.{closed, year-found, year-le, start-none}
 use Rattle.datum.proofs.Dates.{all-le, at-most, len-le, months-sum, month-first, start-month, month-found, valid-is, is-valid, len-ge, index-below, year-below}
 
 -- is_leap
-pub leap-not4 : (y : ℕ) → (y % 4 ≡ 0 → ⊥) → false ≡ leap y
-unfolding leap
+pub leap-not4 : (y : ℕ) → (y % 4 ≡ 0 → ⊥) → false ≡ isLeap y
+unfolding isLeap
 leap-not4 y h = rw (ne-eqb (y % 4) 0 h)
 
-pub leap-not100 : (y : ℕ) → y % 4 ≡ 0 → (y % 100 ≡ 0 → ⊥) → true ≡ leap y
-unfolding leap
+pub leap-not100 : (y : ℕ) → y % 4 ≡ 0 → (y % 100 ≡ 0 → ⊥) → true ≡ isLeap y
+unfolding isLeap
 leap-not100 y g h = rw (eq-eqb (y % 4) 0 g, ne-eqb (y % 100) 0 h)
 
-pub leap-400 : (y : ℕ) → y % 4 ≡ 0 → y % 100 ≡ 0 → eqb (y % 400) 0 ≡ leap y
-unfolding leap
+pub leap-400 : (y : ℕ) → y % 4 ≡ 0 → y % 100 ≡ 0 → eqb (y % 400) 0 ≡ isLeap y
+unfolding isLeap
 leap-400 y g h = rw (eq-eqb (y % 4) 0 g, eq-eqb (y % 100) 0 h)
 
 -- days_in_month
-pub len-none : (l : Bool) (m : ℕ) → 12 < m → 0 ≡ monthLen l m
-unfolding monthLen
+pub len-none : (l : Bool) (m : ℕ) → 12 < m → 0 ≡ daysInMonth l m
+unfolding daysInMonth
 len-none l m h = sym (List·getD-eq-default (months l) 0 h)
 
-pub len-leap : (l : Bool) (m : ℕ) → m ≡ 2 → l ≡ true → 29 ≡ monthLen l m
-unfolding monthLen
+pub len-leap : (l : Bool) (m : ℕ) → m ≡ 2 → l ≡ true → 29 ≡ daysInMonth l m
+unfolding daysInMonth
 len-leap l m e t = rw (e, t)
 
-pub len-february : (l : Bool) (m : ℕ) → m ≡ 2 → l ≡ false → 28 ≡ monthLen l m
-unfolding monthLen
+pub len-february : (l : Bool) (m : ℕ) → m ≡ 2 → l ≡ false → 28 ≡ daysInMonth l m
+unfolding daysInMonth
 len-february l m e t = rw (e, t)
 
-pub len-other : (l : Bool) (m : ℕ) → (m ≡ 2 → ⊥) → getD (0 ∷ 31 ∷ 28 ∷ 31 ∷ 30 ∷ 31 ∷ 30 ∷ 31 ∷ 31 ∷ 30 ∷ 31 ∷ 30 ∷ 31 ∷ []) m 0 ≡ monthLen l m
-unfolding monthLen
+pub len-other : (l : Bool) (m : ℕ) → (m ≡ 2 → ⊥) → getD (0 ∷ 31 ∷ 28 ∷ 31 ∷ 30 ∷ 31 ∷ 30 ∷ 31 ∷ 31 ∷ 30 ∷ 31 ∷ 30 ∷ 31 ∷ []) m 0 ≡ daysInMonth l m
+unfolding daysInMonth
 len-other l zero h = refl
 len-other l (suc zero) h = refl
 len-other l (suc (suc zero)) h = absurd (h refl)
 len-other l (suc (suc (suc m))) h = refl
 
--- month_start: the table of a common year, one more after a leap year's February
+-- month_start: the table of a common year, one more after a isLeap year's February
 abbrev pub before : List ℕ
 before = 0 ∷ 0 ∷ 31 ∷ 59 ∷ 90 ∷ 120 ∷ 151 ∷ 181 ∷ 212 ∷ 243 ∷ 273 ∷ 304 ∷ 334 ∷ 365 ∷ []
 
@@ -62,15 +63,15 @@ agrees : Bool → ℕ → ℕ → Bool
 agrees l x m = eqb (getD before m 0 + x) (monthStart l m)
 
 common : run (agrees false 0) 14 0 ≡ true
-unfolding run agrees start monthLen
+unfolding run agrees start daysInMonth
 common = refl
 
 early : run (agrees true 0) 3 0 ≡ true
-unfolding run agrees start monthLen
+unfolding run agrees start daysInMonth
 early = refl
 
 late : run (agrees true 1) 11 3 ≡ true
-unfolding run agrees start monthLen
+unfolding run agrees start daysInMonth
 late = refl
 
 pub start-common : (l : Bool) (m : ℕ) → m ≤ 13 → l ≡ false → getD before m 0 ≡ monthStart l m
@@ -151,7 +152,7 @@ month-is l r m s g h a e b = sym (ap (λ (p : ℕ × ℕ). p .0) (month-found l 
 pub ruleset month-rules = (guess-by, guess-le, month-again, month-less, month-is)
 
 -- days_before
-module _ (d : Date) (v : valid d ≡ true) where
+module _ (d : Date) (v : isDate d ≡ true) where
   pub year-by : 1996 ≤ d .year
   year-by = valid-is d v .from
 
@@ -164,52 +165,52 @@ module _ (d : Date) (v : valid d ≡ true) where
   pub day-some : 1 ≤ d .day
   day-some = valid-is d v .day-from
 
-  pub days-are : (l : Bool) (s t : ℕ) → l ≡ leap (d .year) → s ≡ yearStart (d .year - 1996) → t ≡ monthStart l (d .month) → s + t + (d .day - 1) ≡ daysBefore d
+  pub days-are : (l : Bool) (s t : ℕ) → l ≡ isLeap (d .year) → s ≡ yearStart (d .year - 1996) → t ≡ monthStart l (d .month) → s + t + (d .day - 1) ≡ daysBefore d
   days-are l s t g p q = rw (← g, p, q)
 
-  pub days-few : (l : Bool) (s t : ℕ) → l ≡ leap (d .year) → s ≡ yearStart (d .year - 1996) → t ≡ monthStart l (d .month) → s + t + (d .day - 1) ≤ last
+  pub days-few : (l : Bool) (s t : ℕ) → l ≡ isLeap (d .year) → s ≡ yearStart (d .year - 1996) → t ≡ monthStart l (d .month) → s + t + (d .day - 1) ≤ last
   days-few l s t g p q = omega (arith, days-are l s t g p q, index-below d (valid-is d v))
 
 pub ruleset days-rules = (year-by, year-few, month-by-13, day-some, days-are, days-few)
 
 -- is_date
 module _ (d : Date) where
-  pub too-early : d .year < 1996 → false ≡ valid d
-  unfolding valid
+  pub too-early : d .year < 1996 → false ≡ isDate d
+  unfolding isDate
   too-early a = rw (lt-leb 1996 (d .year) a)
 
-  pub too-late : 1996 ≤ d .year → 2899 < d .year → false ≡ valid d
-  unfolding valid
+  pub too-late : 1996 ≤ d .year → 2899 < d .year → false ≡ isDate d
+  unfolding isDate
   too-late a b = rw (le-leb 1996 (d .year) a, lt-leb (d .year) 2899 b)
 
   module _ (a : 1996 ≤ d .year) (b : d .year ≤ 2899) where
-    pub no-month : d .month < 1 → false ≡ valid d
-    unfolding valid
+    pub no-month : d .month < 1 → false ≡ isDate d
+    unfolding isDate
     no-month c = rw (le-leb 1996 (d .year) a, le-leb (d .year) 2899 b, lt-leb 1 (d .month) c)
 
-    pub month-over : 1 ≤ d .month → 12 < d .month → false ≡ valid d
-    unfolding valid
+    pub month-over : 1 ≤ d .month → 12 < d .month → false ≡ isDate d
+    unfolding isDate
     month-over c e = rw (le-leb 1996 (d .year) a, le-leb (d .year) 2899 b, le-leb 1 (d .month) c, lt-leb (d .month) 12 e)
 
     module _ (c : 1 ≤ d .month) (e : d .month ≤ 12) where
-      pub no-day : d .day < 1 → false ≡ valid d
-      unfolding valid
+      pub no-day : d .day < 1 → false ≡ isDate d
+      unfolding isDate
       no-day f = rw (le-leb 1996 (d .year) a, le-leb (d .year) 2899 b, le-leb 1 (d .month) c, le-leb (d .month) 12 e, lt-leb 1 (d .day) f)
 
-      pub in-every-month : 1 ≤ d .day → d .day ≤ 28 → true ≡ valid d
+      pub in-every-month : 1 ≤ d .day → d .day ≤ 28 → true ≡ isDate d
       in-every-month f h =
-          sym (is-valid d (record { from = a; to = b; month-from = c; month-to = e; day-from = f; day-to = omega (arith, len-ge (leap (d .year)) (d .month) c e) }))
+          sym (is-valid d (record { from = a; to = b; month-from = c; month-to = e; day-from = f; day-to = omega (arith, len-ge (isLeap (d .year)) (d .month) c e) }))
 
       -- l and n are what `is_leap` and `days_in_month` returned
-      pub by-length : (l : Bool) (n : ℕ) → 1 ≤ d .day → l ≡ leap (d .year) → n ≡ monthLen l (d .month) → leb (d .day) n ≡ valid d
-      unfolding valid
+      pub by-length : (l : Bool) (n : ℕ) → 1 ≤ d .day → l ≡ isLeap (d .year) → n ≡ daysInMonth l (d .month) → leb (d .day) n ≡ isDate d
+      unfolding isDate
       by-length l n f g h = rw (le-leb 1996 (d .year) a, le-leb (d .year) 2899 b, le-leb 1 (d .month) c, le-leb (d .month) 12 e, le-leb 1 (d .day) f, ← g, h)
 
 pub ruleset valid-rules = (too-early, too-late, no-month, month-over, no-day, in-every-month, by-length)
 
 -- index_of: b is what `is_date` returned, r what `days_before` did
-module _ (d : Date) (b : Bool) (g : b ≡ valid d) where
-  pub is-asked : b ≡ true → valid d ≡ true
+module _ (d : Date) (b : Bool) (g : b ≡ isDate d) where
+  pub is-asked : b ≡ true → isDate d ≡ true
   is-asked t = sym g ∙ t
 
   pub has-day : (r : ℕ) → b ≡ true → r ≡ daysBefore d → Day r ≡ indexOf d
@@ -223,18 +224,18 @@ module _ (d : Date) (b : Bool) (g : b ≡ valid d) where
 pub ruleset index-rules = (is-asked, has-day, no-date)
 
 -- date_of: y and x are the year and the day in it that `year_of` returned
-module _ (i y x : ℕ) (h : i ≤ last) (e : y ≡ yearOf i .0) (f : x ≡ yearOf i .1) (l : Bool) (g : l ≡ leap (1996 + y)) where
+module _ (i y x : ℕ) (h : i ≤ last) (e : y ≡ yearOf i .0) (f : x ≡ yearOf i .1) (l : Bool) (g : l ≡ isLeap (1996 + y)) where
   pub day-in-year : x < 365 + bit l
   day-in-year = rw (g, e, f) (year-below i h)
 
   module _ (m s : ℕ) (p : m ≡ monthOf l x .0) (q : s ≡ monthStart l m) where
-    parts : (s + monthOf l x .1 ≡ x) × (monthOf l x .1 < monthLen l m) × (monthOf l x .1 < 31)
+    parts : (s + monthOf l x .1 ≡ x) × (monthOf l x .1 < daysInMonth l m) × (monthOf l x .1 < 31)
     parts =
         let d = day-in-year in
-        let a = at-sum (monthLen l) 11 1 x in
-        let b = at-below (monthLen l) 11 1 x (omega (arith, months-sum l, month-first l)) in
+        let a = at-sum (daysInMonth l) 11 1 x in
+        let b = at-below (daysInMonth l) 11 1 x (omega (arith, months-sum l, month-first l)) in
         let c = ap (monthStart l) p in
-        let k = ap (monthLen l) p in
+        let k = ap (daysInMonth l) p in
         let n = len-le l m in
         omega (arith, month-first l)
 

@@ -1,15 +1,15 @@
 -- The Gregorian calendar from 1 January 1996 to 31 December 2899.
---   leap y          = whether y is a leap year
---   monthLen l m    = days of month m, counted from 1, in a leap (l) or a common year; 0 for no month
+--   isLeap y          = whether y is a isLeap year
+--   daysInMonth l m    = days of month m, counted from 1, in a isLeap (l) or a common year; 0 for no month
 --   monthStart l m  = days of the year before month m
 --   yearLen k       = days of the year 1996 + k
 --   yearStart k     = days from 1 January 1996 to 1 January of the year 1996 + k
---   valid d         = whether d is a date of the range
+--   isDate d         = whether d is a date of the range
 --   indexOf d       = the index of a date, counted from 1 January 1996, or NoDate
 --   yearOf i        = the year of the day with index i, counted from 1996, and the day in it, counted from 0
 --   monthOf l r     = the month of day r of a year, and the day in it, counted from 0
 --   dateOf i        = the date of the day with index i
---   weekdayOf i     = the weekday of that day, Monday 0 to Sunday 6
+--   weekday i     = the weekday of that day, Monday 0 to Sunday 6
 -- Source: document 01, first paragraph; the Gregorian calendar.
 use Prim.Native.Nat.{ℕ, _+_, _-_, _%_}
 use mathlib.Core.Bool.{Bool, not, _&&_, _||_, cond}
@@ -23,48 +23,48 @@ use Rattle.datum.specs.declared.Index.{Index}
 use Rattle.datum.specs.declared.Index.the-variants.{Day, NoDate}
 
 -- every fourth year, of the full hundreds every fourth
-unfoldable pub leap : ℕ → Bool
-leap y = eqb (y % 4) 0 && (not (eqb (y % 100) 0) || eqb (y % 400) 0)
+unfoldable pub isLeap : ℕ → Bool
+isLeap y = eqb (y % 4) 0 && (not (eqb (y % 100) 0) || eqb (y % 400) 0)
 
 abbrev pub months : Bool → List ℕ
 months l = 0 ∷ 31 ∷ (28 + bit l) ∷ 31 ∷ 30 ∷ 31 ∷ 30 ∷ 31 ∷ 31 ∷ 30 ∷ 31 ∷ 30 ∷ 31 ∷ []
 
-unfoldable pub monthLen : Bool → ℕ → ℕ
-monthLen l m = getD (months l) m 0
+unfoldable pub daysInMonth : Bool → ℕ → ℕ
+daysInMonth l m = getD (months l) m 0
 
 abbrev pub monthStart : Bool → ℕ → ℕ
-monthStart l m = start (monthLen l) m
+monthStart l m = start (daysInMonth l) m
 
 unfoldable pub yearLen : ℕ → ℕ
-yearLen k = 365 + bit (leap (1996 + k))
+yearLen k = 365 + bit (isLeap (1996 + k))
 
 abbrev pub yearStart : ℕ → ℕ
 yearStart k = start yearLen k
 
-unfoldable pub valid : Date → Bool
-valid d =
-    leb 1996 (d .year) && (leb (d .year) 2899 && (leb 1 (d .month) && (leb (d .month) 12 && (leb 1 (d .day) && leb (d .day) (monthLen (leap (d .year)) (d .month))))))
+unfoldable pub isDate : Date → Bool
+isDate d =
+    leb 1996 (d .year) && (leb (d .year) 2899 && (leb 1 (d .month) && (leb (d .month) 12 && (leb 1 (d .day) && leb (d .day) (daysInMonth (isLeap (d .year)) (d .month))))))
 
 -- the days of the years, of the months and of the month before a date
 abbrev pub daysBefore : Date → ℕ
-daysBefore d = yearStart (d .year - 1996) + monthStart (leap (d .year)) (d .month) + (d .day - 1)
+daysBefore d = yearStart (d .year - 1996) + monthStart (isLeap (d .year)) (d .month) + (d .day - 1)
 
 unfoldable pub indexOf : Date → Index
-indexOf d = cond (valid d) (Day (daysBefore d)) NoDate
+indexOf d = cond (isDate d) (Day (daysBefore d)) NoDate
 
 abbrev pub yearOf : ℕ → ℕ × ℕ
 yearOf i = at yearLen 903 0 i
 
 abbrev pub monthOf : Bool → ℕ → ℕ × ℕ
-monthOf l r = at (monthLen l) 11 1 r
+monthOf l r = at (daysInMonth l) 11 1 r
 
 -- the date of day r of the year 1996 + k
 unfoldable pub dateIn : ℕ → ℕ → Date
-dateIn k r = let m = monthOf (leap (1996 + k)) r in record { year = 1996 + k; month = m .0; day = m .1 + 1 }
+dateIn k r = let m = monthOf (isLeap (1996 + k)) r in record { year = 1996 + k; month = m .0; day = m .1 + 1 }
 
 unfoldable pub dateOf : ℕ → Date
 dateOf i = let y = yearOf i in dateIn (y .0) (y .1)
 
 -- 1 January 1996 was a Monday
-abbrev pub weekdayOf : ℕ → ℕ
-weekdayOf i = i % 7
+abbrev pub weekday : ℕ → ℕ
+weekday i = i % 7

@@ -6,9 +6,9 @@ ghost use mathlib.Core.Path.{_≡_};
 ghost use Prim.Native.Nat.{_+_, _-_, _*_, _≤_, _<_};
 ghost use lib.IntN.{pos};
 ghost use Rattle.zaehlung.specs.Walk.{last, bit};
-ghost use Rattle.datum.specs.Calendar.{leap, yearStart, yearOf, monthLen, monthStart, monthOf, valid, daysBefore, indexOf, dateOf, weekdayOf};
+ghost use Rattle.datum.specs.Calendar.{isLeap, yearStart, yearOf, daysInMonth, monthStart, monthOf, isDate, daysBefore, indexOf, dateOf, weekday};
 ghost use Rattle.datum.specs.Floor.{floorDiv, floorMod};
-ghost use Rattle.datum.specs.MonthShift.{ordinal, inMonth, onMonth, addMonths, subtractMonths};
+ghost use Rattle.datum.specs.MonthShift.{ordinalOf, inMonth, onMonth, addMonths, subtractMonths};
 
 pub const FIRST_YEAR: u16 = 1996;
 
@@ -35,7 +35,7 @@ pub enum Shifted {
 
 /// Every fourth year, of the full hundreds every fourth: 2000 was one, 2100 is none.
 pub fn is_leap(year: u16) -> bool
-    ensures { λ r. ⌜ r ≡ leap year ⌝ }
+    ensures { λ r. ⌜ r ≡ isLeap year ⌝ }
 {
     if year % 4 != 0 {
         return false;
@@ -50,7 +50,7 @@ const DAYS_IN_MONTH: [u8; 13] = [0, 31, 28, 31, 30, 31, 30, 31, 31, 30, 31, 30, 
 
 /// Months 0 and above 12 have no days.
 pub fn days_in_month(leap: bool, month: u8) -> u8
-    ensures { λ r. ⌜ (r ≡ monthLen leap month) × (r ≤ 31) ⌝ }
+    ensures { λ r. ⌜ (r ≡ daysInMonth leap month) × (r ≤ 31) ⌝ }
 {
     if 12 < month {
         return 0;
@@ -144,7 +144,7 @@ fn month_of(leap: bool, day: u32) -> u32
 
 /// The index of a date of the range.
 pub fn days_before(date: Date) -> u32
-    requires { ⌜ valid date ≡ true ⌝ }
+    requires { ⌜ isDate date ≡ true ⌝ }
     ensures { λ r. ⌜ (r ≡ daysBefore date) × (r ≤ last) ⌝ }
 {
     let k = (date.year - FIRST_YEAR) as u32;
@@ -159,7 +159,7 @@ const SHORTEST_MONTH: u8 = 28;
 
 /// Whether three numbers are a date of the range. 29 February 2026 is none.
 pub fn is_date(date: Date) -> bool
-    ensures { λ r. ⌜ r ≡ valid date ⌝ }
+    ensures { λ r. ⌜ r ≡ isDate date ⌝ }
 {
     let year = date.year;
     let month = date.month;
@@ -214,7 +214,7 @@ pub fn date_of(index: u32) -> Date
 
 /// Monday is 0: 1 January 1996 was a Monday.
 pub fn weekday(index: u32) -> u32
-    ensures { λ r. ⌜ r ≡ weekdayOf index ⌝ }
+    ensures { λ r. ⌜ r ≡ weekday index ⌝ }
 {
     index % 7
 }
@@ -278,7 +278,7 @@ fn on_month(t: i64, day: u8) -> Shifted
 /// The number of a date's month, counted from January of year 0.
 fn ordinal_of(date: Date) -> i64
     requires { ⌜ 1 ≤ date .month ⌝ }
-    ensures { λ r. ⌜ r ≡ pos (ordinal date) ⌝ }
+    ensures { λ r. ⌜ r ≡ pos (ordinalOf date) ⌝ }
 {
     let months = (date.year as u32) * 12 + ((date.month as u32) - 1);
     months as i64

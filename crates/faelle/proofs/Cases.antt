@@ -8,10 +8,10 @@ use lib.IntN.{pos}
 use Rattle.zaehlung.specs.Walk.{up, down, past, first, among, add, sub, next, W, between}
 use Rattle.zaehlung.specs.Blocks.{start, at}
 use Rattle.datum.specs.declared.Date.{Date}
-use Rattle.datum.specs.Calendar.{leap, monthLen, yearLen, valid, indexOf, dateIn, dateOf}
+use Rattle.datum.specs.Calendar.{isLeap, daysInMonth, yearLen, isDate, indexOf, dateIn, dateOf}
 use Rattle.datum.specs.MonthShift.{inMonth, onMonth, addMonths, subtractMonths}
 use Rattle.werktag.specs.Easter.{easterSunday, easterIndex}
-use Rattle.werktag.specs.Werktag.{any, isFixed, isBussUndBettag, isEasterFeast, isHoliday, werktag}
+use Rattle.werktag.specs.Werktag.{any, isFixed, isBussUndBettag, isEasterFeast, isBdewMakoHoliday, isWerktag}
 use Rattle.berlin.specs.Berlin.{readInstant, readClock, lastSunday, yearAt, offset, berlinAt, berlinMidnight, endOfDayBerlin, tagesbeginnUtc}
 use Rattle.fristen.specs.Fristen.{before, later, contrlSeconds, inWindow, toleratedIn, tolerated, contrlDueAt, nthWerktagAt}
 use Rattle.fristen.specs.Antwort.{sameDayAt, dueAt}
@@ -68,5 +68,5 @@ pub cases :
           ∷ instantAnswer 0 (pos 1768215600) 0
           ∷ [],
     )
-unfolding indexOf valid start at leap monthLen yearLen dateIn dateOf inMonth onMonth addMonths subtractMonths up down past first among add sub next W between easterSunday easterIndex any isFixed isBussUndBettag isEasterFeast isHoliday werktag readInstant readClock lastSunday yearAt offset berlinAt berlinMidnight endOfDayBerlin tagesbeginnUtc before later contrlSeconds inWindow toleratedIn tolerated contrlDueAt nthWerktagAt sameDayAt dueAt monthsLater monthsEarlier M dayAfter dayAfterNext checkOf spanOf kindAnswer dateAnswer instantAnswer verdictAnswer spanAnswer refusedWith isWerktagAnswer addWerktageAnswer berlinAtAnswer tagesbeginnUtcAnswer contrlAnswer fristAnswer vorlaufCheckAnswer vorlaufSpanAnswer
+unfolding indexOf isDate start at isLeap daysInMonth yearLen dateIn dateOf inMonth onMonth addMonths subtractMonths up down past first among add sub next W between easterSunday easterIndex any isFixed isBussUndBettag isEasterFeast isBdewMakoHoliday isWerktag readInstant readClock lastSunday yearAt offset berlinAt berlinMidnight endOfDayBerlin tagesbeginnUtc before later contrlSeconds inWindow toleratedIn tolerated contrlDueAt nthWerktagAt sameDayAt dueAt monthsLater monthsEarlier M dayAfter dayAfterNext checkOf spanOf kindAnswer dateAnswer instantAnswer verdictAnswer spanAnswer refusedWith isWerktagAnswer addWerktageAnswer berlinAtAnswer tagesbeginnUtcAnswer contrlAnswer fristAnswer vorlaufCheckAnswer vorlaufSpanAnswer
 cases = refl

@@ -20,9 +20,9 @@ use borrow.Author.Tests.{ltb-true, ne-eqb}
 use Rattle.zaehlung.specs.declared.Step.{Step}
 use Rattle.zaehlung.specs.declared.Step.the-variants.{Day, Outside as Left}
 use Rattle.zaehlung.specs.Walk.{last, add}
-use Rattle.zaehlung.specs.Laws.{add-iff}
+use Rattle.zaehlung.proofs.Laws.{add-iff}
 use Rattle.werktag.specs.declared.HolidayCalendar.{HolidayCalendar}
-use Rattle.werktag.specs.Werktag.{werktag}
+use Rattle.werktag.specs.Werktag.{isWerktag}
 use Rattle.berlin.specs.declared.Moment.{Moment}
 use Rattle.berlin.specs.declared.Clock.{Clock}
 use Rattle.berlin.specs.declared.Resolved.{Resolved}
@@ -108,16 +108,16 @@ pub nth-never : (m : Moment) (n : ℕ) (c : Clock) (cal : HolidayCalendar) → P
 unfolding nthWerktagAt
 nth-never m n c cal p k e =
     let d = receiptDay m in
-    step-absent (add (werktag cal) d (atLeastOne n)) (λ y. resolved (berlinAt y c))
+    step-absent (add (isWerktag cal) d (atLeastOne n)) (λ y. resolved (berlinAt y c))
     (λ y q.
-    let r = add-iff (werktag cal) d (atLeastOne n) y (day-le m p) (some n) .0 q in
+    let r = add-iff (isWerktag cal) d (atLeastOne n) y (day-le m p) (some n) .0 q in
     resolved-absent (berlinAt y c) (λ g. werktag-shown cal y c Never (r .2) k (r .0) (sym g) refl))
     e
 
 pub end-never : (m : Moment) (n : ℕ) (cal : HolidayCalendar) → endOfWerktagAfter m n cal ≡ Absent → ⊥
 unfolding endOfWerktagAfter
 end-never m n cal e =
-    step-absent (add (werktag cal) (receiptDay m) n) (λ y. At (endOfDayBerlin y)) (λ y _. at-is-not (endOfDayBerlin y)) e
+    step-absent (add (isWerktag cal) (receiptDay m) n) (λ y. At (endOfDayBerlin y)) (λ y _. at-is-not (endOfDayBerlin y)) e
 
 pub gas-never : (pid : ℕ) (m : Moment) (cal : HolidayCalendar) → Proper m → aperakGasDueAt pid m cal .due ≡ Absent → ⊥
 unfolding aperakGasDueAt
@@ -145,8 +145,8 @@ unfolding dueAt sameDayAt
 same-day-at-absent c m cal p k = (
   λ e.
       let d = receiptDay m in
-      clock-absent (berlinAt d c) (λ a. cond (werktag cal d && before m a) (At a) (nextWerktagAt m c cal))
-      (λ a. cond-absent (werktag cal d && before m a) (At a) (nextWerktagAt m c cal) (λ _. at-is-not a) (λ _. nth-never m 1 c cal p k))
+      clock-absent (berlinAt d c) (λ a. cond (isWerktag cal d && before m a) (At a) (nextWerktagAt m c cal))
+      (λ a. cond-absent (isWerktag cal d && before m a) (At a) (nextWerktagAt m c cal) (λ _. at-is-not a) (λ _. nth-never m 1 c cal p k))
       e,
   λ q. rw q,
 )

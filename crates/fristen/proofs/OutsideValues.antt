@@ -7,10 +7,10 @@ use mathlib.Core.List.{[], _∷_}
 use mathlib.Core.Path.{_≡_, refl}
 use Rattle.zaehlung.specs.Blocks.{start, at}
 use Rattle.zaehlung.specs.Walk.{up, add}
-use Rattle.datum.specs.Calendar.{leap, yearLen, monthLen, dateIn, dateOf}
+use Rattle.datum.specs.Calendar.{isLeap, yearLen, daysInMonth, dateIn, dateOf}
 use Rattle.werktag.specs.declared.HolidayCalendar.the-variants.{BdewMaKo}
 use Rattle.werktag.specs.Easter.{easterSunday, easterIndex}
-use Rattle.werktag.specs.Werktag.{any, isFixed, isBussUndBettag, isEasterFeast, isHoliday, werktag}
+use Rattle.werktag.specs.Werktag.{any, isFixed, isBussUndBettag, isEasterFeast, isBdewMakoHoliday, isWerktag}
 use Rattle.berlin.specs.declared.Moment.{Moment}
 use Rattle.berlin.specs.Berlin.{momentOf, lastSunday, yearAt, offset, berlinAt, berlinMidnight, endOfDayBerlin}
 use Rattle.fristen.specs.declared.Due.{Due}
@@ -36,7 +36,7 @@ pub contrl-windows :
     ≡ due 1774972799 ∷ due 1775080800
     ∷ due 1790783999 ∷ due 1790892000
     ∷ due 1790892000 ∷ due 1790892000 ∷ []
-unfolding contrlDueAt contrlSeconds later tolerated toleratedIn inWindow before berlinMidnight berlinAt offset yearAt lastSunday dateOf dateIn at start yearLen monthLen leap
+unfolding contrlDueAt contrlSeconds later tolerated toleratedIn inWindow before berlinMidnight berlinAt offset yearAt lastSunday dateOf dateIn at start yearLen daysInMonth isLeap
 contrl-windows = refl
 
 -- Wednesday 9 September 2026 09:00 UTC: 6 hours, 15 and 45 minutes; Friday 10 January 2025 23:30 UTC, 'already Saturday in Germany': 6 hours, and an
@@ -46,14 +46,14 @@ pub contrl-days :
     ∷ contrlDueAt (m 1736551800) StromUtilmdOderOrders ∷ contrlDueAt (m 1736548200) StromUtilmdOderOrders ∷ []
     ≡ due 1788966000 ∷ due 1788945300 ∷ due 1788947100
     ∷ due 1736573400 ∷ due 1736549100 ∷ []
-unfolding contrlDueAt contrlSeconds later tolerated toleratedIn inWindow before berlinMidnight berlinAt offset yearAt lastSunday dateOf dateIn at start yearLen monthLen leap
+unfolding contrlDueAt contrlSeconds later tolerated toleratedIn inWindow before berlinMidnight berlinAt offset yearAt lastSunday dateOf dateIn at start yearLen daysInMonth isLeap
 contrl-days = refl
 
 -- Monday 6 January 2025 10:00 UTC: 45 minutes; Saturday 11 January: Sunday 12:00; that Sunday: 45 minutes; the last instant of the calendar: outside
 pub strom :
     aperakStromDueAt (m 1736157600) ∷ aperakStromDueAt (m 1736586000) ∷ aperakStromDueAt (m 1736672400) ∷ aperakStromDueAt (m 29348002799) ∷ []
     ≡ due 1736160300 ∷ due 1736679600 ∷ due 1736675100 ∷ Outside ∷ []
-unfolding aperakStromDueAt dayAfter later berlinAt offset yearAt lastSunday dateOf dateIn at start yearLen monthLen leap
+unfolding aperakStromDueAt dayAfter later berlinAt offset yearAt lastSunday dateOf dateIn at start yearLen daysInMonth isLeap
 strom = refl
 
 -- Monday 6 January 2025 10:00 UTC: Tuesday 12:00; Friday 10 January 14:00, the clock 11:00: Monday 13 January, also for the 0th Werktag; 5 Werktage from
@@ -63,14 +63,14 @@ pub werktage :
     ∷ deadlineAtWerktage (m 1736121600) 5 BdewMaKo ∷ deadlineAtWerktage (m 1736121600) 0 BdewMaKo ∷ []
     ≡ due 1736247600 ∷ due 1736762400 ∷ due 1736762400
     ∷ At (momentOf 1736809199 999999999) ∷ At (momentOf 1736204399 999999999) ∷ []
-unfolding nthWerktagAt endOfWerktagAfter add up werktag isHoliday isFixed isBussUndBettag isEasterFeast any easterIndex easterSunday endOfDayBerlin berlinAt offset yearAt lastSunday dateOf dateIn at start yearLen monthLen leap
+unfolding nthWerktagAt endOfWerktagAfter add up isWerktag isBdewMakoHoliday isFixed isBussUndBettag isEasterFeast any easterIndex easterSunday endOfDayBerlin berlinAt offset yearAt lastSunday dateOf dateIn at start yearLen daysInMonth isLeap
 werktage = refl
 
 -- Monday 6 January 2025 10:00 UTC: 44001, Anmeldung NN, has the end of Thursday 9 January; 44051, 'Ende MSB', is a follow-up
 pub gas :
     aperakGasDueAt 44001 (m 1736157600) BdewMaKo ∷ aperakGasDueAt 44051 (m 1736157600) BdewMaKo ∷ []
     ≡ record { initial = true; due = At (momentOf 1736463599 999999999) } ∷ record { initial = false; due = due 1736247600 } ∷ []
-unfolding aperakGasDueAt isInitial nthWerktagAt endOfWerktagAfter add up werktag isHoliday isFixed isBussUndBettag isEasterFeast any easterIndex easterSunday endOfDayBerlin berlinAt offset yearAt lastSunday dateOf dateIn at start yearLen monthLen leap
+unfolding aperakGasDueAt isInitial nthWerktagAt endOfWerktagAfter add up isWerktag isBdewMakoHoliday isFixed isBussUndBettag isEasterFeast any easterIndex easterSunday endOfDayBerlin berlinAt offset yearAt lastSunday dateOf dateIn at start yearLen daysInMonth isLeap
 gas = refl
 
 -- 6 hours; none from the calendar's last instant, and one; the most that 32 bits hold
@@ -87,5 +87,5 @@ pub shapes :
     ∷ dueAt (SameDayAt (record { second = 9000; nanos = 0 })) (m 1774742400) BdewMaKo ∷ dueAt SameDay (m 1767956400) BdewMaKo ∷ []
     ≡ due 1768215600 ∷ due 1767956400
     ∷ Absent ∷ At (momentOf 1767999599 999999999) ∷ []
-unfolding dueAt sameDayAt before nthWerktagAt add up werktag isHoliday isFixed isBussUndBettag isEasterFeast any easterIndex easterSunday endOfDayBerlin berlinAt offset yearAt lastSunday dateOf dateIn at start yearLen monthLen leap
+unfolding dueAt sameDayAt before nthWerktagAt add up isWerktag isBdewMakoHoliday isFixed isBussUndBettag isEasterFeast any easterIndex easterSunday endOfDayBerlin berlinAt offset yearAt lastSunday dateOf dateIn at start yearLen daysInMonth isLeap
 shapes = refl

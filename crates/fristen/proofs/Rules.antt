@@ -18,12 +18,12 @@ use borrow.Author.Tests.{lt-ltb, le-ltb, le-leb, eq-eqb, ne-eqb, not-true, not-f
 use Rattle.zaehlung.specs.declared.Step.{Step}
 use Rattle.zaehlung.specs.declared.Step.the-variants.{Day, Outside as Left}
 use Rattle.zaehlung.specs.Walk.{last, add}
-use Rattle.zaehlung.specs.Laws.{add-inside}
+use Rattle.zaehlung.proofs.Laws.{add-inside}
 use Rattle.datum.specs.declared.Date.{Date}
-use Rattle.datum.specs.Calendar.{monthLen, valid, dateOf, weekdayOf}
+use Rattle.datum.specs.Calendar.{daysInMonth, isDate, dateOf, weekday}
 use Rattle.datum.proofs.Dates.{index-date}
 use Rattle.werktag.specs.declared.HolidayCalendar.{HolidayCalendar}
-use Rattle.werktag.specs.Werktag.{any, werktag}
+use Rattle.werktag.specs.Werktag.{any, isWerktag}
 use Rattle.werktag.proofs.Search.{search-hit, search-miss, search-none}
 use Rattle.berlin.specs.declared.Moment.{Moment}
 use Rattle.berlin.specs.declared.Clock.{Clock}
@@ -60,7 +60,7 @@ module _ (d : ℕ) (c : Clock) (x : Resolved) (e : x ≡ berlinAt d c) where
 pub ruleset clock-rules = (clock-shown, clock-absent, at-proper)
 
 -- is_saturday: x is what `weekday` returned
-pub saturday : (d x : ℕ) → x ≡ weekdayOf d → eqb x 5 ≡ isSaturday d
+pub saturday : (d x : ℕ) → x ≡ weekday d → eqb x 5 ≡ isSaturday d
 saturday d x e = rw e
 
 -- contrl_seconds: b is what `is_saturday` returned
@@ -126,20 +126,20 @@ pub ruleset window-rules = (no-opening, before-window, from-window)
 
 -- toleranz_in: the four dates are dates of every year of the calendar
 module _ (y : ℕ) (h : 1996 ≤ y) (k : y ≤ 2899) where
-  pub march-31 : valid (record { year = y; month = 3; day = 31 }) ≡ true
-  unfolding valid monthLen
+  pub march-31 : isDate (record { year = y; month = 3; day = 31 }) ≡ true
+  unfolding isDate daysInMonth
   march-31 = rw (le-leb 1996 y h, le-leb y 2899 k)
 
-  pub april-2 : valid (record { year = y; month = 4; day = 2 }) ≡ true
-  unfolding valid monthLen
+  pub april-2 : isDate (record { year = y; month = 4; day = 2 }) ≡ true
+  unfolding isDate daysInMonth
   april-2 = rw (le-leb 1996 y h, le-leb y 2899 k)
 
-  pub september-30 : valid (record { year = y; month = 9; day = 30 }) ≡ true
-  unfolding valid monthLen
+  pub september-30 : isDate (record { year = y; month = 9; day = 30 }) ≡ true
+  unfolding isDate daysInMonth
   september-30 = rw (le-leb 1996 y h, le-leb y 2899 k)
 
-  pub october-2 : valid (record { year = y; month = 10; day = 2 }) ≡ true
-  unfolding valid monthLen
+  pub october-2 : isDate (record { year = y; month = 10; day = 2 }) ≡ true
+  unfolding isDate daysInMonth
   october-2 = rw (le-leb 1996 y h, le-leb y 2899 k)
 
 -- a and b, v and w are the days of the windows, f and g what `in_window` returned
@@ -236,12 +236,12 @@ pub one-or-more : (n : ℕ) → (n ≡ 0 → ⊥) → n ≡ atLeastOne n
 one-or-more n h = rw (ne-eqb n 0 h)
 
 -- nth_werktag_at, end_of_werktag_after: d is the receipt day, x the step of k Werktage from it
-module _ (m : Moment) (n k d : ℕ) (cal : HolidayCalendar) (x : Step) (p : d ≡ receiptDay m) (e : x ≡ add (werktag cal) d k) where
+module _ (m : Moment) (n k d : ℕ) (cal : HolidayCalendar) (x : Step) (p : d ≡ receiptDay m) (e : x ≡ add (isWerktag cal) d k) where
   pub reached : (y : ℕ) → d ≤ last → x ≡ Day y → y ≤ last
-  reached y h q = add-inside (werktag cal) d k y h (sym e ∙ q)
+  reached y h q = add-inside (isWerktag cal) d k y h (sym e ∙ q)
 
-  step-is : (y : Step) → x ≡ y → add (werktag cal) (receiptDay m) k ≡ y
-  step-is y q = ap (λ (z : ℕ). add (werktag cal) z k) (sym p) ∙ sym e ∙ q
+  step-is : (y : Step) → x ≡ y → add (isWerktag cal) (receiptDay m) k ≡ y
+  step-is y q = ap (λ (z : ℕ). add (isWerktag cal) z k) (sym p) ∙ sym e ∙ q
 
   pub nth-out : (c : Clock) → k ≡ atLeastOne n → x ≡ Left → Outside ≡ nthWerktagAt m n c cal
   unfolding nthWerktagAt
@@ -270,9 +270,9 @@ module _ (m : Moment) (c : Clock) (cal : HolidayCalendar) (d : ℕ) (x : Resolve
   unfolding sameDayAt
   same-absent q = rw (shown-is Never q)
 
-  module _ (a : Moment) (q : x ≡ Shown a) (b : Bool) (k : b ≡ werktag cal d) where
-    open-is : (y : Bool) → b ≡ y → werktag cal (receiptDay m) ≡ y
-    open-is y z = ap (werktag cal) (sym p) ∙ sym k ∙ z
+  module _ (a : Moment) (q : x ≡ Shown a) (b : Bool) (k : b ≡ isWerktag cal d) where
+    open-is : (y : Bool) → b ≡ y → isWerktag cal (receiptDay m) ≡ y
+    open-is y z = ap (isWerktag cal) (sym p) ∙ sym k ∙ z
 
     pub same-shut : (r : Due) → not b ≡ true → r ≡ nextWerktagAt m c cal → r ≡ sameDayAt m c cal
     unfolding sameDayAt

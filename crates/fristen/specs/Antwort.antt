@@ -7,7 +7,7 @@
 -- Source: document 01, antwort.rs; GPKE Teil 2, 'Spätester ÜZ ist .. Uhr am ÜT', and the second window that it gives, '.. Uhr des 1. WT nach dem ÜT'.
 use mathlib.Core.Bool.{_&&_, cond}
 use Rattle.werktag.specs.declared.HolidayCalendar.{HolidayCalendar}
-use Rattle.werktag.specs.Werktag.{werktag}
+use Rattle.werktag.specs.Werktag.{isWerktag}
 use Rattle.berlin.specs.declared.Moment.{Moment}
 use Rattle.berlin.specs.declared.Clock.{Clock}
 use Rattle.berlin.specs.declared.Resolved.{Resolved}
@@ -28,7 +28,7 @@ onClock Never f = Absent
 unfoldable pub sameDayAt : Moment → Clock → HolidayCalendar → Due
 sameDayAt m c cal =
     onClock (berlinAt (receiptDay m) c)
-    (λ a. cond (werktag cal (receiptDay m) && before m a) (At a) (nextWerktagAt m c cal))
+    (λ a. cond (isWerktag cal (receiptDay m) && before m a) (At a) (nextWerktagAt m c cal))
 
 -- 'Am selben Tag wie ..'
 abbrev pub sameDay : Moment → Due

@@ -36,9 +36,9 @@ use lib.Dec.{eqb, leb, ltb}
 use Rattle.zaehlung.specs.declared.Step.{Step}
 use Rattle.zaehlung.specs.declared.Step.the-variants.{Day, Outside as Left}
 use Rattle.zaehlung.specs.Walk.{last, add}
-use Rattle.datum.specs.Calendar.{daysBefore, dateOf, weekdayOf}
+use Rattle.datum.specs.Calendar.{daysBefore, dateOf, weekday}
 use Rattle.werktag.specs.declared.HolidayCalendar.{HolidayCalendar}
-use Rattle.werktag.specs.Werktag.{any, werktag}
+use Rattle.werktag.specs.Werktag.{any, isWerktag}
 use Rattle.berlin.specs.declared.Moment.{Moment}
 use Rattle.berlin.specs.declared.Clock.{Clock}
 use Rattle.berlin.specs.declared.Resolved.{Resolved}
@@ -90,7 +90,7 @@ receiptDay m = berlinDay (secondsOf m)
 
 -- Monday is 0
 abbrev pub isSaturday : ℕ → Bool
-isSaturday d = eqb (weekdayOf d) 5
+isSaturday d = eqb (weekday d) 5
 
 -- 'instants are compared': by seconds, then by nanoseconds
 unfoldable pub before : Moment → Moment → Bool
@@ -155,14 +155,14 @@ atLeastOne n = cond (eqb n 0) 1 n
 
 -- 'spätester ÜZ ist .. Uhr des n. WT nach dem ÜT'
 unfoldable pub nthWerktagAt : Moment → ℕ → Clock → HolidayCalendar → Due
-nthWerktagAt m n c cal = onStep (add (werktag cal) (receiptDay m) (atLeastOne n)) (λ d. resolved (berlinAt d c))
+nthWerktagAt m n c cal = onStep (add (isWerktag cal) (receiptDay m) (atLeastOne n)) (λ d. resolved (berlinAt d c))
 
 abbrev pub nextWerktagAt : Moment → Clock → HolidayCalendar → Due
 nextWerktagAt m c cal = nthWerktagAt m 1 c cal
 
 -- 'bis zum Ablauf des n. Werktags nach Eingang'
 unfoldable pub endOfWerktagAfter : Moment → ℕ → HolidayCalendar → Due
-endOfWerktagAfter m n cal = onStep (add (werktag cal) (receiptDay m) n) (λ d. At (endOfDayBerlin d))
+endOfWerktagAfter m n cal = onStep (add (isWerktag cal) (receiptDay m) n) (λ d. At (endOfDayBerlin d))
 
 -- 'Ablauf des n. WT' and 'spätester ÜT ist der n. WT' are one Frist
 abbrev pub deadlineAtWerktage : Moment → ℕ → HolidayCalendar → Due

@@ -17,9 +17,9 @@ use borrow.Author.Tests.{not-true, not-false}
 use Rattle.zaehlung.specs.declared.Step.{Step}
 use Rattle.zaehlung.specs.declared.Step.the-variants.{Day, Outside}
 use Rattle.zaehlung.specs.Walk.{last, bit, among, add, sub, next, between}
-use Rattle.zaehlung.specs.Turns.{up-edge, up-open, up-shut, down-edge, down-open, down-shut}
-use Rattle.zaehlung.specs.Turns.{first-edge, first-open, first-shut}
-use Rattle.zaehlung.specs.Laws.{add-none, sub-none, between-later}
+use Rattle.zaehlung.proofs.Turns.{up-edge, up-open, up-shut, down-edge, down-open, down-shut}
+use Rattle.zaehlung.proofs.Turns.{first-edge, first-open, first-shut}
+use Rattle.zaehlung.proofs.Laws.{add-none, sub-none, between-later}
 
 module _ (w : ℕ → Bool) where
   pub add-edge : (x : Step) (d n : ℕ) → x ≡ add w d n → last ≤ d → 0 < n → Outside ≡ x

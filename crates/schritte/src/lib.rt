@@ -3,7 +3,7 @@
 ghost use mathlib.Core.Path.{_≡_};
 ghost use Prim.Native.Nat.{_≤_};
 ghost use Rattle.zaehlung.specs.Walk.{last, add, sub, between, next};
-ghost use Rattle.werktag.specs.Werktag.{werktag};
+ghost use Rattle.werktag.specs.Werktag.{isWerktag};
 use werktag::HolidayCalendar;
 use zaehlung::FIRST;
 use zaehlung::LAST;
@@ -19,7 +19,7 @@ use zaehlung::Step;
 /// over Easter: Tuesday 7 April.
 pub fn add_werktage(from: u32, n: u32, cal: HolidayCalendar) -> Step
     requires { ⌜ from ≤ last ⌝ }
-    ensures { λ r. ⌜ r ≡ add (werktag cal) from n ⌝ }
+    ensures { λ r. ⌜ r ≡ add (isWerktag cal) from n ⌝ }
 {
     let mut current = from;
     let mut remaining = n;
@@ -45,7 +45,7 @@ pub fn add_werktage(from: u32, n: u32, cal: HolidayCalendar) -> Step
 /// Monday 13 January 2025 less 5 Werktage: Fri 10, Thu 9, Wed 8, Tue 7, and past Heilige Drei Könige Fri 3 January.
 pub fn sub_werktage(from: u32, n: u32, cal: HolidayCalendar) -> Step
     requires { ⌜ from ≤ last ⌝ }
-    ensures { λ r. ⌜ r ≡ sub (werktag cal) from n ⌝ }
+    ensures { λ r. ⌜ r ≡ sub (isWerktag cal) from n ⌝ }
 {
     let mut current = from;
     let mut remaining = n;
@@ -69,7 +69,7 @@ pub fn sub_werktage(from: u32, n: u32, cal: HolidayCalendar) -> Step
 /// From Monday 6 to Monday 13 January 2025: 5.
 pub fn werktage_between(from: u32, to: u32, cal: HolidayCalendar) -> u32
     requires { ⌜ (from ≤ last) × (to ≤ last) ⌝ }
-    ensures { λ r. ⌜ r ≡ between (werktag cal) from to ⌝ }
+    ensures { λ r. ⌜ r ≡ between (isWerktag cal) from to ⌝ }
 {
     let mut day = from;
     let mut count: u32 = 0;
@@ -89,7 +89,7 @@ pub fn werktage_between(from: u32, to: u32, cal: HolidayCalendar) -> u32
 /// From Sunday 12 January 2025: Monday 13 January. From that Monday: the same Monday.
 pub fn next_werktag(from: u32, cal: HolidayCalendar) -> Step
     requires { ⌜ from ≤ last ⌝ }
-    ensures { λ r. ⌜ r ≡ next (werktag cal) from ⌝ }
+    ensures { λ r. ⌜ r ≡ next (isWerktag cal) from ⌝ }
 {
     let mut day = from;
     while !werktag::is_werktag(day, cal) {

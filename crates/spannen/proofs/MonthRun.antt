@@ -20,75 +20,76 @@ use lib.IntN.{pos}
 use borrow.Author.Tests.{leb-true, le-leb, lt-leb}
 use Rattle.zaehlung.specs.declared.Step.the-variants.{Day, Outside}
 use Rattle.zaehlung.specs.Walk.{last}
-use Rattle.zaehlung.specs.Blocks.{start, start-suc}
-use Rattle.zaehlung.specs.Every.{run, run-at}
+use Rattle.zaehlung.specs.Blocks.{start}
+use Rattle.zaehlung.proofs.BlockLaws.{start-suc}
+use Rattle.zaehlung.proofs.Every.{run, run-at}
 use Rattle.datum.specs.declared.Date.{Date}
-use Rattle.datum.specs.Calendar.{leap, monthLen, monthStart, yearLen, yearStart, daysBefore, dateOf}
-use Rattle.datum.specs.MonthShift.{ordinal, inMonth, onMonth}
+use Rattle.datum.specs.Calendar.{isLeap, daysInMonth, monthStart, yearLen, yearStart, daysBefore, dateOf}
+use Rattle.datum.specs.MonthShift.{ordinalOf, inMonth, onMonth}
 use Rattle.datum.proofs.Dates.{Valid, yearLen-at, months-sum, month-first, index-date, index-below, date-index}
 use Rattle.datum.proofs.Years.{start-none}
 use Rattle.vorlauf.specs.Monate.{toStep}
 
 abbrev pub monthDays : ℕ → ℕ
-monthDays o = monthLen (leap (o / 12)) (o % 12 + 1)
+monthDays o = daysInMonth (isLeap (o / 12)) (o % 12 + 1)
 
 abbrev pub origin : ℕ
 origin = start monthDays (1996 * 12)
 
 abbrev hasDays : Bool → ℕ → Bool
-hasDays l m = leb 1 (monthLen l m)
+hasDays l m = leb 1 (daysInMonth l m)
 
 all-have : (l : Bool) → run (hasDays l) 12 1 ≡ true
-unfolding run monthLen
+unfolding run daysInMonth
 all-have true = refl
 all-have false = refl
 
 pub month-has : (o : ℕ) → 1 ≤ monthDays o
 month-has o =
-    let l : Bool = leap (o / 12) in
-    leb-true 1 (monthLen l (o % 12 + 1)) (run-at (hasDays l) 12 1 (all-have l) (o % 12 + 1) (omega arith) (omega arith))
+    let l : Bool = isLeap (o / 12) in
+    leb-true 1 (daysInMonth l (o % 12 + 1)) (run-at (hasDays l) 12 1 (all-have l) (o % 12 + 1) (omega arith) (omega arith))
 
 -- month j of year y, from 0 on
-month-at : (y j : ℕ) → j < 12 → monthDays (y * 12 + j) ≡ monthLen (leap y) (suc j)
+month-at : (y j : ℕ) → j < 12 → monthDays (y * 12 + j) ≡ daysInMonth (isLeap y) (suc j)
 month-at y j h =
     let q : (y * 12 + j) / 12 ≡ y = omega arith in
     let r : (y * 12 + j) % 12 + 1 ≡ suc j = omega arith in
     rw (q, r)
 
-year-run : (y j : ℕ) → j ≤ 12 → start monthDays (y * 12 + j) ≡ start monthDays (y * 12) + monthStart (leap y) (suc j)
-year-run y zero h = rw add-zero (omega (arith, month-first (leap y)))
+year-run : (y j : ℕ) → j ≤ 12 → start monthDays (y * 12 + j) ≡ start monthDays (y * 12) + monthStart (isLeap y) (suc j)
+year-run y zero h = rw add-zero (omega (arith, month-first (isLeap y)))
 year-run y (suc j) h =
     rw add-suc
-    (omega (arith, year-run y j (omega arith), start-suc monthDays (y * 12 + j), start-suc (monthLen (leap y)) (suc j), month-at y j (omega arith)))
+    (omega (arith, year-run y j (omega arith), start-suc monthDays (y * 12 + j), start-suc (daysInMonth (isLeap y)) (suc j), month-at y j (omega arith)))
 
 years-run : (k : ℕ) → start monthDays ((1996 + k) * 12) ≡ origin + yearStart k
 years-run zero = omega (arith, start-none)
 years-run (suc k) =
     let e : (1996 + suc k) * 12 ≡ (1996 + k) * 12 + 12 = omega arith in
     rw e
-    (omega (arith, years-run k, year-run (1996 + k) 12 (omega arith), months-sum (leap (1996 + k)), start-suc yearLen k, yearLen-at (1996 + k) k refl))
+    (omega (arith, years-run k, year-run (1996 + k) 12 (omega arith), months-sum (isLeap (1996 + k)), start-suc yearLen k, yearLen-at (1996 + k) k refl))
 
 pub date-run :
     (d : Date) → 1996 ≤ d .year → 1 ≤ d .month → d .month ≤ 12 →
-    daysBefore d + origin ≡ start monthDays (ordinal d) + (d .day - 1)
+    daysBefore d + origin ≡ start monthDays (ordinalOf d) + (d .day - 1)
 date-run d h g k =
     let y : ℕ = d .year in
     let e : 1996 + (y - 1996) ≡ y = omega arith in
     let a = ap (λ (x : ℕ). start monthDays (x * 12)) e in
     let q : suc (d .month - 1) ≡ d .month = omega arith in
-    let b = ap (monthStart (leap y)) q in
+    let b = ap (monthStart (isLeap y)) q in
     omega (arith, years-run (y - 1996), year-run y (d .month - 1) (omega arith))
 
 -- a day of the calendar: its month has the day
 pub day-run :
     (i : ℕ) → i ≤ last →
-    (i + origin ≡ start monthDays (ordinal (dateOf i)) + (dateOf i .day - 1)) × (1 ≤ dateOf i .day) × (dateOf i .day ≤ monthDays (ordinal (dateOf i)))
+    (i + origin ≡ start monthDays (ordinalOf (dateOf i)) + (dateOf i .day - 1)) × (1 ≤ dateOf i .day) × (dateOf i .day ≤ monthDays (ordinalOf (dateOf i)))
 day-run i h =
     let v = index-date i h in
     let d : Date = dateOf i in
     let m = month-at (d .year) (d .month - 1) (omega (arith, v .0 .month-to, v .0 .month-from)) in
     let q : suc (d .month - 1) ≡ d .month = omega (arith, v .0 .month-from) in
-    let b = ap (monthLen (leap (d .year))) q in
+    let b = ap (daysInMonth (isLeap (d .year))) q in
     (omega (arith, date-run d (v .0 .from) (v .0 .month-from) (v .0 .month-to)), v .0 .day-from, omega (arith, v .0 .day-to))
 
 -- the date that day x of the month numbered t becomes

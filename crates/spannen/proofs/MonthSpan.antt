@@ -10,7 +10,8 @@ use mathlib.Core.Logic.{_↔_}
 use mathlib.Core.Path.{_≡_, ap}
 use native.Mathlib.Omega.{arith}
 use native.Mathlib.Decide.{decLt}
-use Rattle.zaehlung.specs.Blocks.{start, start-suc, start-mono}
+use Rattle.zaehlung.specs.Blocks.{start}
+use Rattle.zaehlung.proofs.BlockLaws.{start-suc, start-mono}
 
 module _ (len : ℕ → ℕ) where
   abbrev pub backDay : ℕ → ℕ → ℕ → ℕ

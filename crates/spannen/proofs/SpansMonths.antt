@@ -16,9 +16,10 @@ use lib.IntN.{pos, pos-+ℤ-pos}
 use borrow.Author.Tests.{le-leb, lt-leb}
 use Rattle.zaehlung.specs.declared.Step.the-variants.{Day, Outside}
 use Rattle.zaehlung.specs.Walk.{last}
-use Rattle.zaehlung.specs.Blocks.{start, start-suc}
+use Rattle.zaehlung.specs.Blocks.{start}
+use Rattle.zaehlung.proofs.BlockLaws.{start-suc}
 use Rattle.datum.specs.Calendar.{dateOf}
-use Rattle.datum.specs.MonthShift.{ordinal, onMonth, addMonths, subtractMonths}
+use Rattle.datum.specs.MonthShift.{ordinalOf, onMonth, addMonths, subtractMonths}
 use Rattle.datum.proofs.Signed.{sub-pos, sub-neg}
 use Rattle.vorlauf.specs.Monate.{toStep, monthsLater, monthsEarlier, M}
 use Rattle.spannen.proofs.MonthSpan.{backDay, kept, cut}
@@ -26,7 +27,7 @@ use Rattle.spannen.proofs.MonthRun.{monthDays, origin, month-has, day-r
 
 -- the number of a day's month, and the day in it, from 0 on
 abbrev monthAt : ℕ → ℕ
-monthAt i = ordinal (dateOf i)
+monthAt i = ordinalOf (dateOf i)
 
 abbrev dayAt : ℕ → ℕ
 dayAt i = dateOf i .day - 1

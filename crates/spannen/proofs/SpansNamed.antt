@@ -18,9 +18,9 @@ use Rattle.zaehlung.specs.declared.Step.{Step}
 use Rattle.zaehlung.specs.declared.Step.the-variants.{Day}
 use Rattle.zaehlung.specs.declared.Step.the-variants.{Outside as Left}
 use Rattle.zaehlung.specs.Walk.{last, add, sub, next, W, between, count}
-use Rattle.zaehlung.specs.Count.{count-open}
-use Rattle.zaehlung.specs.Laws.{add-iff, add-out-iff, next-iff, next-out-iff}
-use Rattle.zaehlung.specs.Reach.{sub-day}
+use Rattle.zaehlung.proofs.Count.{count-open}
+use Rattle.zaehlung.proofs.Laws.{add-iff, add-out-iff, next-iff, next-out-iff}
+use Rattle.zaehlung.proofs.Reach.{sub-day}
 use Rattle.datum.specs.Calendar.{dateOf}
 use Rattle.vorlauf.specs.declared.VorlaufShape.the-variants.{LatestWerktageBefore, WindowWerktageBefore, LatestWerktageAfter, EarliestWerktageAfter}
 use Rattle.vorlauf.specs.declared.VorlaufShape.the-variants.{Korridor, TagVorDemLetztenWerktagVor, LatestMonateBefore}

@@ -15,9 +15,9 @@ use native.Mathlib.Omega.{arith}
 use native.Mathlib.Decide.{decLe, decLt}
 use Rattle.zaehlung.specs.declared.Step.the-variants.{Day, Outside}
 use Rattle.zaehlung.specs.Walk.{last, add, sub, W, count}
-use Rattle.zaehlung.specs.Count.{count-open, count-shut, count-step, count-mono, count-back, count-same}
-use Rattle.zaehlung.specs.Reach.{Past, Up, Down, add-day, sub-day, W-day}
-use Rattle.zaehlung.specs.Laws.{sub-out-iff, add-none, W-none}
+use Rattle.zaehlung.proofs.Count.{count-open, count-shut, count-step, count-mono, count-back, count-same}
+use Rattle.zaehlung.proofs.Reach.{Past, Up, Down, add-day, sub-day, W-day}
+use Rattle.zaehlung.proofs.Laws.{sub-out-iff, add-none, W-none}
 
 -- two days, by their order
 order : {A : Type 0} (a b : ℕ) → (a ≤ b → A) → (b < a → A) → A

@@ -15,7 +15,7 @@ use Rattle.zaehlung.specs.declared.Step.{Step}
 use Rattle.zaehlung.specs.declared.Step.the-variants.{Day}
 use Rattle.zaehlung.specs.declared.Step.the-variants.{Outside as Left}
 use Rattle.zaehlung.specs.Walk.{last, add, sub, next, W, between}
-use Rattle.zaehlung.specs.Laws.{add-inside, sub-inside, W-inside}
+use Rattle.zaehlung.proofs.Laws.{add-inside, sub-inside, W-inside}
 use Rattle.vorlauf.specs.declared.VorlaufShape.{VorlaufShape}
 use Rattle.vorlauf.specs.declared.VorlaufShape.the-variants.{LatestWerktageBefore, WindowWerktageBefore, LatestWerktageAfter, EarliestWerktageAfter}
 use Rattle.vorlauf.specs.declared.VorlaufShape.the-variants.{Korridor, TagVorDemLetztenWerktagVor, LatestMonateBefore, LatestMonateUndWerktageBefore}

@@ -2,7 +2,7 @@
 -- returned, s and v are what shifts returned, r and u steps.
 --   month-some date-month      the month of a date is one: what a shift asks
 --   *-dated first-dated        a shift reaches a date of the range: what `to_step` asks
---   date-valid                 so that date is valid: what `days_before` asks
+--   date-valid                 so that date is isDate: what `days_before` asks
 --   toStep-* later-is earlier-is   the returns of `to_step`, `months_later`, `months_earlier`
 --   date-gone date-kept date-first   the three returns of `months_or_first_date`; date-reached is what the second promises
 --   M-dated                    the return of `months_or_first`
@@ -20,22 +20,22 @@ use Rattle.zaehlung.specs.Walk.{last}
 use Rattle.datum.specs.declared.Date.{Date}
 use Rattle.datum.specs.declared.Shifted.{Shifted}
 use Rattle.datum.specs.declared.Shifted.the-variants.{On, Outside as Gone}
-use Rattle.datum.specs.Calendar.{valid, daysBefore, dateOf}
+use Rattle.datum.specs.Calendar.{isDate, daysBefore, dateOf}
 use Rattle.datum.specs.MonthShift.{addMonths, subtractMonths}
 use Rattle.datum.proofs.Dates.{index-date, date-index, index-below, valid-is, is-valid}
-use Rattle.vorlauf.specs.Monate.{isDate, toStep, monthsLater, monthsEarlier, M}
+use Rattle.vorlauf.specs.Monate.{insideShift, toStep, monthsLater, monthsEarlier, M}
 use Rattle.vorlauf.proofs.Months.{added-date, taken-date, M-kept, M-cut, M-out}
 
 pub month-some : (i : ℕ) (d : Date) → i ≤ last → d ≡ dateOf i → 1 ≤ d .month
 month-some i d h e = rw e (index-date i h .0 .month-from)
 
-pub later-dated : (i n : ℕ) (d : Date) (s : Shifted) → i ≤ last → d ≡ dateOf i → s ≡ addMonths d n → isDate s
+pub later-dated : (i n : ℕ) (d : Date) (s : Shifted) → i ≤ last → d ≡ dateOf i → s ≡ addMonths d n → insideShift s
 later-dated i n d s h e p = rw (p, e) (added-date (dateOf i) n (index-date i h .0 .day-from))
 
-pub earlier-dated : (i n : ℕ) (d : Date) (s : Shifted) → i ≤ last → d ≡ dateOf i → s ≡ subtractMonths d n → isDate s
+pub earlier-dated : (i n : ℕ) (d : Date) (s : Shifted) → i ≤ last → d ≡ dateOf i → s ≡ subtractMonths d n → insideShift s
 earlier-dated i n d s h e p = rw (p, e) (taken-date (dateOf i) n (index-date i h .0 .day-from))
 
-pub date-valid : (s : Shifted) (e : Date) → isDate s → s ≡ On e → valid e ≡ true
+pub date-valid : (s : Shifted) (e : Date) → insideShift s → s ≡ On e → isDate e ≡ true
 date-valid s e h p = rw p at h
 
 pub toStep-on : (s : Shifted) (e : Date) (k : ℕ) → s ≡ On e → k ≡ daysBefore e → Day k ≡ toStep s
@@ -52,18 +52,18 @@ pub earlier-is : (i n : ℕ) (d : Date) (s : Shifted) (r : Step) → d ≡ dateO
 unfolding monthsEarlier
 earlier-is i n d s r e p q = rw (q, p, e)
 
-pub first-dated : (y m : ℕ) (s : Shifted) → s ≡ addMonths (record { year = y; month = m; day = 1 }) 1 → isDate s
+pub first-dated : (y m : ℕ) (s : Shifted) → s ≡ addMonths (record { year = y; month = m; day = 1 }) 1 → insideShift s
 first-dated y m s p = rw p (added-date (record { year = y; month = m; day = 1 }) 1 (omega arith))
 
 -- a date of the range is that of its own index
-own-date : (d : Date) → valid d ≡ true → d ≡ dateOf (daysBefore d)
+own-date : (d : Date) → isDate d ≡ true → d ≡ dateOf (daysBefore d)
 own-date d v = sym (date-index d (valid-is d v))
 
-pub date-month : (d : Date) → valid d ≡ true → 1 ≤ d .month
+pub date-month : (d : Date) → isDate d ≡ true → 1 ≤ d .month
 date-month d v = valid-is d v .month-from
 
 -- months_or_first_date: s is what `add_months` returned for d
-module _ (d : Date) (n : ℕ) (s : Shifted) (v : valid d ≡ true) (p : s ≡ addMonths d n) where
+module _ (d : Date) (n : ℕ) (s : Shifted) (v : isDate d ≡ true) (p : s ≡ addMonths d n) where
   inside : daysBefore d ≤ last
   inside = index-below d (valid-is d v)
 
@@ -71,7 +71,7 @@ module _ (d : Date) (n : ℕ) (s : Shifted) (v : valid d ≡ true) (p : s ≡ ad
   date-gone q = M-out n (daysBefore d) d s (own-date d v) p inside q
 
   module _ (e : Date) (q : s ≡ On e) where
-    pub date-reached : valid e ≡ true
+    pub date-reached : isDate e ≡ true
     date-reached = date-valid s e (later-dated (daysBefore d) n d s inside (own-date d v) p) q
 
     pub reached-month : 1 ≤ e .month
@@ -86,7 +86,7 @@ module _ (d : Date) (n : ℕ) (s : Shifted) (v : valid d ≡ true) (p : s ≡ ad
 
 pub ruleset date-shift-rules = (date-month, date-gone, date-reached, reached-month, date-kept, date-first, first-dated)
 
-pub day-valid : (i : ℕ) (d : Date) → i ≤ last → d ≡ dateOf i → valid d ≡ true
+pub day-valid : (i : ℕ) (d : Date) → i ≤ last → d ≡ dateOf i → isDate d ≡ true
 day-valid i d h e = rw e (is-valid (dateOf i) (index-date i h .0))
 
 pub M-dated : (n i : ℕ) (d : Date) (s : Shifted) (u : Step) → i ≤ last → d ≡ dateOf i → toStep s ≡ M n (daysBefore d) → u ≡ toStep s → u ≡ M n i

@@ -2,7 +2,7 @@
 --   dayOf t x            = day x of the month numbered t, cut to the month's last
 --   on-in on-out         onMonth gives that day inside the calendar's years, and none past them
 --   shift-date           a shift to a day from 1 on reaches a date of the range, or none
---   add-on               addMonths d n is day d .day of the month numbered ordinal d + n
+--   add-on               addMonths d n is day d .day of the month numbered ordinalOf d + n
 --   added-date taken-date   so a shift of a date with a day from 1 on reaches a date of the range, or none
 --   toStep-inside        the index of a date of the range is one of the calendar
 --   later-inside earlier-inside M-inside   so is a day that a shift reaches
@@ -20,24 +20,24 @@ use borrow.Author.Tests.{leb-true, le-leb, lt-leb}
 use Rattle.zaehlung.specs.declared.Step.{Step}
 use Rattle.zaehlung.specs.declared.Step.the-variants.{Day, Outside}
 use Rattle.zaehlung.specs.Walk.{last}
-use Rattle.zaehlung.specs.Every.{run, run-at}
+use Rattle.zaehlung.proofs.Every.{run, run-at}
 use Rattle.datum.specs.declared.Date.{Date}
 use Rattle.datum.specs.declared.Shifted.{Shifted}
 use Rattle.datum.specs.declared.Shifted.the-variants.{On, Outside as Left}
-use Rattle.datum.specs.Calendar.{leap, monthLen, valid, daysBefore, dateOf}
-use Rattle.datum.specs.MonthShift.{ordinal, inMonth, onMonth, addMonths, subtractMonths}
+use Rattle.datum.specs.Calendar.{isLeap, daysInMonth, isDate, daysBefore, dateOf}
+use Rattle.datum.specs.MonthShift.{ordinalOf, inMonth, onMonth, addMonths, subtractMonths}
 use Rattle.datum.proofs.Dates.{valid-is, is-valid, index-below, index-date}
-use Rattle.vorlauf.specs.Monate.{isDate, toStep, monthsLater, monthsEarlier, M}
+use Rattle.vorlauf.specs.Monate.{insideShift, toStep, monthsLater, monthsEarlier, M}
 
 -- every month has a day
-len-some : (l : Bool) (m : ℕ) → 1 ≤ m → m ≤ 12 → 1 ≤ monthLen l m
-unfolding run monthLen
-len-some true m a b = leb-true 1 (monthLen true m) (run-at (λ x. leb 1 (monthLen true x)) 12 1 refl m a (omega arith))
-len-some false m a b = leb-true 1 (monthLen false m) (run-at (λ x. leb 1 (monthLen false x)) 12 1 refl m a (omega arith))
+len-some : (l : Bool) (m : ℕ) → 1 ≤ m → m ≤ 12 → 1 ≤ daysInMonth l m
+unfolding run daysInMonth
+len-some true m a b = leb-true 1 (daysInMonth true m) (run-at (λ x. leb 1 (daysInMonth true x)) 12 1 refl m a (omega arith))
+len-some false m a b = leb-true 1 (daysInMonth false m) (run-at (λ x. leb 1 (daysInMonth false x)) 12 1 refl m a (omega arith))
 
 -- day x of the month numbered t, cut to the month's last
 abbrev pub dayOf : ℕ → ℕ → Date
-dayOf t x = record { year = t / 12; month = t % 12 + 1; day = min x (monthLen (leap (t / 12)) (t % 12 + 1)) }
+dayOf t x = record { year = t / 12; month = t % 12 + 1; day = min x (daysInMonth (isLeap (t / 12)) (t % 12 + 1)) }
 
 pub on-in : (t x : ℕ) → 1996 ≤ t / 12 → t / 12 ≤ 2899 → onMonth (pos t) x ≡ On (dayOf t x)
 unfolding onMonth inMonth
@@ -51,13 +51,13 @@ on-before : (t x : ℕ) → t / 12 < 1996 → onMonth (pos t) x ≡ Left
 unfolding onMonth inMonth
 on-before t x b = rw (lt-leb 1996 (t / 12) b)
 
-day-valid : (t x : ℕ) → 1 ≤ x → 1996 ≤ t / 12 → t / 12 ≤ 2899 → valid (dayOf t x) ≡ true
+day-valid : (t x : ℕ) → 1 ≤ x → 1996 ≤ t / 12 → t / 12 ≤ 2899 → isDate (dayOf t x) ≡ true
 day-valid t x h a b =
-    let n = len-some (leap (t / 12)) (t % 12 + 1) (omega arith) (omega arith) in
+    let n = len-some (isLeap (t / 12)) (t % 12 + 1) (omega arith) (omega arith) in
     is-valid (dayOf t x)
     (record { from = a; to = b; month-from = omega arith; month-to = omega arith; day-from = omega arith; day-to = omega arith })
 
-pub shift-date : (z : ℤ) (x : ℕ) → 1 ≤ x → isDate (onMonth z x)
+pub shift-date : (z : ℤ) (x : ℕ) → 1 ≤ x → insideShift (onMonth z x)
 unfolding onMonth
 shift-date (negsuc t) x h = tt
 shift-date (pos t) x h =
@@ -70,25 +70,25 @@ shift-date (pos t) x h =
           ]
     ]
 
-pub add-on : (d : Date) (n : ℕ) → addMonths d n ≡ onMonth (pos (ordinal d + n)) (d .day)
+pub add-on : (d : Date) (n : ℕ) → addMonths d n ≡ onMonth (pos (ordinalOf d + n)) (d .day)
 unfolding addMonths
 add-on d n = rw pos-+ℤ-pos
 
-pub added-date : (d : Date) (n : ℕ) → 1 ≤ d .day → isDate (addMonths d n)
+pub added-date : (d : Date) (n : ℕ) → 1 ≤ d .day → insideShift (addMonths d n)
 unfolding addMonths
-added-date d n h = shift-date (pos (ordinal d) +ℤ pos n) (d .day) h
+added-date d n h = shift-date (pos (ordinalOf d) +ℤ pos n) (d .day) h
 
-pub taken-date : (d : Date) (n : ℕ) → 1 ≤ d .day → isDate (subtractMonths d n)
+pub taken-date : (d : Date) (n : ℕ) → 1 ≤ d .day → insideShift (subtractMonths d n)
 unfolding subtractMonths
-taken-date d n h = shift-date (pos (ordinal d) -ℤ pos n) (d .day) h
+taken-date d n h = shift-date (pos (ordinalOf d) -ℤ pos n) (d .day) h
 
-pub later-date : (i n : ℕ) → i ≤ last → isDate (addMonths (dateOf i) n)
+pub later-date : (i n : ℕ) → i ≤ last → insideShift (addMonths (dateOf i) n)
 later-date i n h = added-date (dateOf i) n (index-date i h .0 .day-from)
 
-pub earlier-date : (i n : ℕ) → i ≤ last → isDate (subtractMonths (dateOf i) n)
+pub earlier-date : (i n : ℕ) → i ≤ last → insideShift (subtractMonths (dateOf i) n)
 earlier-date i n h = taken-date (dateOf i) n (index-date i h .0 .day-from)
 
-pub toStep-inside : (s : Shifted) (e : ℕ) → isDate s → toStep s ≡ Day e → e ≤ last
+pub toStep-inside : (s : Shifted) (e : ℕ) → insideShift s → toStep s ≡ Day e → e ≤ last
 toStep-inside (On d) e v p = let q : daysBefore d ≡ e = cc in omega (arith, index-below d (valid-is d v))
 toStep-inside Left e v p = let z : _≡_ {A = ℕ} 0 1 = cc in absurd (omega arith)
 
@@ -101,7 +101,7 @@ unfolding monthsEarlier
 earlier-inside i n e h p = toStep-inside (subtractMonths (dateOf i) n) e (earlier-date i n h) p
 
 -- both ends of M are days of a month
-either-inside : (b : Bool) (s u : Shifted) (e : ℕ) → isDate s → isDate u → cond b (toStep s) (toStep u) ≡ Day e → e ≤ last
+either-inside : (b : Bool) (s u : Shifted) (e : ℕ) → insideShift s → insideShift u → cond b (toStep s) (toStep u) ≡ Day e → e ≤ last
 either-inside true s u e v w p = toStep-inside s e v p
 either-inside false s u e v w p = toStep-inside u e w p
 
@@ -109,8 +109,8 @@ pub M-inside : (n i e : ℕ) → i ≤ last → M n i ≡ Day e → e ≤ last
 unfolding M
 M-inside n i e h p =
     let d = dateOf i in
-    let t = ordinal d + n in
-    either-inside (leb (d .day) (monthLen (leap (t / 12)) (t % 12 + 1)))
+    let t = ordinalOf d + n in
+    either-inside (leb (d .day) (daysInMonth (isLeap (t / 12)) (t % 12 + 1)))
     (onMonth (pos t) (d .day))
     (onMonth (pos (suc t)) 1)
     e
@@ -121,10 +121,10 @@ M-inside n i e h p =
 -- the three ways through M, by what a shift by months gives; t is the number of the target month
 module _ (n i : ℕ) (d : Date) (s : Shifted) (g : d ≡ dateOf i) (p : s ≡ addMonths d n) where
   t : ℕ
-  t = ordinal d + n
+  t = ordinalOf d + n
 
   len : ℕ
-  len = monthLen (leap (t / 12)) (t % 12 + 1)
+  len = daysInMonth (isLeap (t / 12)) (t % 12 + 1)
 
   M-is : (b : Bool) → leb (d .day) len ≡ b → M n i ≡ cond b (toStep (onMonth (pos t) (d .day))) (toStep (onMonth (pos (suc t)) 1))
   unfolding M t len
@@ -156,7 +156,7 @@ module _ (n i : ℕ) (d : Date) (s : Shifted) (g : d ≡ dateOf i) (p : s ≡ ad
       cc
 
   -- the first of the target month, and a month
-  first-of : (e : Date) → e ≡ dayOf t (d .day) → ordinal (record { year = e .year; month = e .month; day = 1 }) + 1 ≡ suc t
+  first-of : (e : Date) → e ≡ dayOf t (d .day) → ordinalOf (record { year = e .year; month = e .month; day = 1 }) + 1 ≡ suc t
   first-of e q =
       let y = ap (λ (x : Date). x .year) q in
       let m = ap (λ (x : Date). x .month) q in

@@ -20,8 +20,8 @@ use Rattle.zaehlung.specs.declared.Step.{Step}
 use Rattle.zaehlung.specs.declared.Step.the-variants.{Day}
 use Rattle.zaehlung.specs.declared.Step.the-variants.{Outside as Left}
 use Rattle.zaehlung.specs.Walk.{last, add, sub, next, W}
-use Rattle.zaehlung.specs.Turns.{past-edge, past-open, past-shut}
-use Rattle.zaehlung.specs.Laws.{W-none, add-inside, sub-inside, W-inside}
+use Rattle.zaehlung.proofs.Turns.{past-edge, past-open, past-shut}
+use Rattle.zaehlung.proofs.Laws.{W-none, add-inside, sub-inside, W-inside}
 use Rattle.vorlauf.specs.Monate.{monthsLater, monthsEarlier, M}
 use Rattle.vorlauf.specs.Verdict.{goOn, dayBefore, dayAfter, dayAfterNext}
 use Rattle.vorlauf.proofs.Months.{later-inside, earlier-inside}

@@ -1,5 +1,5 @@
 -- Months before and after a day given by its index, BGB §188.
---   isDate s           = the date that a shift by months reached is one of the calendar
+--   insideShift s           = the date that a shift by months reached is one of the calendar
 --   toStep s           = the index of the date that a shift by months reached, or Outside
 --   monthsLater i n    = day i and n months: `add_months`
 --   monthsEarlier i n  = day i less n months: `subtract_months`
@@ -14,12 +14,12 @@ use Rattle.zaehlung.specs.declared.Step.{Step}
 use Rattle.zaehlung.specs.declared.Step.the-variants.{Day, Outside}
 use Rattle.datum.specs.declared.Shifted.{Shifted}
 use Rattle.datum.specs.declared.Shifted.the-variants.{On, Outside as Left}
-use Rattle.datum.specs.Calendar.{leap, monthLen, valid, daysBefore, dateOf}
-use Rattle.datum.specs.MonthShift.{ordinal, onMonth, addMonths, subtractMonths}
+use Rattle.datum.specs.Calendar.{isLeap, daysInMonth, isDate, daysBefore, dateOf}
+use Rattle.datum.specs.MonthShift.{ordinalOf, onMonth, addMonths, subtractMonths}
 
-abbrev pub isDate : Shifted → Type 0
-isDate (On d) = valid d ≡ true
-isDate Left = Unit {0}
+abbrev pub insideShift : Shifted → Type 0
+insideShift (On d) = isDate d ≡ true
+insideShift Left = Unit {0}
 
 abbrev pub toStep : Shifted → Step
 toStep (On d) = Day (daysBefore d)
@@ -36,7 +36,7 @@ monthsEarlier i n = toStep (subtractMonths (dateOf i) n)
 unfoldable pub M : ℕ → ℕ → Step
 M n i =
     let d = dateOf i in
-    let t = ordinal d + n in
-    cond (leb (d .day) (monthLen (leap (t / 12)) (t % 12 + 1)))
+    let t = ordinalOf d + n in
+    cond (leb (d .day) (daysInMonth (isLeap (t / 12)) (t % 12 + 1)))
     (toStep (onMonth (pos t) (d .day)))
     (toStep (onMonth (pos (suc t)) 1))

@@ -5,7 +5,7 @@
 ghost use mathlib.Core.Path.{_≡_};
 ghost use Prim.Native.Nat.{_≤_};
 ghost use Rattle.zaehlung.specs.Walk.{last};
-ghost use Rattle.werktag.specs.Werktag.{werktag};
+ghost use Rattle.werktag.specs.Werktag.{isWerktag};
 ghost use Rattle.vorlauf.specs.Abmeldung.{same, fuerOf, shapeOf, abmeldungOf, insideAbmeldung};
 use super::VorlaufShape;
 use super::VorlaufVerdict;
@@ -97,7 +97,7 @@ impl AbmeldungVorlauf {
         cal: HolidayCalendar,
     ) -> AbmeldungVerdict
         requires { ⌜ (uebertragungstag ≤ last) × (zuordnungsende ≤ last) ⌝ }
-        ensures { λ r. ⌜ (r ≡ abmeldungOf (werktag cal) self uebertragungstag zuordnungsende) × insideAbmeldung r ⌝ }
+        ensures { λ r. ⌜ (r ≡ abmeldungOf (isWerktag cal) self uebertragungstag zuordnungsende) × insideAbmeldung r ⌝ }
     {
         let AbmeldungShape::Some(shape) = self.shape() else {
             return AbmeldungVerdict::NoShape;

@@ -7,7 +7,7 @@ ghost use mathlib.Core.Path.{_≡_};
 ghost use Prim.Native.Nat.{_≤_};
 ghost use lib.Dec.{leb};
 ghost use Rattle.zaehlung.specs.Walk.{last, add, W};
-ghost use Rattle.werktag.specs.Werktag.{werktag};
+ghost use Rattle.werktag.specs.Werktag.{isWerktag};
 ghost use Rattle.vorlauf.specs.Monate.{M};
 ghost use Rattle.vorlauf.specs.Verdict.{goOn, dayBefore, dayAfter, dayAfterNext, late, checkOf, insideVerdict};
 ghost use Rattle.vorlauf.specs.Span.{from, both, spanOf, insideSpan};
@@ -95,7 +95,7 @@ fn day_after(day: u32) -> Step
 /// From Saturday 10 January 2026 with 1: the Werktag is Monday 12, so Tuesday 13 January.
 fn day_after_werktage(t: u32, n: u32, cal: HolidayCalendar) -> Step
     requires { ⌜ t ≤ last ⌝ }
-    ensures { λ r. ⌜ r ≡ W (werktag cal) t n ⌝ }
+    ensures { λ r. ⌜ r ≡ W (isWerktag cal) t n ⌝ }
 {
     let mut current = t;
     let mut remaining = n;
@@ -116,7 +116,7 @@ fn day_after_werktage(t: u32, n: u32, cal: HolidayCalendar) -> Step
 /// Monday 12 January: TooLate by 0 Werktage, and the date named is that Monday.
 fn latest_werktage_before(n: u32, t: u32, a: u32, cal: HolidayCalendar) -> VorlaufVerdict
     requires { ⌜ (t ≤ last) × (a ≤ last) ⌝ }
-    ensures { λ r. ⌜ r ≡ checkOf (werktag cal) (VorlaufShape.LatestWerktageBefore n) t a ⌝ }
+    ensures { λ r. ⌜ r ≡ checkOf (isWerktag cal) (VorlaufShape.LatestWerktageBefore n) t a ⌝ }
 {
     let Step::Day(closes) = schritte::sub_werktage(a, n, cal) else {
         return VorlaufVerdict::Outside;
@@ -142,7 +142,7 @@ fn window_werktage_before(
     cal: HolidayCalendar,
 ) -> VorlaufVerdict
     requires { ⌜ (t ≤ last) × (a ≤ last) ⌝ }
-    ensures { λ r. ⌜ r ≡ checkOf (werktag cal) (VorlaufShape.WindowWerktageBefore earliest latest) t a ⌝ }
+    ensures { λ r. ⌜ r ≡ checkOf (isWerktag cal) (VorlaufShape.WindowWerktageBefore earliest latest) t a ⌝ }
 {
     let Step::Day(opens) = schritte::sub_werktage(a, earliest, cal) else {
         return VorlaufVerdict::Outside;
@@ -170,7 +170,7 @@ fn window_werktage_before(
 /// t is the `n`-th Werktag after the anchor at the latest. Under TooLate the anchor itself is named.
 fn latest_werktage_after(n: u32, t: u32, a: u32, cal: HolidayCalendar) -> VorlaufVerdict
     requires { ⌜ (t ≤ last) × (a ≤ last) ⌝ }
-    ensures { λ r. ⌜ r ≡ checkOf (werktag cal) (VorlaufShape.LatestWerktageAfter n) t a ⌝ }
+    ensures { λ r. ⌜ r ≡ checkOf (isWerktag cal) (VorlaufShape.LatestWerktageAfter n) t a ⌝ }
 {
     let Step::Day(closes) = schritte::add_werktage(a, n, cal) else {
         return VorlaufVerdict::Outside;
@@ -187,7 +187,7 @@ fn latest_werktage_after(n: u32, t: u32, a: u32, cal: HolidayCalendar) -> Vorlau
 /// The anchor, the date requested, is the `n`-th Werktag after t at the earliest.
 fn earliest_werktage_after(n: u32, t: u32, a: u32, cal: HolidayCalendar) -> VorlaufVerdict
     requires { ⌜ (t ≤ last) × (a ≤ last) ⌝ }
-    ensures { λ r. ⌜ r ≡ checkOf (werktag cal) (VorlaufShape.EarliestWerktageAfter n) t a ⌝ }
+    ensures { λ r. ⌜ r ≡ checkOf (isWerktag cal) (VorlaufShape.EarliestWerktageAfter n) t a ⌝ }
 {
     let Step::Day(first) = schritte::add_werktage(t, n, cal) else {
         return VorlaufVerdict::Outside;
@@ -204,7 +204,7 @@ fn earliest_werktage_after(n: u32, t: u32, a: u32, cal: HolidayCalendar) -> Vorl
 /// t lies from the `n`-th Werktag before the anchor to the `n`-th after it. Under TooLate the opening day is named.
 fn korridor(n: u32, t: u32, a: u32, cal: HolidayCalendar) -> VorlaufVerdict
     requires { ⌜ (t ≤ last) × (a ≤ last) ⌝ }
-    ensures { λ r. ⌜ r ≡ checkOf (werktag cal) (VorlaufShape.Korridor n) t a ⌝ }
+    ensures { λ r. ⌜ r ≡ checkOf (isWerktag cal) (VorlaufShape.Korridor n) t a ⌝ }
 {
     let Step::Day(opens) = schritte::sub_werktage(a, n, cal) else {
         return VorlaufVerdict::Outside;
@@ -230,7 +230,7 @@ fn korridor(n: u32, t: u32, a: u32, cal: HolidayCalendar) -> VorlaufVerdict
 /// is Wednesday.
 fn fruehester_termin_nach_tag_vor_dem_letzten_werktag(t: u32, cal: HolidayCalendar) -> Step
     requires { ⌜ t ≤ last ⌝ }
-    ensures { λ r. ⌜ r ≡ dayAfterNext (werktag cal) t ⌝ }
+    ensures { λ r. ⌜ r ≡ dayAfterNext (isWerktag cal) t ⌝ }
 {
     let Step::Day(next_day) = day_after(t) else {
         return Step::Outside;
@@ -245,7 +245,7 @@ fn fruehester_termin_nach_tag_vor_dem_letzten_werktag(t: u32, cal: HolidayCalend
 /// TooLate by 1 Werktag, Saturday 10 January Ok.
 fn tag_vor_dem_letzten_werktag_vor(t: u32, a: u32, cal: HolidayCalendar) -> VorlaufVerdict
     requires { ⌜ (t ≤ last) × (a ≤ last) ⌝ }
-    ensures { λ r. ⌜ r ≡ checkOf (werktag cal) VorlaufShape.TagVorDemLetztenWerktagVor t a ⌝ }
+    ensures { λ r. ⌜ r ≡ checkOf (isWerktag cal) VorlaufShape.TagVorDemLetztenWerktagVor t a ⌝ }
 {
     let Step::Day(letzter) = schritte::sub_werktage(a, 1, cal) else {
         return VorlaufVerdict::Outside;
@@ -268,7 +268,7 @@ fn tag_vor_dem_letzten_werktag_vor(t: u32, a: u32, cal: HolidayCalendar) -> Vorl
 /// `Ok` while t is at or before `closes`, else `TooLate` with the date `first`.
 fn not_after(t: u32, closes: u32, first: u32, cal: HolidayCalendar) -> VorlaufVerdict
     requires { ⌜ (t ≤ last) × (closes ≤ last) ⌝ }
-    ensures { λ r. ⌜ r ≡ cond (leb t closes) VorlaufVerdict.Ok (late (werktag cal) closes t first) ⌝ }
+    ensures { λ r. ⌜ r ≡ cond (leb t closes) VorlaufVerdict.Ok (late (isWerktag cal) closes t first) ⌝ }
 {
     if t <= closes {
         return VorlaufVerdict::Ok;
@@ -282,7 +282,7 @@ fn not_after(t: u32, closes: u32, first: u32, cal: HolidayCalendar) -> VorlaufVe
 /// t lies `n` months before the anchor at the latest. The earliest date is computed even when the verdict is Ok.
 fn latest_monate_before(n: u32, t: u32, a: u32, cal: HolidayCalendar) -> VorlaufVerdict
     requires { ⌜ (t ≤ last) × (a ≤ last) ⌝ }
-    ensures { λ r. ⌜ r ≡ checkOf (werktag cal) (VorlaufShape.LatestMonateBefore n) t a ⌝ }
+    ensures { λ r. ⌜ r ≡ checkOf (isWerktag cal) (VorlaufShape.LatestMonateBefore n) t a ⌝ }
 {
     let Step::Day(closes) = monate::months_earlier(a, n) else {
         return VorlaufVerdict::Outside;
@@ -303,7 +303,7 @@ fn latest_monate_und_werktage_before(
     cal: HolidayCalendar,
 ) -> VorlaufVerdict
     requires { ⌜ (t ≤ last) × (a ≤ last) ⌝ }
-    ensures { λ r. ⌜ r ≡ checkOf (werktag cal) (VorlaufShape.LatestMonateUndWerktageBefore monate werktage) t a ⌝ }
+    ensures { λ r. ⌜ r ≡ checkOf (isWerktag cal) (VorlaufShape.LatestMonateUndWerktageBefore monate werktage) t a ⌝ }
 {
     let Step::Day(back) = monate::months_earlier(a, monate) else {
         return VorlaufVerdict::Outside;
@@ -349,7 +349,7 @@ fn span_between(first: Step, end: Step) -> Span
 /// The day after the first Werktag after t.
 fn after_first_werktag(t: u32, cal: HolidayCalendar) -> Step
     requires { ⌜ t ≤ last ⌝ }
-    ensures { λ r. ⌜ r ≡ goOn (add (werktag cal) t 1) dayAfter ⌝ }
+    ensures { λ r. ⌜ r ≡ goOn (add (isWerktag cal) t 1) dayAfter ⌝ }
 {
     let Step::Day(werktag) = schritte::add_werktage(t, 1, cal) else {
         return Step::Outside;
@@ -360,7 +360,7 @@ fn after_first_werktag(t: u32, cal: HolidayCalendar) -> Step
 /// M(monate, W(werktage)) of document 01.
 fn months_after_werktage(t: u32, monate: u32, werktage: u32, cal: HolidayCalendar) -> Step
     requires { ⌜ t ≤ last ⌝ }
-    ensures { λ r. ⌜ r ≡ goOn (W (werktag cal) t werktage) (M monate) ⌝ }
+    ensures { λ r. ⌜ r ≡ goOn (W (isWerktag cal) t werktage) (M monate) ⌝ }
 {
     let Step::Day(day) = day_after_werktage(t, werktage, cal) else {
         return Step::Outside;
@@ -372,7 +372,7 @@ impl VorlaufShape {
     /// The verdict on a transmission day and an anchor. A date that it names is one of the calendar.
     pub fn check(self, uebertragungstag: u32, anchor: u32, cal: HolidayCalendar) -> VorlaufVerdict
         requires { ⌜ (uebertragungstag ≤ last) × (anchor ≤ last) ⌝ }
-        ensures { λ r. ⌜ (r ≡ checkOf (werktag cal) self uebertragungstag anchor) × insideVerdict r ⌝ }
+        ensures { λ r. ⌜ (r ≡ checkOf (isWerktag cal) self uebertragungstag anchor) × insideVerdict r ⌝ }
     {
         let t = uebertragungstag;
         match self {
@@ -401,7 +401,7 @@ impl VorlaufShape {
     /// 31 January 2026: from 1 March.
     pub fn span(self, uebertragungstag: u32, cal: HolidayCalendar) -> Span
         requires { ⌜ uebertragungstag ≤ last ⌝ }
-        ensures { λ r. ⌜ (r ≡ spanOf (werktag cal) self uebertragungstag) × insideSpan r ⌝ }
+        ensures { λ r. ⌜ (r ≡ spanOf (isWerktag cal) self uebertragungstag) × insideSpan r ⌝ }
     {
         let t = uebertragungstag;
         match self {

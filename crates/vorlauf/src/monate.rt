@@ -3,15 +3,15 @@ ghost use mathlib.Core.Bool.{true};
 ghost use mathlib.Core.Path.{_≡_};
 ghost use Prim.Native.Nat.{_≤_};
 ghost use Rattle.zaehlung.specs.Walk.{last};
-ghost use Rattle.datum.specs.Calendar.{valid, daysBefore};
-ghost use Rattle.vorlauf.specs.Monate.{isDate, toStep, monthsLater, monthsEarlier, M};
+ghost use Rattle.datum.specs.Calendar.{isDate, daysBefore};
+ghost use Rattle.vorlauf.specs.Monate.{insideShift, toStep, monthsLater, monthsEarlier, M};
 use datum::Date;
 use datum::Shifted;
 use zaehlung::Step;
 
 /// The index of the date that a shift reached.
 fn to_step(shifted: Shifted) -> Step
-    requires { ⌜ isDate shifted ⌝ }
+    requires { ⌜ insideShift shifted ⌝ }
     ensures { λ r. ⌜ r ≡ toStep shifted ⌝ }
 {
     match shifted {
@@ -41,8 +41,8 @@ pub fn months_earlier(day: u32, n: u32) -> Step
 ///
 /// 31 January 2026 and 1 month is 1 March 2026, 28 January and 1 month 28 February.
 pub fn months_or_first_date(date: Date, n: u32) -> Shifted
-    requires { ⌜ valid date ≡ true ⌝ }
-    ensures { λ r. ⌜ (toStep r ≡ M n (daysBefore date)) × isDate r ⌝ }
+    requires { ⌜ isDate date ≡ true ⌝ }
+    ensures { λ r. ⌜ (toStep r ≡ M n (daysBefore date)) × insideShift r ⌝ }
 {
     let Shifted::On(target) = datum::add_months(date, n) else {
         return Shifted::Outside;

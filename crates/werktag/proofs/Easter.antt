@@ -11,7 +11,7 @@ use native.Mathlib.Omega.{arith}
 use mir.Syntax.{w8}
 use mir.Val.{Fits}
 use Rattle.datum.specs.declared.Date.{Date}
-use Rattle.datum.specs.Calendar.{valid, leap, monthLen}
+use Rattle.datum.specs.Calendar.{isDate, isLeap, daysInMonth}
 use Rattle.datum.proofs.Dates.{Valid, is-valid}
 use Rattle.werktag.specs.Easter.{easterSunday}
 
@@ -46,8 +46,8 @@ month-fits a h l =
     small : (x : ℕ) → x ≤ 149 → x / 31 ≤ 149
     small x h = omega arith
 
-days : (l : Bool) → (monthLen l 3 ≡ 31) × (monthLen l 4 ≡ 30)
-unfolding monthLen
+days : (l : Bool) → (daysInMonth l 3 ≡ 31) × (daysInMonth l 4 ≡ 30)
+unfolding daysInMonth
 days l = (refl, refl)
 
 -- the date with n from 114 to 149
@@ -59,14 +59,14 @@ dated y x a b p q = go (x / 31) refl
     go (suc zero) e = absurd (omega arith)
     go (suc (suc zero)) e = absurd (omega arith)
     go (suc (suc (suc zero))) e =
-        let k = ap (monthLen (leap y)) e in
-        record { from = a; to = b; month-from = omega arith; month-to = omega arith; day-from = omega arith; day-to = omega (arith, days (leap y)) }
+        let k = ap (daysInMonth (isLeap y)) e in
+        record { from = a; to = b; month-from = omega arith; month-to = omega arith; day-from = omega arith; day-to = omega (arith, days (isLeap y)) }
     go (suc (suc (suc (suc zero)))) e =
-        let k = ap (monthLen (leap y)) e in
-        record { from = a; to = b; month-from = omega arith; month-to = omega arith; day-from = omega arith; day-to = omega (arith, days (leap y)) }
+        let k = ap (daysInMonth (isLeap y)) e in
+        record { from = a; to = b; month-from = omega arith; month-to = omega arith; day-from = omega arith; day-to = omega (arith, days (isLeap y)) }
     go (suc (suc (suc (suc (suc m))))) e = absurd (omega arith)
 
-pub easter-valid : (y : ℕ) (d : Date) → 1996 ≤ y → y ≤ 2899 → d ≡ easterSunday y → valid d ≡ true
+pub easter-valid : (y : ℕ) (d : Date) → 1996 ≤ y → y ≤ 2899 → d ≡ easterSunday y → isDate d ≡ true
 unfolding easterSunday
 easter-valid y d p q e =
     let a = y % 19 in

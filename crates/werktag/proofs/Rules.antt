@@ -14,14 +14,14 @@ use mir.Val.{SFits, toZ, ofZ}
 use mir.Facts.{toZ-ofZ}
 use Rattle.zaehlung.specs.Walk.{last}
 use Rattle.datum.specs.declared.Date.{Date}
-use Rattle.datum.specs.Calendar.{dateOf, daysBefore, weekdayOf}
-use Rattle.zaehlung.specs.Every.{run, run-at}
+use Rattle.datum.specs.Calendar.{dateOf, daysBefore, weekday}
+use Rattle.zaehlung.proofs.Every.{run, run-at}
 use Rattle.datum.proofs.Dates.{and-left, and-right, and-no, index-date}
 use Rattle.datum.proofs.Signed.{back, pos-fits, neg-fits, back-pos, sub-fits, same-bits}
 use Rattle.werktag.specs.declared.HolidayCalendar.{HolidayCalendar}
 use Rattle.werktag.specs.declared.HolidayCalendar.the-variants.{BdewMaKo}
 use Rattle.werktag.specs.Easter.{easterSunday, easterIndex}
-use Rattle.werktag.specs.Werktag.{any, eqZ, fixedDays, isFixed, isBussUndBettag, easterOffsets, isEasterFeast, isHoliday, werktag}
+use Rattle.werktag.specs.Werktag.{any, eqZ, fixedDays, isFixed, isBussUndBettag, easterOffsets, isEasterFeast, isBdewMakoHoliday, isWerktag}
 use Rattle.werktag.proofs.Search.{search-hit, search-miss, search-none}
 use Rattle.werktag.proofs.Signed.{eq-eqZ, ne-eqZ, from-distance}
 
@@ -151,16 +151,16 @@ module _ (i y s : ℕ) (d : Date) (h : i ≤ last) (e : d ≡ easterSunday y) (q
 
 -- is_bdew_mako_holiday: d is the date that `date_of` returned
 module _ (i : ℕ) (d : Date) (e : d ≡ dateOf i) where
-  pub by-table : (a : Bool) → a ≡ isFixed (d .month) (d .day) → a ≡ true → true ≡ isHoliday i
-  unfolding isHoliday
+  pub by-table : (a : Bool) → a ≡ isFixed (d .month) (d .day) → a ≡ true → true ≡ isBdewMakoHoliday i
+  unfolding isBdewMakoHoliday
   by-table a p t = rw (← e, sym p ∙ t)
 
-  pub by-wednesday : (a b : Bool) (w : ℕ) → a ≡ isFixed (d .month) (d .day) → a ≡ false → w ≡ weekdayOf i → b ≡ isBussUndBettag (d .month) (d .day) w → b ≡ true → true ≡ isHoliday i
-  unfolding isHoliday
+  pub by-wednesday : (a b : Bool) (w : ℕ) → a ≡ isFixed (d .month) (d .day) → a ≡ false → w ≡ weekday i → b ≡ isBussUndBettag (d .month) (d .day) w → b ≡ true → true ≡ isBdewMakoHoliday i
+  unfolding isBdewMakoHoliday
   by-wednesday a b w p t g q u = rw (← e, sym p ∙ t, ← g, sym q ∙ u)
 
-  pub by-easter : (a b r : Bool) (w : ℕ) → a ≡ isFixed (d .month) (d .day) → a ≡ false → w ≡ weekdayOf i → b ≡ isBussUndBettag (d .month) (d .day) w → b ≡ false → r ≡ isEasterFeast i (d .year) → r ≡ isHoliday i
-  unfolding isHoliday
+  pub by-easter : (a b r : Bool) (w : ℕ) → a ≡ isFixed (d .month) (d .day) → a ≡ false → w ≡ weekday i → b ≡ isBussUndBettag (d .month) (d .day) w → b ≡ false → r ≡ isEasterFeast i (d .year) → r ≡ isBdewMakoHoliday i
+  unfolding isBdewMakoHoliday
   by-easter a b r w p t g q u s = rw (← e, sym p ∙ t, ← g, sym q ∙ u) s
 
   pub year-from : i ≤ last → 1996 ≤ d .year
@@ -172,12 +172,12 @@ module _ (i : ℕ) (d : Date) (e : d ≡ dateOf i) where
 pub ruleset holiday-rules = (by-table, by-wednesday, by-easter, year-from, year-to)
 
 -- is_werktag
-pub weekend : (cal : HolidayCalendar) (i w : ℕ) → w ≡ weekdayOf i → 5 ≤ w → false ≡ werktag cal i
-unfolding werktag
+pub weekend : (cal : HolidayCalendar) (i w : ℕ) → w ≡ weekday i → 5 ≤ w → false ≡ isWerktag cal i
+unfolding isWerktag
 weekend BdewMaKo i w e h = rw (← e, le-leb 5 w h)
 
-pub no-weekend : (cal : HolidayCalendar) (i w : ℕ) (r : Bool) → w ≡ weekdayOf i → w < 5 → r ≡ isHoliday i → not r ≡ werktag cal i
-unfolding werktag
+pub no-weekend : (cal : HolidayCalendar) (i w : ℕ) (r : Bool) → w ≡ weekday i → w < 5 → r ≡ isBdewMakoHoliday i → not r ≡ isWerktag cal i
+unfolding isWerktag
 no-weekend BdewMaKo i w r e h p = rw (← e, lt-leb 5 w h, p)
 
 pub ruleset werktag-rules = (weekend, no-weekend)

@@ -4,8 +4,8 @@
 --   isBussUndBettag m d w = whether it is the Wednesday from 16 to 22 November, w being its weekday
 --   easterOffsets         = the days from Easter Sunday to each feast that moves with it
 --   isEasterFeast i y     = whether the day with index i is one of these feasts of the year y
---   isHoliday i           = whether the day with index i is in the list
---   werktag cal i         = whether the day with index i is a Werktag
+--   isBdewMakoHoliday i           = whether the day with index i is in the list
+--   isWerktag cal i         = whether the day with index i is a Werktag
 -- Source: GPKE Teil 1 (Werktag: 'alle Tage .., die kein Samstag, Sonntag oder gesetzlicher Feiertag sind'; a holiday of one Land counts
 -- everywhere; 24.12. and 31.12. count as holidays); document 01, 'lib.rs, calendar', for the list.
 use Prim.Native.Nat.{ℕ, _+_}
@@ -13,7 +13,7 @@ use mathlib.Core.Bool.{Bool, false, not, _&&_, _||_}
 use mathlib.Core.List.{List, [], _∷_}
 use lib.Dec.{eqb, leb}
 use lib.IntN.{ℤ, pos, negsuc, negℤ, _+ℤ_}
-use Rattle.datum.specs.Calendar.{dateOf, weekdayOf}
+use Rattle.datum.specs.Calendar.{dateOf, weekday}
 use Rattle.werktag.specs.declared.HolidayCalendar.{HolidayCalendar}
 use Rattle.werktag.specs.declared.HolidayCalendar.the-variants.{BdewMaKo}
 use Rattle.werktag.specs.Easter.{easterIndex}
@@ -49,11 +49,11 @@ easterOffsets = negℤ (pos 2) ∷ pos 1 ∷ pos 39 ∷ pos 49 ∷ pos 50 ∷ po
 unfoldable pub isEasterFeast : ℕ → ℕ → Bool
 isEasterFeast i y = any (λ o. eqZ (pos i) (pos (easterIndex y) +ℤ o)) easterOffsets
 
-unfoldable pub isHoliday : ℕ → Bool
-isHoliday i =
+unfoldable pub isBdewMakoHoliday : ℕ → Bool
+isBdewMakoHoliday i =
     let d = dateOf i in
-    isFixed (d .month) (d .day) || (isBussUndBettag (d .month) (d .day) (weekdayOf i) || isEasterFeast i (d .year))
+    isFixed (d .month) (d .day) || (isBussUndBettag (d .month) (d .day) (weekday i) || isEasterFeast i (d .year))
 
 -- 'Werktag: not Saturday, Sunday or a holiday (GPKE Teil 1).'
-unfoldable pub werktag : HolidayCalendar → ℕ → Bool
-werktag BdewMaKo i = not (leb 5 (weekdayOf i)) && not (isHoliday i)
+unfoldable pub isWerktag : HolidayCalendar → ℕ → Bool
+isWerktag BdewMaKo i = not (leb 5 (weekday i)) && not (isBdewMakoHoliday i)

@@ -5,7 +5,7 @@ ghost use mathlib.Core.Path.{_≡_};
 ghost use Prim.Native.Nat.{_≤_};
 ghost use Rattle.zaehlung.specs.Walk.{last};
 ghost use Rattle.werktag.specs.Easter.{easterSunday};
-ghost use Rattle.werktag.specs.Werktag.{any, eqZ, easterOffsets, isFixed, isBussUndBettag, isEasterFeast, isHoliday, werktag};
+ghost use Rattle.werktag.specs.Werktag.{any, eqZ, easterOffsets, isFixed, isBussUndBettag, isEasterFeast, isBdewMakoHoliday, isWerktag};
 use datum::Date;
 
 /// Whose holidays count. A holiday of any one Land counts everywhere.
@@ -106,7 +106,7 @@ fn is_easter_feast(index: u32, year: u16) -> bool
 /// Whether a day stands in the list: the fixed days, Buß- und Bettag, the feasts that move with Easter.
 fn is_bdew_mako_holiday(index: u32) -> bool
     requires { ⌜ index ≤ last ⌝ }
-    ensures { λ r. ⌜ r ≡ isHoliday index ⌝ }
+    ensures { λ r. ⌜ r ≡ isBdewMakoHoliday index ⌝ }
 {
     let date = datum::date_of(index);
     if is_fixed(date.month, date.day) {
@@ -121,7 +121,7 @@ fn is_bdew_mako_holiday(index: u32) -> bool
 /// Whether a day, given by its index, is a Werktag: 18 November 2026, Buß- und Bettag, is none.
 pub fn is_werktag(day: u32, cal: HolidayCalendar) -> bool
     requires { ⌜ day ≤ last ⌝ }
-    ensures { λ r. ⌜ r ≡ werktag cal day ⌝ }
+    ensures { λ r. ⌜ r ≡ isWerktag cal day ⌝ }
 {
     if 5 <= datum::weekday(day) {
         return false;

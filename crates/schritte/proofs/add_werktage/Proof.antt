@@ -5,14 +5,14 @@ use Prim.Native.Nat.{_-_}
 use mathlib.Core.Path.{_≡_}
 use borrow.Author.Needs.{needs}
 use Rattle.zaehlung.specs.Walk.{last, add}
-use Rattle.werktag.specs.Werktag.{werktag}
+use Rattle.werktag.specs.Werktag.{isWerktag}
 use Rattle.schritte.proofs.Rules.{rules}
 use Rattle.schritte.proofs.add_werktage.Statement.{statement}
 use Rattle.schritte.proofs.add_werktage.Tie as tie
 
 abbrev Inv-loop : tie.InvT-loop
 Inv-loop from n cal current₀ remaining₀ current remaining =
-    add (werktag cal) from n ≡ add (werktag cal) current remaining
+    add (isWerktag cal) from n ≡ add (isWerktag cal) current remaining
 
 abbrev μ-loop : tie.MeasureT-loop
 μ-loop from n cal current₀ remaining₀ current remaining = last - current

@@ -5,13 +5,13 @@ use Prim.Native.Nat.{_-_, _≤_}
 use mathlib.Core.Path.{_≡_}
 use borrow.Author.Needs.{needs}
 use Rattle.zaehlung.specs.Walk.{last, next}
-use Rattle.werktag.specs.Werktag.{werktag}
+use Rattle.werktag.specs.Werktag.{isWerktag}
 use Rattle.schritte.proofs.Rules.{rules}
 use Rattle.schritte.proofs.next_werktag.Statement.{statement}
 use Rattle.schritte.proofs.next_werktag.Tie as tie
 
 abbrev Inv-loop : tie.InvT-loop
-Inv-loop from cal day₀ day = (next (werktag cal) from ≡ next (werktag cal) day) × (day ≤ last)
+Inv-loop from cal day₀ day = (next (isWerktag cal) from ≡ next (isWerktag cal) day) × (day ≤ last)
 
 abbrev μ-loop : tie.MeasureT-loop
 μ-loop from cal day₀ day = last - day

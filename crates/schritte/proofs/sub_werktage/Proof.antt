@@ -5,14 +5,14 @@ use Prim.Native.Nat.{_≤_}
 use mathlib.Core.Path.{_≡_}
 use borrow.Author.Needs.{needs}
 use Rattle.zaehlung.specs.Walk.{last, sub}
-use Rattle.werktag.specs.Werktag.{werktag}
+use Rattle.werktag.specs.Werktag.{isWerktag}
 use Rattle.schritte.proofs.Rules.{rules}
 use Rattle.schritte.proofs.sub_werktage.Statement.{statement}
 use Rattle.schritte.proofs.sub_werktage.Tie as tie
 
 abbrev Inv-loop : tie.InvT-loop
 Inv-loop from n cal current₀ remaining₀ current remaining =
-    (sub (werktag cal) from n ≡ sub (werktag cal) current remaining) × (current ≤ last)
+    (sub (isWerktag cal) from n ≡ sub (isWerktag cal) current remaining) × (current ≤ last)
 
 abbrev μ-loop : tie.MeasureT-loop
 μ-loop from n cal current₀ remaining₀ current remaining = current

@@ -5,14 +5,14 @@ use Prim.Native.Nat.{_+_, _-_, _≤_}
 use mathlib.Core.Path.{_≡_}
 use borrow.Author.Needs.{needs}
 use Rattle.zaehlung.specs.Walk.{between}
-use Rattle.werktag.specs.Werktag.{werktag}
+use Rattle.werktag.specs.Werktag.{isWerktag}
 use Rattle.schritte.proofs.Rules.{rules}
 use Rattle.schritte.proofs.werktage_between.Statement.{statement}
 use Rattle.schritte.proofs.werktage_between.Tie as tie
 
 abbrev Inv-loop : tie.InvT-loop
 Inv-loop from to cal day₀ count₀ day count =
-    (between (werktag cal) from to ≡ count + between (werktag cal) day to) × (count ≤ day)
+    (between (isWerktag cal) from to ≡ count + between (isWerktag cal) day to) × (count ≤ day)
 
 abbrev μ-loop : tie.MeasureT-loop
 μ-loop from to cal day₀ count₀ day count = to - day

@@ -6,13 +6,13 @@ use Prim.Native.Nat.{_-_}
 use mathlib.Core.Path.{_≡_}
 use borrow.Author.Needs.{needs}
 use Rattle.zaehlung.specs.Walk.{last, W}
-use Rattle.werktag.specs.Werktag.{werktag}
+use Rattle.werktag.specs.Werktag.{isWerktag}
 use Rattle.vorlauf.proofs.StepRules.{step-rules}
 use Rattle.vorlauf.proofs.day_after_werktage.Statement.{statement}
 use Rattle.vorlauf.proofs.day_after_werktage.Tie as tie
 
 abbrev Inv-loop : tie.InvT-loop
-Inv-loop t n cal current₀ remaining₀ current remaining = W (werktag cal) t n ≡ W (werktag cal) current remaining
+Inv-loop t n cal current₀ remaining₀ current remaining = W (isWerktag cal) t n ≡ W (isWerktag cal) current remaining
 
 abbrev μ-loop : tie.MeasureT-loop
 μ-loop t n cal current₀ remaining₀ current remaining = last - current

@@ -23,9 +23,9 @@ use mathlib.Core.Path.{_≡_}
 use native.Mathlib.Omega.{arith}
 use Rattle.zaehlung.specs.declared.Step.the-variants.{Day, Outside}
 use Rattle.zaehlung.specs.Walk.{last, add, sub, next, W, between, among, count}
-use Rattle.zaehlung.specs.Turns.{up-none, past-none, down-none}
-use Rattle.zaehlung.specs.Count.{count-back, count-among}
-use Rattle.zaehlung.specs.Reach.{up-out, past-out, first-day, first-out, down-out, add-day, sub-day, W-day}
+use Rattle.zaehlung.proofs.Turns.{up-none, past-none, down-none}
+use Rattle.zaehlung.proofs.Count.{count-back, count-among}
+use Rattle.zaehlung.proofs.Reach.{up-out, past-out, first-day, first-out, down-out, add-day, sub-day, W-day}
 
 module _ (w : ℕ → Bool) where
   pub add-iff :

@@ -24,10 +24,10 @@ use native.Mathlib.Decide.{decLe, decLt}
 use Rattle.zaehlung.specs.declared.Step.{Step}
 use Rattle.zaehlung.specs.declared.Step.the-variants.{Day, Outside}
 use Rattle.zaehlung.specs.Walk.{last, up, past, down, first, add, sub, W, count}
-use Rattle.zaehlung.specs.Every.{split}
-use Rattle.zaehlung.specs.Turns.{up-none, up-edge, up-open, up-shut, past-none, past-edge, past-open, past-shut}
-use Rattle.zaehlung.specs.Turns.{down-none, down-edge, down-open, down-shut, first-edge, first-open, first-shut}
-use Rattle.zaehlung.specs.Count.{count-none, count-open, count-shut, count-mono, count-back, count-at}
+use Rattle.zaehlung.proofs.Every.{split}
+use Rattle.zaehlung.proofs.Turns.{up-none, up-edge, up-open, up-shut, past-none, past-edge, past-open, past-shut}
+use Rattle.zaehlung.proofs.Turns.{down-none, down-edge, down-open, down-shut, first-edge, first-open, first-shut}
+use Rattle.zaehlung.proofs.Count.{count-none, count-open, count-shut, count-mono, count-back, count-at}
 
 pub record Past (w : ℕ → Bool) (m d n e : ℕ) : Type 0 where
   pub counted : count w e ≡ count w d + n
