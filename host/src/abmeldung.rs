@@ -1,7 +1,8 @@
-//! The Vorlauffrist of a deregistration by the Netzbetreiber, with plain types.
+//! The Vorlauffrist of a deregistration by the Netzbetreiber: its case, its shape, its verdict.
 
-use crate::vorlauf::verdict;
-use crate::{ffi, Answer, Date, Eeg, Refusal, VorlaufVerdict};
+#[cfg(doc)]
+use crate::Refusal;
+use crate::{ffi, Answer, Call, Date, Eeg, Error, VorlaufShape, VorlaufVerdict};
 
 /// Which Vorlauffrist a deregistration has.
 #[derive(Clone, Copy, Debug, PartialEq, Eq, Hash)]
@@ -40,11 +41,11 @@ impl AbmeldungVorlauf {
     ///
     /// # Errors
     ///
-    /// None that document 01 lists: every reason has a case under every mark.
-    pub fn fuer(transaktionsgrund: &[u8], eeg: Eeg) -> Result<AbmeldungVorlauf, Refusal> {
-        let call = |a: &mut [u8]| ffi::mf_abmeldung_fuer(transaktionsgrund, eeg.code(), a);
-        let kind = usize::from(Answer::of(call)?.kind());
-        Ok(AbmeldungVorlauf::ALL.get(kind).copied().unwrap_or(AbmeldungVorlauf::Unbestimmt))
+    /// No refusal: every reason has a case under every mark.
+    pub fn fuer(transaktionsgrund: &[u8], eeg: Eeg) -> Result<AbmeldungVorlauf, Error> {
+        Answer::content_of(Call::AbmeldungFuer, |answer| {
+            ffi::mf_abmeldung_fuer(transaktionsgrund, eeg.code(), answer)
+        })
     }
 
     /// The verdict on a transmission day and the Zuordnungsende. None if there is no shape to ask,
@@ -68,10 +69,9 @@ impl AbmeldungVorlauf {
         eeg: Eeg,
         uebertragungstag: Date,
         zuordnungsende: Date,
-    ) -> Result<Option<VorlaufVerdict>, Refusal> {
-        const NO_SHAPE: u8 = 3;
+    ) -> Result<Option<VorlaufVerdict>, Error> {
         let (from, to) = (uebertragungstag, zuordnungsende);
-        let answer = Answer::of(|a| {
+        Answer::content_of(Call::AbmeldungCheck, |answer| {
             ffi::mf_abmeldung_check(
                 transaktionsgrund,
                 eeg.code(),
@@ -81,9 +81,58 @@ impl AbmeldungVorlauf {
                 to.year,
                 to.month,
                 to.day,
-                a,
+                answer,
             )
-        })?;
-        Ok((answer.kind() != NO_SHAPE).then(|| verdict(&answer)))
+        })
+    }
+
+    /// The shape of the Vorlauffrist; none if it is not known or is that of another Prüfschritt.
+    ///
+    /// ```
+    /// use mako_fristen_host::{AbmeldungVorlauf, VorlaufShape};
+    ///
+    /// let month = AbmeldungVorlauf::EinMonat.shape();
+    /// assert_eq!(month, Some(VorlaufShape::LatestMonateBefore(1)));
+    /// assert_eq!(AbmeldungVorlauf::Unbestimmt.shape(), None);
+    /// ```
+    #[must_use]
+    pub const fn shape(self) -> Option<VorlaufShape> {
+        match self {
+            AbmeldungVorlauf::TagVorDemLetztenWerktag => {
+                Some(VorlaufShape::TagVorDemLetztenWerktagVor)
+            }
+            AbmeldungVorlauf::EinMonat => Some(VorlaufShape::LatestMonateBefore(1)),
+            AbmeldungVorlauf::Unbestimmt | AbmeldungVorlauf::AnPruefschritt120 => None,
+        }
+    }
+
+    /// What the case means, in German; of `Unbestimmt` the original's `grund`, word for word.
+    ///
+    /// ```
+    /// use mako_fristen_host::AbmeldungVorlauf;
+    ///
+    /// let words = "Spätester Übertragungstag liegt 1 Monat vor dem Zuordnungsende.";
+    /// assert_eq!(AbmeldungVorlauf::EinMonat.beschreibung(), words);
+    /// ```
+    #[must_use]
+    pub const fn beschreibung(self) -> &'static str {
+        match self {
+            AbmeldungVorlauf::TagVorDemLetztenWerktag => {
+                "Spätester Übertragungstag ist der Tag vor dem letzten Werktag vor dem \
+                 Zuordnungsende."
+            }
+            AbmeldungVorlauf::EinMonat => {
+                "Spätester Übertragungstag liegt 1 Monat vor dem Zuordnungsende."
+            }
+            AbmeldungVorlauf::Unbestimmt => {
+                "Für EEG-Marktlokationen und Tranchen von EEG-Marktlokationen gilt \
+                 ein Monat statt des letzten Werktags (GPKE Teil 2 Kap. 2.5.2 Nr. 1); \
+                 ob die Marktlokation eine EEG-Marktlokation ist, ist nicht bekannt."
+            }
+            AbmeldungVorlauf::AnPruefschritt120 => {
+                "Die Frist ist die des Prüfschritts 120: „Liegt das Eingangsdatum der Abmeldung \
+                 nach dem 5. WT des Monats, in dem die Zuordnungsermächtigung endet?“"
+            }
+        }
     }
 }

@@ -1,4 +1,9 @@
-use crate::{Date, Instant, Refusal};
+use crate::content::FromAnswer;
+use crate::fields::Fields;
+use crate::{
+    AbmeldungVorlauf, Call, Content, Date, Error, GasDue, Instant, Refusal, Span, Unreadable,
+    VorlaufVerdict,
+};
 use std::fmt;
 
 const REFUSAL: usize = 0;
@@ -9,8 +14,24 @@ const NANOS: usize = 16;
 const DATE: usize = 20;
 const LAST_DATE: usize = 24;
 
+/// What is lent to a call: no answer, should the call leave it as it is.
+const UNTOUCHED: Answer = Answer::from_bytes([u8::MAX; Answer::LEN]);
+
 /// The 32 bytes of an answer, little-endian, laid out as document 01 says. What a call does not
-/// fill is zero.
+/// fill is zero. The fields are given as they stand there; what they mean is for
+/// [`read`](Answer::read) to say.
+///
+/// ```
+/// use mako_fristen_host::{Answer, Date, Instant};
+///
+/// let date = Date::new(2026, 1, 13);
+/// let answer = Answer::default().with_kind(1).with_count(2).with_date(date);
+/// assert_eq!((answer.number(), answer.kind(), answer.count()), (0, 1, 2));
+/// assert_eq!((answer.date(), answer.last_date()), (date, Date::default()));
+/// assert_eq!(answer.instant(), Instant::default());
+/// assert_eq!(answer.as_bytes()[..8], [0, 1, 0, 0, 2, 0, 0, 0]);
+/// assert_eq!(answer.as_bytes()[20..24], [0xea, 0x07, 1, 13]);
+/// ```
 #[derive(Clone, Copy, Debug, Default, PartialEq, Eq, Hash)]
 pub struct Answer {
     bytes: [u8; Answer::LEN],
@@ -20,7 +41,7 @@ impl Answer {
     /// How many bytes an answer has.
     pub const LEN: usize = 32;
 
-    /// The answer of these bytes, whatever they are: its fields are read, not judged.
+    /// The answer of these bytes, whatever they are: [`read`](Answer::read) judges them.
     #[must_use]
     pub const fn from_bytes(bytes: [u8; Answer::LEN]) -> Answer {
         Answer { bytes }
@@ -69,27 +90,132 @@ impl Answer {
         Date::from_bytes(self.field(LAST_DATE))
     }
 
-    /// The answer of a call to which 32 bytes are lent, unless it refuses.
+    /// What an answer of `call` says. Every byte of it counts: a kind that document 01 does not have
+    /// for the call is an error, and so is a field that is not zero although the kind does not fill
+    /// it, or a date or an instant outside the calendar. The type is the one that
+    /// [`Call::content`] names; as any other, no answer can be read.
     ///
     /// ```
-    /// use mako_fristen_host::{ffi, Answer, Date};
+    /// use mako_fristen_host::{Answer, Call, Date, Error, Refusal, Span};
     ///
-    /// let answer = Answer::of(|bytes| ffi::mf_add_werktage(2026, 4, 2, 1, bytes));
-    /// assert_eq!(answer, Ok(Answer::default().with_date(Date::new(2026, 4, 7))));
+    /// let (first, last) = (Date::new(2026, 1, 6), Date::new(2026, 1, 12));
+    /// let between = Answer::default().with_kind(1).with_date(first).with_last_date(last);
+    /// assert_eq!(between.read(Call::VorlaufSpan), Ok(Span::Between(first, last)));
+    /// let unknown = between.with_kind(3).read::<Span>(Call::VorlaufSpan);
+    /// assert!(matches!(unknown, Err(Error::Unreadable(_))));
+    /// let refused = Answer::refused(Refusal::NoDate).read::<Span>(Call::VorlaufSpan);
+    /// assert_eq!(refused, Err(Error::Refused(Refusal::NoDate)));
     /// ```
     ///
     /// # Errors
     ///
-    /// The refusal whose number the call returned.
-    pub fn of(call: impl FnOnce(&mut [u8]) -> u8) -> Result<Answer, Refusal> {
-        let mut bytes = [0; Answer::LEN];
-        match Refusal::of_number(call(&mut bytes)) {
-            Some(refusal) => Err(refusal),
-            None => Ok(Answer::from_bytes(bytes)),
+    /// [`Error::Refused`], if the answer is a refusal's; else [`Error::Unreadable`].
+    pub fn read<T: FromAnswer>(&self, call: Call) -> Result<T, Error> {
+        self.read_beside(self.number(), call)
+    }
+
+    /// The same beside the number that the call returned.
+    fn read_beside<T: FromAnswer>(&self, number: u8, call: Call) -> Result<T, Error> {
+        let fields = Fields::of(self);
+        let answered = number == 0 && call.content() == T::CONTENT;
+        let content = if answered { T::read(&fields, call) } else { None };
+        match content {
+            Some(content) if content.written() == fields => Ok(content),
+            _ => Err(self.without_content(&fields, number, call)),
         }
     }
 
-    /// A refusal's answer: its number, and nothing else.
+    fn without_content(&self, fields: &Fields, number: u8, call: Call) -> Error {
+        let refused = Fields { number, ..Fields::default() };
+        match Refusal::of_number(number) {
+            // A 1 leaves the slice untouched, so that no 32 bytes hold it.
+            None | Some(Refusal::AnswerLength) => self.unreadable(number, call),
+            Some(refusal) if *fields == refused => refusal.into(),
+            Some(_) => self.unreadable(number, call),
+        }
+    }
+
+    #[cold]
+    fn unreadable(&self, number: u8, call: Call) -> Error {
+        Unreadable { call, number, answer: *self }.into()
+    }
+
+    /// The answer itself, if [`read`](Answer::read) knows it as one of `call`.
+    ///
+    /// ```
+    /// use mako_fristen_host::{Answer, Call};
+    ///
+    /// let werktag = Answer::default().with_kind(1);
+    /// assert_eq!(werktag.checked(Call::IsWerktag), Ok(werktag));
+    /// assert!(werktag.checked(Call::AddWerktage).is_err(), "a step has no kind");
+    /// ```
+    ///
+    /// # Errors
+    ///
+    /// Those of [`read`](Answer::read).
+    pub fn checked(self, call: Call) -> Result<Answer, Error> {
+        self.checked_beside(self.number(), call)
+    }
+
+    fn checked_beside(&self, number: u8, call: Call) -> Result<Answer, Error> {
+        match call.content() {
+            Content::Werktag => self.is_read_as::<bool>(number, call),
+            Content::Date => self.is_read_as::<Date>(number, call),
+            Content::Count => self.is_read_as::<u32>(number, call),
+            Content::Instant => self.is_read_as::<Instant>(number, call),
+            Content::GasDue => self.is_read_as::<GasDue>(number, call),
+            Content::Verdict => self.is_read_as::<VorlaufVerdict>(number, call),
+            Content::AbmeldungVerdict => self.is_read_as::<Option<VorlaufVerdict>>(number, call),
+            Content::Span => self.is_read_as::<Span>(number, call),
+            Content::AbmeldungVorlauf => self.is_read_as::<AbmeldungVorlauf>(number, call),
+            Content::Ankuendigung => self.is_read_as::<Option<bool>>(number, call),
+        }
+        .map(|()| *self)
+    }
+
+    fn is_read_as<T: FromAnswer>(&self, number: u8, call: Call) -> Result<(), Error> {
+        self.read_beside::<T>(number, call).map(|_| ())
+    }
+
+    /// The answer of `call`, which `ask` puts with the 32 bytes that are lent to it.
+    ///
+    /// ```
+    /// use mako_fristen_host::{ffi, Answer, Call, Date, Error};
+    ///
+    /// let answer = Answer::of(Call::AddWerktage, |a| ffi::mf_add_werktage(2026, 4, 2, 1, a));
+    /// assert_eq!(answer, Ok(Answer::default().with_date(Date::new(2026, 4, 7))));
+    /// let silent = Answer::of(Call::AddWerktage, |_| 0);
+    /// assert!(matches!(silent, Err(Error::Unreadable(_))), "no byte was written");
+    /// ```
+    ///
+    /// # Errors
+    ///
+    /// Those of [`read`](Answer::read); [`Error::Unreadable`] as well, if the number that is returned
+    /// is not the one in the answer.
+    pub fn of(call: Call, ask: impl FnOnce(&mut [u8]) -> u8) -> Result<Answer, Error> {
+        let mut answer = UNTOUCHED;
+        let number = ask(&mut answer.bytes);
+        answer.checked_beside(number, call)
+    }
+
+    /// The same, read.
+    pub(crate) fn content_of<T: FromAnswer>(
+        call: Call,
+        ask: impl FnOnce(&mut [u8]) -> u8,
+    ) -> Result<T, Error> {
+        let mut answer = UNTOUCHED;
+        let number = ask(&mut answer.bytes);
+        answer.read_beside(number, call)
+    }
+
+    /// A refusal's answer: its number, and nothing else. Refusal 1 leaves a slice untouched, so that
+    /// no call gives this answer of it.
+    ///
+    /// ```
+    /// use mako_fristen_host::{Answer, Refusal};
+    ///
+    /// assert_eq!(Answer::refused(Refusal::LeavesCalendar).number(), 8);
+    /// ```
     #[must_use]
     pub fn refused(refusal: Refusal) -> Answer {
         Answer::default().with(REFUSAL, &[refusal.number()])
@@ -125,7 +251,7 @@ impl Answer {
         self.with(LAST_DATE, &date.to_bytes())
     }
 
-    fn field<const N: usize>(&self, at: usize) -> [u8; N] {
+    pub(crate) fn field<const N: usize>(&self, at: usize) -> [u8; N] {
         std::array::from_fn(|i| self.bytes[at + i])
     }
 

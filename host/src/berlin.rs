@@ -2,7 +2,9 @@
 //! last Sunday of October 01:00 UTC, in every year. A date that is none of the calendar is refused
 //! with [`Refusal::NoDate`], an instant outside its days with [`Refusal::InstantOutside`].
 
-use crate::{Call, Clock, Date, Instant, Question, Refusal, Sparte};
+#[cfg(doc)]
+use crate::Refusal;
+use crate::{Call, Clock, Date, Error, Instant, Question, Sparte};
 
 /// The instant at which Berlin's clock shows `at` on `date`; the earlier one if it does so twice,
 /// as on 25 October 2026, a refusal if it never does, as on 29 March.
@@ -14,15 +16,15 @@ use crate::{Call, Clock, Date, Instant, Question, Refusal, Sparte};
 /// let utc_00_30 = Instant::new(1_792_888_200, 0);
 /// assert_eq!(berlin_at(Date::new(2026, 10, 25), half_past_two), Ok(utc_00_30));
 /// let absent = berlin_at(Date::new(2026, 3, 29), half_past_two);
-/// assert_eq!(absent, Err(Refusal::LocalTimeAbsent));
+/// assert_eq!(absent, Err(Refusal::LocalTimeAbsent.into()));
 /// ```
 ///
 /// # Errors
 ///
 /// [`Refusal::NoDate`], [`Refusal::NoClock`]; [`Refusal::LocalTimeAbsent`] for 02:00 up to 03:00 on
 /// the last Sunday of March.
-pub fn berlin_at(date: Date, at: Clock) -> Result<Instant, Refusal> {
-    Ok(Question::on(Call::BerlinAt, date).with_clock(at).answer()?.instant())
+pub fn berlin_at(date: Date, at: Clock) -> Result<Instant, Error> {
+    Question::on(Call::BerlinAt, date).with_clock(at).content()
 }
 
 /// 00:00 in Berlin: 22:00 UTC of the day before in summer.
@@ -36,8 +38,8 @@ pub fn berlin_at(date: Date, at: Clock) -> Result<Instant, Refusal> {
 /// # Errors
 ///
 /// [`Refusal::NoDate`].
-pub fn berlin_midnight(date: Date) -> Result<Instant, Refusal> {
-    Ok(Question::on(Call::BerlinMidnight, date).answer()?.instant())
+pub fn berlin_midnight(date: Date) -> Result<Instant, Error> {
+    Question::on(Call::BerlinMidnight, date).content()
 }
 
 /// 23:59:59.999999999 in Berlin, a nanosecond before the next day.
@@ -52,8 +54,8 @@ pub fn berlin_midnight(date: Date) -> Result<Instant, Refusal> {
 /// # Errors
 ///
 /// [`Refusal::NoDate`].
-pub fn end_of_day_berlin(date: Date) -> Result<Instant, Refusal> {
-    Ok(Question::on(Call::EndOfDayBerlin, date).answer()?.instant())
+pub fn end_of_day_berlin(date: Date) -> Result<Instant, Error> {
+    Question::on(Call::EndOfDayBerlin, date).content()
 }
 
 /// The beginning of `date`: 00:00 in Berlin for Strom, 06:00 for Gas. On 29 March 2026, when the
@@ -71,8 +73,8 @@ pub fn end_of_day_berlin(date: Date) -> Result<Instant, Refusal> {
 /// # Errors
 ///
 /// [`Refusal::NoDate`].
-pub fn tagesbeginn_utc(date: Date, sparte: Sparte) -> Result<Instant, Refusal> {
-    Ok(Question::on(Call::TagesbeginnUtc, date).with_code(sparte.code()).answer()?.instant())
+pub fn tagesbeginn_utc(date: Date, sparte: Sparte) -> Result<Instant, Error> {
+    Question::on(Call::TagesbeginnUtc, date).with_code(sparte.code()).content()
 }
 
 /// The day in Berlin, which is not the UTC day: 1 April 2026, 22:00 UTC is 2 April.
@@ -86,8 +88,8 @@ pub fn tagesbeginn_utc(date: Date, sparte: Sparte) -> Result<Instant, Refusal> {
 /// # Errors
 ///
 /// [`Refusal::InstantOutside`].
-pub fn berlin_date(instant: Instant) -> Result<Date, Refusal> {
-    Ok(Question::at(Call::BerlinDate, instant).answer()?.date())
+pub fn berlin_date(instant: Instant) -> Result<Date, Error> {
+    Question::at(Call::BerlinDate, instant).content()
 }
 
 /// The day that begins at `instant`, the inverse of [`tagesbeginn_utc`]. No Strom day begins at
@@ -98,12 +100,13 @@ pub fn berlin_date(instant: Instant) -> Result<Date, Refusal> {
 ///
 /// let six_in_berlin = Instant::new(1_774_756_800, 0);
 /// assert_eq!(tag_des_beginns(six_in_berlin, Sparte::Gas), Ok(Date::new(2026, 3, 29)));
-/// assert_eq!(tag_des_beginns(six_in_berlin, Sparte::Strom), Err(Refusal::NoBeginning));
+/// let none = tag_des_beginns(six_in_berlin, Sparte::Strom);
+/// assert_eq!(none, Err(Refusal::NoBeginning.into()));
 /// ```
 ///
 /// # Errors
 ///
 /// [`Refusal::InstantOutside`], [`Refusal::NoBeginning`].
-pub fn tag_des_beginns(instant: Instant, sparte: Sparte) -> Result<Date, Refusal> {
-    Ok(Question::at(Call::TagDesBeginns, instant).with_code(sparte.code()).answer()?.date())
+pub fn tag_des_beginns(instant: Instant, sparte: Sparte) -> Result<Date, Error> {
+    Question::at(Call::TagDesBeginns, instant).with_code(sparte.code()).content()
 }

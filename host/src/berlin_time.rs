@@ -1,4 +1,4 @@
-use crate::{berlin_at, berlin_date, Clock, Date, Instant, Refusal};
+use crate::{berlin_at, berlin_date, Clock, Date, Error, Instant, Refusal};
 
 const HOUR: i64 = 3600;
 
@@ -25,26 +25,34 @@ impl BerlinTime {
     /// let time = BerlinTime::of(Instant::new(1_792_888_200, 0))?;
     /// assert_eq!((time.date, time.clock), (Date::new(2026, 10, 25), Clock::new(2, 30, 0, 0)));
     /// assert!(time.summer && time.repeated);
-    /// # Ok::<(), mako_fristen_host::Refusal>(())
+    /// # Ok::<(), mako_fristen_host::Error>(())
     /// ```
     ///
     /// # Errors
     ///
     /// [`Refusal::InstantOutside`].
-    pub fn of(instant: Instant) -> Result<BerlinTime, Refusal> {
+    pub fn of(instant: Instant) -> Result<BerlinTime, Error> {
         let date = berlin_date(instant)?;
-        let summer = is_summer(instant);
+        let summer = is_summer(instant)?;
         let (_, clock) = shown(instant, summer).ok_or(Refusal::InstantOutside)?;
-        let other = instant.plus_seconds(if summer { HOUR } else { -HOUR });
-        let repeated = other.is_some_and(|other| is_summer(other) != summer);
+        let repeated = match instant.plus_seconds(if summer { HOUR } else { -HOUR }) {
+            Some(other) => is_summer(other)? != summer,
+            None => false,
+        };
         Ok(BerlinTime { date, clock, summer, repeated })
     }
 }
 
 /// A repeated time means its earlier instant, which is the one in summer time: so the call gives
 /// the instant back for the clock of UTC+2 exactly if that is the clock.
-fn is_summer(instant: Instant) -> bool {
-    shown(instant, true).is_some_and(|(date, clock)| berlin_at(date, clock) == Ok(instant))
+fn is_summer(instant: Instant) -> Result<bool, Error> {
+    let Some((date, clock)) = shown(instant, true) else { return Ok(false) };
+    match berlin_at(date, clock) {
+        Ok(at) => Ok(at == instant),
+        // In winter time the clock of UTC+2 may show a time that is absent, or the year 2900.
+        Err(Error::Refused(Refusal::LocalTimeAbsent | Refusal::NoDate)) => Ok(false),
+        Err(error) => Err(error),
+    }
 }
 
 fn shown(instant: Instant, summer: bool) -> Option<(Date, Clock)> {

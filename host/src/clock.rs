@@ -1,4 +1,8 @@
-use std::fmt;
+//! A time of day: its numbers and its text.
+
+use crate::text::Text;
+use std::str::FromStr;
+use std::{error, fmt};
 
 /// A time of day on Berlin's clock. Any four numbers are allowed here: the calls refuse an hour
 /// over 23, a minute or second over 59 and nanoseconds over 999,999,999.
@@ -15,11 +19,51 @@ pub struct Clock {
 }
 
 impl Clock {
-    /// The clock time of these four numbers, whatever they are.
+    /// The clock time of these four numbers, whatever they are: `Clock::new(24, 0, 0, 0)` is a value
+    /// that the calls refuse.
     #[must_use]
     pub const fn new(hour: u8, minute: u8, second: u8, nanos: u32) -> Clock {
         Clock { hour, minute, second, nanos }
     }
+
+    /// As it is read out in German, with seconds and their fraction where they are not zero.
+    ///
+    /// ```
+    /// use mako_fristen_host::Clock;
+    ///
+    /// assert_eq!(Clock::new(12, 0, 0, 0).uhr(), "12:00 Uhr");
+    /// assert_eq!(Clock::new(12, 0, 0, 500_000_000).uhr(), "12:00:00,5 Uhr");
+    /// ```
+    #[must_use]
+    pub fn uhr(self) -> String {
+        let Clock { hour, minute, second, nanos } = self;
+        match (second, nanos) {
+            (0, 0) => format!("{hour:02}:{minute:02} Uhr"),
+            (_, 0) => format!("{hour:02}:{minute:02}:{second:02} Uhr"),
+            _ => {
+                let digits = format!("{nanos:09}");
+                format!("{hour:02}:{minute:02}:{second:02},{} Uhr", digits.trim_end_matches('0'))
+            }
+        }
+    }
+
+    fn read(text: &mut Text) -> Option<Clock> {
+        let (hour, minute) = hour_and_minute(text)?;
+        let (second, nanos) = if text.starts_with(b':') { seconds(text)? } else { (0, 0) };
+        Some(Clock::new(hour, minute, second, nanos))
+    }
+}
+
+pub(crate) fn hour_and_minute(text: &mut Text) -> Option<(u8, u8)> {
+    let hour = text.digits(2)?;
+    text.one_of(b":")?;
+    Some((hour, text.digits(2)?))
+}
+
+/// The seconds behind their colon, and the nanoseconds.
+pub(crate) fn seconds(text: &mut Text) -> Option<(u8, u32)> {
+    text.one_of(b":")?;
+    Some((text.digits(2)?, text.fraction()?))
 }
 
 /// As ISO 8601 writes it, with nine digits of a second: `12:00:00.000000000`.
@@ -29,3 +73,33 @@ impl fmt::Display for Clock {
         write!(f, "{hour:02}:{minute:02}:{second:02}.{nanos:09}")
     }
 }
+
+/// `13:00`, `13:00:00` or `13:00:00.5`, with up to nine digits of a second. Any digits are taken:
+/// the calls refuse what no clock shows.
+///
+/// ```
+/// use mako_fristen_host::{Clock, ClockError};
+///
+/// assert_eq!("13:00".parse(), Ok(Clock::new(13, 0, 0, 0)));
+/// assert_eq!("13:00:00.5".parse(), Ok(Clock::new(13, 0, 0, 500_000_000)));
+/// assert_eq!("1 pm".parse::<Clock>(), Err(ClockError));
+/// ```
+impl FromStr for Clock {
+    type Err = ClockError;
+
+    fn from_str(text: &str) -> Result<Clock, ClockError> {
+        Text::whole(text, Clock::read).ok_or(ClockError)
+    }
+}
+
+/// The text is not two digits and two, with or without two more and a fraction.
+#[derive(Clone, Copy, Debug, PartialEq, Eq)]
+pub struct ClockError;
+
+impl fmt::Display for ClockError {
+    fn fmt(&self, f: &mut fmt::Formatter<'_>) -> fmt::Result {
+        f.write_str("expected a clock time like 13:00, 13:00:00 or 13:00:00.5")
+    }
+}
+
+impl error::Error for ClockError {}

@@ -1,7 +1,9 @@
 //! The names of the holidays of document 01. Easter is not computed again: Karfreitag is read off
 //! [`is_werktag`], and the other feasts follow from it.
 
-use crate::{is_werktag, Date, Refusal, Weekday};
+#[cfg(doc)]
+use crate::Refusal;
+use crate::{is_werktag, Date, Error, Weekday};
 
 /// When a holiday is.
 #[derive(Clone, Copy, Debug, PartialEq, Eq)]
@@ -57,10 +59,18 @@ impl Feiertag {
 
     /// The holidays of a year by date; two on one date in the order of document 01.
     ///
+    /// ```
+    /// use mako_fristen_host::{Date, Feiertag};
+    ///
+    /// let (date, holiday) = Feiertag::of_year(2026)?[3];
+    /// assert_eq!((date, holiday.name), (Date::new(2026, 4, 3), "Karfreitag"));
+    /// # Ok::<(), mako_fristen_host::Error>(())
+    /// ```
+    ///
     /// # Errors
     ///
     /// [`Refusal::NoDate`], for a year that is none from 1996 to 2899.
-    pub fn of_year(year: u16) -> Result<Vec<(Date, Feiertag)>, Refusal> {
+    pub fn of_year(year: u16) -> Result<Vec<(Date, Feiertag)>, Error> {
         let karfreitag = karfreitag(year)?;
         let dated = |holiday: Feiertag| Some((holiday.rule.date(year, karfreitag)?, holiday));
         let mut holidays: Vec<_> = Feiertag::ALL.into_iter().filter_map(dated).collect();
@@ -75,13 +85,13 @@ impl Feiertag {
     ///
     /// let names: Vec<_> = Feiertag::on(Date::new(2008, 5, 1))?.iter().map(|day| day.name).collect();
     /// assert_eq!(names, ["Tag der Arbeit", "Christi Himmelfahrt"]);
-    /// # Ok::<(), mako_fristen_host::Refusal>(())
+    /// # Ok::<(), mako_fristen_host::Error>(())
     /// ```
     ///
     /// # Errors
     ///
     /// [`Refusal::NoDate`].
-    pub fn on(date: Date) -> Result<Vec<Feiertag>, Refusal> {
+    pub fn on(date: Date) -> Result<Vec<Feiertag>, Error> {
         is_werktag(date)?;
         let holidays = Feiertag::of_year(date.year)?.into_iter();
         Ok(holidays.filter(|(day, _)| *day == date).map(|(_, holiday)| holiday).collect())
@@ -104,7 +114,7 @@ impl Rule {
 }
 
 /// The only Friday from 20 March to 23 April that is closed: no other holiday lies there.
-fn karfreitag(year: u16) -> Result<Option<Date>, Refusal> {
+fn karfreitag(year: u16) -> Result<Option<Date>, Error> {
     let days = (0..35).filter_map(|day| Date::new(year, 3, 20).plus_days(day));
     for friday in days.filter(|day| day.weekday() == Some(Weekday::Freitag)) {
         if !is_werktag(friday)? {

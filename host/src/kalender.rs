@@ -2,7 +2,9 @@
 //! 1 January 1996 to 31 December 2899 ([`Refusal::NoDate`]), and every step one that would leave
 //! that range ([`Refusal::LeavesCalendar`]).
 
-use crate::{Call, Date, Question, Refusal};
+#[cfg(doc)]
+use crate::Refusal;
+use crate::{Call, Date, Error, Question};
 
 /// Whether `date` is a Werktag: not Saturday, Sunday or a holiday of any Bundesland (GPKE Teil 1).
 /// Karfreitag 2026 is none, and neither is Buß- und Bettag, a holiday of Sachsen alone.
@@ -18,8 +20,8 @@ use crate::{Call, Date, Question, Refusal};
 /// # Errors
 ///
 /// [`Refusal::NoDate`].
-pub fn is_werktag(date: Date) -> Result<bool, Refusal> {
-    Ok(Question::on(Call::IsWerktag, date).answer()?.kind() == 1)
+pub fn is_werktag(date: Date) -> Result<bool, Error> {
+    Question::on(Call::IsWerktag, date).content()
 }
 
 /// The first Werktag on or after `from`: a Werktag is its own, Karfreitag's is the Tuesday.
@@ -34,8 +36,8 @@ pub fn is_werktag(date: Date) -> Result<bool, Refusal> {
 /// # Errors
 ///
 /// [`Refusal::NoDate`], [`Refusal::LeavesCalendar`].
-pub fn next_werktag(from: Date) -> Result<Date, Refusal> {
-    Ok(Question::on(Call::NextWerktag, from).answer()?.date())
+pub fn next_werktag(from: Date) -> Result<Date, Error> {
+    Question::on(Call::NextWerktag, from).content()
 }
 
 /// The `n`-th Werktag after `from`; `from` itself, Werktag or not, for 0.
@@ -51,7 +53,7 @@ pub fn next_werktag(from: Date) -> Result<Date, Refusal> {
 /// # Errors
 ///
 /// [`Refusal::NoDate`], [`Refusal::LeavesCalendar`].
-pub fn add_werktage(from: Date, n: u32) -> Result<Date, Refusal> {
+pub fn add_werktage(from: Date, n: u32) -> Result<Date, Error> {
     step(Call::AddWerktage, from, n)
 }
 
@@ -62,13 +64,13 @@ pub fn add_werktage(from: Date, n: u32) -> Result<Date, Refusal> {
 /// use mako_fristen_host::{sub_werktage, Date, Refusal};
 ///
 /// assert_eq!(sub_werktage(Date::new(2026, 4, 7), 1), Ok(Date::new(2026, 4, 2)));
-/// assert_eq!(sub_werktage(Date::new(1996, 1, 2), 1), Err(Refusal::LeavesCalendar));
+/// assert_eq!(sub_werktage(Date::new(1996, 1, 2), 1), Err(Refusal::LeavesCalendar.into()));
 /// ```
 ///
 /// # Errors
 ///
 /// [`Refusal::NoDate`], [`Refusal::LeavesCalendar`].
-pub fn sub_werktage(from: Date, n: u32) -> Result<Date, Refusal> {
+pub fn sub_werktage(from: Date, n: u32) -> Result<Date, Error> {
     step(Call::SubWerktage, from, n)
 }
 
@@ -86,11 +88,12 @@ pub fn sub_werktage(from: Date, n: u32) -> Result<Date, Refusal> {
 /// # Errors
 ///
 /// [`Refusal::NoDate`], for either date.
-pub fn werktage_between(from: Date, to: Date) -> Result<u32, Refusal> {
-    Ok(Question::on(Call::WerktageBetween, from).with_second(to).answer()?.count())
+pub fn werktage_between(from: Date, to: Date) -> Result<u32, Error> {
+    Question::on(Call::WerktageBetween, from).with_second(to).content()
 }
 
-/// `n` months after `date`; a day that the month lacks becomes its last (BGB §188).
+/// `n` months after `date`, the date itself for 0; a day that the month lacks becomes its last (BGB
+/// §188).
 ///
 /// ```
 /// use mako_fristen_host::{add_months, Date};
@@ -101,11 +104,12 @@ pub fn werktage_between(from: Date, to: Date) -> Result<u32, Refusal> {
 /// # Errors
 ///
 /// [`Refusal::NoDate`], [`Refusal::LeavesCalendar`].
-pub fn add_months(date: Date, n: u32) -> Result<Date, Refusal> {
+pub fn add_months(date: Date, n: u32) -> Result<Date, Error> {
     step(Call::AddMonths, date, n)
 }
 
-/// `n` months before `date`; a day that the month lacks becomes its last (BGB §188).
+/// `n` months before `date`, the date itself for 0; a day that the month lacks becomes its last (BGB
+/// §188).
 ///
 /// ```
 /// use mako_fristen_host::{subtract_months, Date};
@@ -116,10 +120,10 @@ pub fn add_months(date: Date, n: u32) -> Result<Date, Refusal> {
 /// # Errors
 ///
 /// [`Refusal::NoDate`], [`Refusal::LeavesCalendar`].
-pub fn subtract_months(date: Date, n: u32) -> Result<Date, Refusal> {
+pub fn subtract_months(date: Date, n: u32) -> Result<Date, Error> {
     step(Call::SubtractMonths, date, n)
 }
 
-fn step(call: Call, from: Date, n: u32) -> Result<Date, Refusal> {
-    Ok(Question::on(call, from).with_count(n).answer()?.date())
+fn step(call: Call, from: Date, n: u32) -> Result<Date, Error> {
+    Question::on(call, from).with_count(n).content()
 }

@@ -7,33 +7,40 @@
 //! | *Which day is n Werktage later, or earlier?* | [`add_werktage`], [`sub_werktage`] |
 //! | *How many Werktage lie between two dates?* | [`werktage_between`] |
 //! | *Which day is n months later, or earlier?* | [`add_months`], [`subtract_months`] |
-//! | *At which instant does Berlin's clock show a time?* | [`berlin_at`], [`berlin_midnight`], [`end_of_day_berlin`] |
-//! | *At which instant does a day begin, and which day begins then?* | [`tagesbeginn_utc`], [`tag_des_beginns`] |
+//! | *At which instant does Berlin's clock show a time?* | [`berlin_at`] |
+//! | *At which instant does a day in Berlin begin and end?* | [`berlin_midnight`], [`end_of_day_berlin`] |
+//! | *And in a Sparte? Which day begins then?* | [`tagesbeginn_utc`], [`tag_des_beginns`] |
 //! | *Which day is it in Berlin?* | [`berlin_date`] |
 //! | *When is a CONTRL due?* | [`contrl_due_at`] |
-//! | *When is an APERAK due?* | [`aperak_strom_due_at`], [`aperak_strom_allgemein_due_at`], [`aperak_gas_due_at`], [`aperak_gas_folgeprozess_due_at`], [`aperak_gas_initialprozess_due_at`] |
+//! | *When is an APERAK due, of Strom?* | [`aperak_strom_due_at`], [`aperak_strom_allgemein_due_at`] |
+//! | *And of Gas, by the Prüfidentifikator?* | [`aperak_gas_due_at`] |
+//! | *And by the process?* | [`aperak_gas_folgeprozess_due_at`], [`aperak_gas_initialprozess_due_at`] |
 //! | *When is an answer due?* | [`FristShape::due_at`] |
-//! | *Which instant is n hours or Werktage later?* | [`add_hours`], [`deadline_at_werktage`], [`end_of_werktag_after`], [`next_werktag_at`], [`nth_werktag_at`] |
+//! | *Which instant is n hours later?* | [`add_hours`] |
+//! | *When does the n-th Werktag after it end?* | [`deadline_at_werktage`], [`end_of_werktag_after`] |
+//! | *When does it reach a clock time?* | [`next_werktag_at`], [`nth_werktag_at`] |
 //! | *Was a message sent in time for the date it carries?* | [`VorlaufShape::check`], [`VorlaufShape::check_at`] |
 //! | *Which dates may a message of a day carry?* | [`VorlaufShape::span`] |
-//! | *Which Vorlauffrist has a deregistration, and was it kept?* | [`AbmeldungVorlauf::fuer`], [`AbmeldungVorlauf::check`] |
+//! | *Which Vorlauffrist has a deregistration?* | [`AbmeldungVorlauf::fuer`] |
+//! | *And was it kept?* | [`AbmeldungVorlauf::check`] |
 //! | *Did the 13:00 announcement come in time?* | [`eog_ankuendigung_fristgerecht`] |
 //!
-//! A call answers, or refuses with one of the numbers of document 01, which [`Refusal`] names.
-//! No input makes a function of this crate panic. [`Question`] puts any call as a value, and
-//! [`ffi`] has the calls themselves, with an answer of any length.
+//! A call answers, or refuses with one of the numbers of document 01, which [`Refusal`] names. What
+//! is neither is an [`Error::Unreadable`]. No input makes a function of this crate panic.
+//! [`Question`] puts any call as a value, and [`ffi`] has the calls themselves, with an answer of any
+//! length.
 //!
 //! A service that receives a message, sends its CONTRL in time and judges the date that it carries:
 //!
 //! ```
 //! use mako_fristen_host::{
-//!     berlin_date, contrl_due_at, ContrlAnlass, Date, Instant, Refusal, VorlaufShape,
+//!     berlin_date, contrl_due_at, ContrlAnlass, Date, Error, Instant, Refusal, VorlaufShape,
 //!     VorlaufVerdict,
 //! };
 //! use std::time::{Duration, SystemTime, UNIX_EPOCH};
 //!
 //! /// When the CONTRL is due, and whether the message came five Werktage before `anchor`.
-//! fn receive(at: SystemTime, anchor: Date) -> Result<(SystemTime, VorlaufVerdict), Refusal> {
+//! fn receive(at: SystemTime, anchor: Date) -> Result<(SystemTime, VorlaufVerdict), Error> {
 //!     let at = Instant::from(at);
 //!     let due = contrl_due_at(at, ContrlAnlass::StromUtilmdOderOrders)?;
 //!     let verdict = VorlaufShape::LatestWerktageBefore(5).check(berlin_date(at)?, anchor)?;
@@ -47,8 +54,9 @@
 //! assert_eq!(verdict, VorlaufVerdict::Ok);
 //! let (_, verdict) = receive(received, Date::new(2026, 1, 5))?;
 //! assert!(matches!(verdict, VorlaufVerdict::TooLate { shortfall_wt: 1, .. }));
-//! assert_eq!(receive(UNIX_EPOCH, Date::new(2026, 1, 5)), Err(Refusal::InstantOutside));
-//! # Ok::<(), Refusal>(())
+//! let refused = receive(UNIX_EPOCH, Date::new(2026, 1, 5));
+//! assert_eq!(refused, Err(Error::Refused(Refusal::InstantOutside)));
+//! # Ok::<(), Error>(())
 //! ```
 //!
 //! # Linking
@@ -61,8 +69,15 @@
 //!
 //! A refusal is no verdict: it says that the question has no answer, since a date or an instant
 //! lies outside the calendar, a time is none, or a result leaves the calendar. It depends on the
-//! question alone, so asking again does not help. Each function lists its own. [`Refusal::Unlisted`]
-//! is not among them: it comes only from an archive that is newer than this crate.
+//! question alone, so asking again does not help. Each function lists its own.
+//!
+//! # Answers that cannot be read
+//!
+//! Every byte of an answer is looked at. A number or a kind that document 01 does not have for the
+//! call, something in a field that the kind does not fill, a date or an instant outside the calendar:
+//! each is an [`Error::Unreadable`], from any function, and never taken for the answer next to it.
+//! It comes only from an archive of another version than this crate. A kind that means something else
+//! in another version is still a kind: [`check_archive`], at the start of a service, finds that too.
 //!
 //! # Threads, memory, time
 //!
@@ -75,62 +90,76 @@
 #![deny(unsafe_code)]
 
 mod abmeldung;
-mod abmeldung_shape;
+mod ankuendigung;
+mod anlass;
 mod answer;
+mod archive;
 mod berlin;
 mod berlin_time;
-mod beschreibung;
 mod call;
 mod clock;
-mod clock_text;
-mod codes;
+mod content;
 mod date;
-mod date_text;
-mod day_number;
+mod eeg;
+mod error;
 mod feiertage;
 pub mod ffi;
+mod fields;
+mod frist_shape;
 mod fristen;
+mod gas;
 mod instant;
-mod instant_text;
 mod kalender;
-mod label;
+mod parameter;
 mod question;
 mod reason;
 mod refusal;
+mod span;
+mod sparte;
 mod text;
-mod utc;
-mod vorlauf;
+mod unreadable;
+mod verdict;
+mod vorlauf_shape;
 mod weekday;
 
 pub use abmeldung::AbmeldungVorlauf;
+pub use ankuendigung::eog_ankuendigung_fristgerecht;
+pub use anlass::ContrlAnlass;
 pub use answer::Answer;
+pub use archive::check_archive;
 pub use berlin::{
     berlin_at, berlin_date, berlin_midnight, end_of_day_berlin, tag_des_beginns, tagesbeginn_utc,
 };
 pub use berlin_time::BerlinTime;
-pub use call::{Call, Parameter};
-pub use clock::Clock;
-pub use clock_text::ClockError;
-pub use codes::{ContrlAnlass, Eeg, Sparte};
-pub use date::Date;
-pub use date_text::DateError;
+pub use call::Call;
+pub use clock::{Clock, ClockError};
+pub use content::Content;
+pub use date::{Date, DateError};
+pub use eeg::Eeg;
+pub use error::Error;
 pub use feiertage::Feiertag;
+pub use frist_shape::FristShape;
 pub use fristen::{
     add_hours, aperak_gas_due_at, aperak_gas_folgeprozess_due_at, aperak_gas_initialprozess_due_at,
     aperak_strom_allgemein_due_at, aperak_strom_due_at, contrl_due_at, deadline_at_werktage,
-    end_of_werktag_after, next_werktag_at, nth_werktag_at, FristShape, GasDue, GasProzess,
+    end_of_werktag_after, next_werktag_at, nth_werktag_at, APERAK_STROM_ALLGEMEIN_LABEL,
+    APERAK_STROM_WINDOW_LABEL, CONTRL_FRIST_LABEL,
 };
-pub use instant::Instant;
-pub use instant_text::InstantError;
+pub use gas::{GasDue, GasProzess};
+pub use instant::{Instant, InstantError};
 pub use kalender::{
     add_months, add_werktage, is_werktag, next_werktag, sub_werktage, subtract_months,
     werktage_between,
 };
-pub use label::{APERAK_STROM_ALLGEMEIN_LABEL, APERAK_STROM_WINDOW_LABEL, CONTRL_FRIST_LABEL};
+pub use parameter::Parameter;
 pub use question::Question;
 pub use reason::Reason;
 pub use refusal::Refusal;
-pub use vorlauf::{eog_ankuendigung_fristgerecht, Span, VorlaufShape, VorlaufVerdict};
+pub use span::Span;
+pub use sparte::Sparte;
+pub use unreadable::Unreadable;
+pub use verdict::VorlaufVerdict;
+pub use vorlauf_shape::VorlaufShape;
 pub use weekday::Weekday;
 
 /// The examples of README.md are tests as well.

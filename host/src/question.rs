@@ -1,4 +1,5 @@
-use crate::{call, Answer, Call, Clock, Date, Instant, Parameter, Reason, Refusal, VorlaufShape};
+use crate::content::FromAnswer;
+use crate::{call, Answer, Call, Clock, Date, Error, Instant, Parameter, Reason, VorlaufShape};
 use std::fmt;
 
 /// A call with its arguments. What the call does not take is zero.
@@ -14,7 +15,22 @@ use std::fmt;
 /// assert_eq!(question.to_string(), "mf_add_werktage(2026-04-02, 1)");
 /// assert_eq!(question.answer().map(|answer| answer.date()), Ok(Date::new(2026, 4, 7)));
 /// let no_sparte = Question::on(Call::TagesbeginnUtc, Date::new(2026, 4, 2)).with_code(2);
-/// assert_eq!(no_sparte.answer(), Err(Refusal::UnknownCode));
+/// assert_eq!(no_sparte.answer(), Err(Refusal::UnknownCode.into()));
+/// ```
+///
+/// Each place has its `with`. What the call does not take may hold anything:
+///
+/// ```
+/// use mako_fristen_host::{Call, Date, Instant, Question, Sparte, VorlaufShape, VorlaufVerdict};
+///
+/// let (friday, monday) = (Instant::new(1_767_999_599, 0), Instant::new(1_768_194_000, 0));
+/// let question = Question::at(Call::VorlaufCheckAt, friday)
+///     .with_shape(VorlaufShape::LatestWerktageBefore(1))
+///     .with_second_instant(monday)
+///     .with_second_code(Sparte::Gas.code());
+/// let answer = question.with_second(Date::new(0, 99, 99)).answer()?;
+/// assert_eq!(answer.read(Call::VorlaufCheckAt), Ok(VorlaufVerdict::Ok));
+/// # Ok::<(), mako_fristen_host::Error>(())
 /// ```
 #[derive(Clone, Copy, Debug, PartialEq, Eq, Hash)]
 pub struct Question {
@@ -46,7 +62,7 @@ impl Question {
     /// How many bytes [`to_bytes`](Question::to_bytes) gives.
     pub const LEN: usize = 64;
 
-    /// With zero in every place.
+    /// With zero in every place, which most calls refuse.
     #[must_use]
     pub fn new(call: Call) -> Question {
         Question {
@@ -147,7 +163,7 @@ impl Question {
         call::put(self, answer)
     }
 
-    /// The answer, unless the call refuses.
+    /// The answer, unless the call refuses or its bytes cannot be read.
     ///
     /// ```
     /// use mako_fristen_host::{Call, Date, Question};
@@ -155,14 +171,19 @@ impl Question {
     /// let question = Question::on(Call::WerktageBetween, Date::new(2025, 12, 31));
     /// let answer = question.with_second(Date::new(2026, 12, 31)).answer()?;
     /// assert_eq!(answer.count(), 249);
-    /// # Ok::<(), mako_fristen_host::Refusal>(())
+    /// # Ok::<(), mako_fristen_host::Error>(())
     /// ```
     ///
     /// # Errors
     ///
-    /// The refusal whose number the call returned.
-    pub fn answer(&self) -> Result<Answer, Refusal> {
-        Answer::of(|answer| self.ask(answer))
+    /// The refusal whose number the call returned; an answer that document 01 does not have.
+    pub fn answer(&self) -> Result<Answer, Error> {
+        Answer::of(self.call, |answer| self.ask(answer))
+    }
+
+    /// The same, read.
+    pub(crate) fn content<T: FromAnswer>(&self) -> Result<T, Error> {
+        Answer::content_of(self.call, |answer| self.ask(answer))
     }
 
     /// The question as a line of the replay list holds it, little-endian: byte 0 the call, 1 the
@@ -170,6 +191,14 @@ impl Question {
     /// count or pid, 16 to 23 the instant's seconds, 24 to 27 its nanoseconds, 28 to 30 the clock's
     /// hour, minute and second, 32 to 35 the second count, 36 to 47 the second instant, 48 the
     /// second code, 49 the reason's length, then its bytes; the rest zero.
+    ///
+    /// ```
+    /// use mako_fristen_host::{Call, Date, Question};
+    ///
+    /// let question = Question::on(Call::AddWerktage, Date::new(2026, 4, 2)).with_count(1);
+    /// assert_eq!(question.to_bytes()[..8], [2, 0, 0, 0, 0xea, 0x07, 4, 2]);
+    /// assert_eq!(question.to_bytes()[8..16], [0, 0, 0, 0, 1, 0, 0, 0]);
+    /// ```
     #[must_use]
     pub fn to_bytes(&self) -> [u8; Question::LEN] {
         let with_clock = self.call.takes(Parameter::Clock);

@@ -12,7 +12,14 @@ impl Reason {
     /// How many bytes there is room for.
     pub const LONGEST: usize = 14;
 
-    /// None if there is no room for so many bytes.
+    /// The reason of these bytes; none if there is no room for so many.
+    ///
+    /// ```
+    /// use mako_fristen_host::Reason;
+    ///
+    /// assert_eq!(Reason::new(b"ZQ7").map(|reason| reason.to_string()), Some("\"ZQ7\"".into()));
+    /// assert_eq!(Reason::new(&[0; Reason::LONGEST + 1]), None);
+    /// ```
     #[must_use]
     pub fn new(reason: &[u8]) -> Option<Reason> {
         let mut bytes = [0; Reason::LONGEST];

@@ -7,11 +7,11 @@ use std::{error, fmt};
 /// final: the same question is always refused with the same number.
 ///
 /// ```
-/// use mako_fristen_host::{add_werktage, is_werktag, Date, Refusal};
+/// use mako_fristen_host::{add_werktage, is_werktag, Date, Error, Refusal};
 ///
-/// assert_eq!(is_werktag(Date::new(2026, 2, 29)), Err(Refusal::NoDate));
-/// let refusal = add_werktage(Date::LAST, 1).unwrap_err();
-/// assert_eq!((refusal, refusal.number()), (Refusal::LeavesCalendar, 8));
+/// assert_eq!(is_werktag(Date::new(2026, 2, 29)), Err(Error::Refused(Refusal::NoDate)));
+/// let refusal = add_werktage(Date::LAST, 1).unwrap_err().refusal();
+/// assert_eq!(refusal, Some(Refusal::LeavesCalendar));
 /// ```
 #[derive(Clone, Copy, Debug, PartialEq, Eq, PartialOrd, Ord, Hash)]
 #[non_exhaustive]
@@ -34,12 +34,10 @@ pub enum Refusal {
     NoBeginning,
     /// 8: a result leaves the calendar.
     LeavesCalendar,
-    /// A number that document 01 does not have: the archive is of another edition than this host.
-    Unlisted(u8),
 }
 
 impl Refusal {
-    /// Those of document 01, in the order of their numbers, from 1.
+    /// In the order of their numbers, from 1.
     pub const ALL: [Refusal; 8] = [
         Refusal::AnswerLength,
         Refusal::UnknownCode,
@@ -51,7 +49,13 @@ impl Refusal {
         Refusal::LeavesCalendar,
     ];
 
-    /// The number that the call returned.
+    /// The number that a call returns, never 0.
+    ///
+    /// ```
+    /// use mako_fristen_host::Refusal;
+    ///
+    /// assert_eq!(Refusal::LeavesCalendar.number(), 8);
+    /// ```
     #[must_use]
     pub const fn number(self) -> u8 {
         match self {
@@ -63,18 +67,62 @@ impl Refusal {
             Refusal::LocalTimeAbsent => 6,
             Refusal::NoBeginning => 7,
             Refusal::LeavesCalendar => 8,
-            Refusal::Unlisted(number) => number,
         }
     }
 
-    /// The refusal of a number; none for 0, which is an answer.
-    #[must_use]
-    pub fn of_number(number: u8) -> Option<Refusal> {
-        if number == 0 {
-            return None;
+    /// The refusal of a number. None for 0, which is an answer's, and for one that document 01 does
+    /// not have, which is neither: no caller may take the one for the other.
+    pub(crate) fn of_number(number: u8) -> Option<Refusal> {
+        match number {
+            1 => Some(Refusal::AnswerLength),
+            2 => Some(Refusal::UnknownCode),
+            3 => Some(Refusal::NoDate),
+            4 => Some(Refusal::InstantOutside),
+            5 => Some(Refusal::NoClock),
+            6 => Some(Refusal::LocalTimeAbsent),
+            7 => Some(Refusal::NoBeginning),
+            8 => Some(Refusal::LeavesCalendar),
+            _ => None,
         }
-        let listed = Refusal::ALL.into_iter().find(|r| r.number() == number);
-        Some(listed.unwrap_or(Refusal::Unlisted(number)))
+    }
+
+    /// A German sentence, as `./fristen` prints it behind the number.
+    ///
+    /// ```
+    /// use mako_fristen_host::Refusal;
+    ///
+    /// assert_eq!(Refusal::AnswerLength.beschreibung(), "Die Antwort ist nicht 32 Bytes lang.");
+    /// ```
+    #[must_use]
+    pub const fn beschreibung(self) -> &'static str {
+        match self {
+            Refusal::AnswerLength => "Die Antwort ist nicht 32 Bytes lang.",
+            Refusal::UnknownCode => {
+                "Ein Code (Anlass, Sparte, Form oder EEG-Kennzeichen) ist unbekannt."
+            }
+            Refusal::NoDate => {
+                "Ein angegebenes Datum ist kein Tag vom 1. Januar 1996 bis zum 31. Dezember 2899."
+            }
+            Refusal::InstantOutside => {
+                "Ein Zeitpunkt liegt nicht an einem Berliner Tag vom 1. Januar 1996 bis zum \
+                 31. Dezember 2899, oder er hat über 999999999 Nanosekunden."
+            }
+            Refusal::NoClock => {
+                "Eine Uhrzeit hat eine Stunde über 23, eine Minute oder Sekunde über 59 oder über \
+                 999999999 Nanosekunden."
+            }
+            Refusal::LocalTimeAbsent => {
+                "Diese Uhrzeit gibt es an dem Tag in Berlin nicht, die Uhr wird über sie hinweg \
+                 vorgestellt."
+            }
+            Refusal::NoBeginning => {
+                "Der Zeitpunkt ist in seiner Sparte nicht der Beginn eines Tages (Strom 00:00 Uhr, \
+                 Gas 06:00 Uhr in Berlin)."
+            }
+            Refusal::LeavesCalendar => {
+                "Ein Ergebnis verlässt den Kalender vom 1. Januar 1996 bis zum 31. Dezember 2899."
+            }
+        }
     }
 }
 
@@ -98,9 +146,6 @@ impl fmt::Display for Refusal {
             Refusal::NoBeginning => "the instant is not the beginning of a day in its Sparte",
             Refusal::LeavesCalendar => {
                 "a result leaves the calendar from 1 January 1996 to 31 December 2899"
-            }
-            Refusal::Unlisted(number) => {
-                return write!(f, "refused with the unlisted number {number}")
             }
         })
     }

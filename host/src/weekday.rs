@@ -1,7 +1,6 @@
-use crate::Date;
 use std::fmt;
 
-/// A day of the week, Monday first.
+/// A day of the week, Monday first; [`Date::weekday`](crate::Date::weekday) gives a date's.
 #[derive(Clone, Copy, Debug, PartialEq, Eq, PartialOrd, Ord, Hash)]
 #[repr(u8)]
 pub enum Weekday {
@@ -34,6 +33,12 @@ impl Weekday {
     ];
 
     /// The number of ISO 8601: 1 is Monday, 7 Sunday.
+    ///
+    /// ```
+    /// use mako_fristen_host::Weekday;
+    ///
+    /// assert_eq!(Weekday::Sonntag.number(), 7);
+    /// ```
     #[must_use]
     pub const fn number(self) -> u8 {
         self as u8 + 1
@@ -52,15 +57,5 @@ impl fmt::Display for Weekday {
             Weekday::Samstag => "Samstag",
             Weekday::Sonntag => "Sonntag",
         })
-    }
-}
-
-impl Date {
-    /// None if the three numbers are no date.
-    #[must_use]
-    pub fn weekday(self) -> Option<Weekday> {
-        // 1 January 1970 was a Thursday.
-        let place = (self.day_number()? + 3).rem_euclid(7);
-        Weekday::ALL.get(usize::try_from(place).ok()?).copied()
     }
 }

@@ -1,7 +1,7 @@
 //! Refusals: which, in which order, and what they leave in the slice.
 
 use mako_fristen_host::{
-    Answer, Call, Clock, Date, Instant, Parameter, Question, Reason, Refusal, VorlaufShape,
+    Answer, Call, Clock, Date, Error, Instant, Parameter, Question, Reason, Refusal, VorlaufShape,
 };
 
 const GUARD: usize = 40;
@@ -97,7 +97,11 @@ fn taking(parameter: Parameter) -> impl Iterator<Item = Call> {
 }
 
 fn refused(question: &Question) -> Option<Refusal> {
-    question.answer().err()
+    match question.answer() {
+        Ok(_) => None,
+        Err(Error::Refused(refusal)) => Some(refusal),
+        Err(Error::Unreadable(unreadable)) => panic!("{question}: {unreadable}"),
+    }
 }
 
 /// Puts the question with a slice of `len` bytes inside a filled buffer, and returns the number and
@@ -357,14 +361,13 @@ fn every_number_has_its_sentence() {
         (7, "beginning of a day"),
         (8, "leaves the calendar"),
     ];
-    for (number, word) in words {
-        let refusal = Refusal::of_number(number).expect("a listed number");
+    assert_eq!(Refusal::ALL.len(), words.len());
+    for ((number, word), refusal) in words.into_iter().zip(Refusal::ALL) {
         assert_eq!(refusal.number(), number);
         assert!(refusal.to_string().contains(word), "{number}: {refusal}");
+        assert_eq!(Error::from(refusal).to_string(), refusal.to_string());
+        assert!(refusal.beschreibung().ends_with('.'), "{number}: {}", refusal.beschreibung());
     }
-    assert_eq!(Refusal::of_number(0), None);
-    assert_eq!(Refusal::of_number(77), Some(Refusal::Unlisted(77)));
-    assert!(Refusal::Unlisted(77).to_string().contains("77"));
 }
 
 #[test]

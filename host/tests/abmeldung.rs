@@ -108,12 +108,12 @@ fn refusals_of_the_verdict() {
     for reason in [b"ZQ7", b"Z33"] {
         for eeg in Eeg::ALL {
             let check = |day, anchor| AbmeldungVorlauf::check(reason, eeg, day, anchor);
-            assert_eq!(check(none, january(9)), Err(Refusal::NoDate));
-            assert_eq!(check(january(9), none), Err(Refusal::NoDate));
+            assert_eq!(check(none, january(9)), Err(Refusal::NoDate.into()));
+            assert_eq!(check(january(9), none), Err(Refusal::NoDate.into()));
             let leaves = if reason == b"ZQ7" || eeg == Eeg::Unknown {
                 Ok(None)
             } else {
-                Err(Refusal::LeavesCalendar)
+                Err(Refusal::LeavesCalendar.into())
             };
             assert_eq!(check(Date::FIRST, Date::FIRST), leaves, "{reason:?} {eeg:?}");
             assert_eq!(check(Date::LAST, Date::LAST), leaves, "{reason:?} {eeg:?}");

@@ -2,14 +2,14 @@
 
 mod utc;
 
-use mako_fristen_host::{eog_ankuendigung_fristgerecht, Date, Instant, Refusal};
+use mako_fristen_host::{eog_ankuendigung_fristgerecht, Date, Error, Instant, Refusal};
 use utc::utc;
 
-const YES: Result<Option<bool>, Refusal> = Ok(Some(true));
-const NO: Result<Option<bool>, Refusal> = Ok(Some(false));
-const NEITHER: Result<Option<bool>, Refusal> = Ok(None);
+const YES: Result<Option<bool>, Error> = Ok(Some(true));
+const NO: Result<Option<bool>, Error> = Ok(Some(false));
+const NEITHER: Result<Option<bool>, Error> = Ok(None);
 
-fn gives(beginning: Date, cases: &[(&str, Result<Option<bool>, Refusal>)]) {
+fn gives(beginning: Date, cases: &[(&str, Result<Option<bool>, Error>)]) {
     for &(at, kept) in cases {
         let answer = eog_ankuendigung_fristgerecht(utc(at), beginning);
         assert_eq!(answer, kept, "received {at} for {beginning}");
@@ -83,7 +83,7 @@ fn a_beginning_that_is_no_werktag() {
 /// Before 2 January 1996, the first Werktag, there is none.
 #[test]
 fn at_the_edges() {
-    const LEAVES: Result<Option<bool>, Refusal> = Err(Refusal::LeavesCalendar);
+    const LEAVES: Result<Option<bool>, Error> = Err(Error::Refused(Refusal::LeavesCalendar));
     gives(
         Date::new(1996, 1, 2),
         &[
@@ -102,8 +102,8 @@ fn at_the_edges() {
 fn no_date_comes_before_no_instant() {
     let (none, outside) = (Date::new(2026, 2, 29), Instant::new(i64::MAX, 0));
     let at = utc("2026-01-09T12:00:00Z");
-    assert_eq!(eog_ankuendigung_fristgerecht(at, none), Err(Refusal::NoDate));
-    assert_eq!(eog_ankuendigung_fristgerecht(outside, none), Err(Refusal::NoDate));
+    assert_eq!(eog_ankuendigung_fristgerecht(at, none), Err(Refusal::NoDate.into()));
+    assert_eq!(eog_ankuendigung_fristgerecht(outside, none), Err(Refusal::NoDate.into()));
     let refused = eog_ankuendigung_fristgerecht(outside, Date::new(1996, 1, 2));
-    assert_eq!(refused, Err(Refusal::InstantOutside));
+    assert_eq!(refused, Err(Refusal::InstantOutside.into()));
 }

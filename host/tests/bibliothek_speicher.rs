@@ -1,6 +1,8 @@
 //! No call takes memory from the heap, so a service may ask where it must not wait for any.
 
-use mako_fristen_host::{Call, Date, Instant, Question, Reason, Refusal};
+use mako_fristen_host::{
+    check_archive, Answer, Call, Date, Error, Instant, Question, Reason, Refusal,
+};
 use std::alloc::{GlobalAlloc, Layout, System};
 use std::cell::Cell;
 
@@ -39,7 +41,8 @@ fn what_is_taken_is_counted() {
 }
 
 #[test]
-fn no_answer_and_no_refusal_takes_memory() {
+fn no_answer_and_no_error_takes_memory() {
+    assert_eq!(taken(|| assert_eq!(check_archive(), Ok(()))), 0);
     let reason = Reason::new(b"Z33").expect("three bytes");
     for call in Call::ALL {
         let question = Question {
@@ -51,8 +54,12 @@ fn no_answer_and_no_refusal_takes_memory() {
         };
         assert_eq!(taken(|| assert!(question.answer().is_ok())), 0, "{question}");
         let refused = Question { code: 99, ..Question::new(call) };
-        let refuses =
-            || assert!(matches!(refused.answer(), Err(refusal) if refusal < Refusal::NoClock));
+        let refuses = || {
+            let refusal = refused.answer().err().and_then(Error::refusal);
+            assert!(refusal.is_some_and(|refusal| refusal < Refusal::NoClock));
+        };
         assert_eq!(taken(refuses), 0, "{refused}");
+        let unreadable = Answer::default().with_kind(200);
+        assert_eq!(taken(|| assert!(unreadable.checked(call).is_err())), 0, "{call:?}");
     }
 }

@@ -30,7 +30,7 @@ fn the_limits_of_the_calls_have_their_times() {
     assert_eq!(berlin_date(first.into()), Ok(Date::FIRST));
     assert_eq!(berlin_date(last.into()), Ok(Date::LAST));
     for outside in [first - NANO, last + NANO, UNIX_EPOCH] {
-        assert_eq!(berlin_date(outside.into()), Err(Refusal::InstantOutside));
+        assert_eq!(berlin_date(outside.into()), Err(Refusal::InstantOutside.into()));
     }
     assert!(Instant::from(first - NANO) < Instant::FIRST);
     assert!(Instant::from(last + NANO) > Instant::LAST);

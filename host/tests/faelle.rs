@@ -95,22 +95,22 @@ fn a_count_of_zero_changes_no_date() {
 #[test]
 fn steps_at_the_upper_edge() {
     assert_eq!(add_werktage(date(2899, 12, 29), 1), Ok(date(2899, 12, 30)));
-    assert_eq!(add_werktage(date(2899, 12, 30), 1), Err(Refusal::LeavesCalendar));
-    assert_eq!(add_werktage(Date::LAST, 1), Err(Refusal::LeavesCalendar));
+    assert_eq!(add_werktage(date(2899, 12, 30), 1), Err(Refusal::LeavesCalendar.into()));
+    assert_eq!(add_werktage(Date::LAST, 1), Err(Refusal::LeavesCalendar.into()));
     assert_eq!(next_werktag(date(2899, 12, 30)), Ok(date(2899, 12, 30)));
-    assert_eq!(next_werktag(Date::LAST), Err(Refusal::LeavesCalendar));
+    assert_eq!(next_werktag(Date::LAST), Err(Refusal::LeavesCalendar.into()));
     assert_eq!(add_werktage(Date::FIRST, WERKTAGE_IN_ALL), Ok(date(2899, 12, 30)));
-    assert_eq!(add_werktage(Date::FIRST, WERKTAGE_IN_ALL + 1), Err(Refusal::LeavesCalendar));
+    assert_eq!(add_werktage(Date::FIRST, WERKTAGE_IN_ALL + 1), Err(Refusal::LeavesCalendar.into()));
 }
 
 #[test]
 fn steps_at_the_lower_edge() {
     assert_eq!(next_werktag(Date::FIRST), Ok(date(1996, 1, 2)));
     assert_eq!(sub_werktage(date(1996, 1, 3), 1), Ok(date(1996, 1, 2)));
-    assert_eq!(sub_werktage(date(1996, 1, 2), 1), Err(Refusal::LeavesCalendar));
-    assert_eq!(sub_werktage(Date::FIRST, 1), Err(Refusal::LeavesCalendar));
+    assert_eq!(sub_werktage(date(1996, 1, 2), 1), Err(Refusal::LeavesCalendar.into()));
+    assert_eq!(sub_werktage(Date::FIRST, 1), Err(Refusal::LeavesCalendar.into()));
     assert_eq!(sub_werktage(Date::LAST, WERKTAGE_IN_ALL), Ok(date(1996, 1, 2)));
-    assert_eq!(sub_werktage(Date::LAST, WERKTAGE_IN_ALL + 1), Err(Refusal::LeavesCalendar));
+    assert_eq!(sub_werktage(Date::LAST, WERKTAGE_IN_ALL + 1), Err(Refusal::LeavesCalendar.into()));
 }
 
 #[test]
@@ -118,7 +118,7 @@ fn the_largest_counts_leave_the_calendar() {
     for n in [u32::MAX, u32::MAX - 1, 1 << 31, (1 << 31) - 1] {
         for call in [add_werktage, sub_werktage, add_months, subtract_months] {
             for day in [Date::FIRST, date(2026, 2, 28), Date::LAST] {
-                assert_eq!(call(day, n), Err(Refusal::LeavesCalendar), "{day}, {n}");
+                assert_eq!(call(day, n), Err(Refusal::LeavesCalendar.into()), "{day}, {n}");
             }
         }
     }

@@ -6,8 +6,8 @@ mod utc;
 use mako_fristen_host::{
     add_hours, aperak_gas_due_at, aperak_gas_folgeprozess_due_at, aperak_gas_initialprozess_due_at,
     aperak_strom_allgemein_due_at, aperak_strom_due_at, contrl_due_at, deadline_at_werktage,
-    end_of_werktag_after, next_werktag_at, nth_werktag_at, Clock, ContrlAnlass, FristShape, GasDue,
-    GasProzess, Instant, Refusal,
+    end_of_werktag_after, next_werktag_at, nth_werktag_at, Clock, ContrlAnlass, Error, FristShape,
+    GasDue, GasProzess, Instant, Refusal,
 };
 use utc::utc;
 use ContrlAnlass::{GasAlocat, Regelfall, StromUtilmdOderOrders};
@@ -19,7 +19,7 @@ const fn clock(hour: u8, minute: u8) -> Clock {
 const NOON: Clock = clock(12, 0);
 
 /// The call gives each second instant for its first.
-fn gives(call: impl Fn(Instant) -> Result<Instant, Refusal>, cases: &[(&str, &str)]) {
+fn gives(call: impl Fn(Instant) -> Result<Instant, Error>, cases: &[(&str, &str)]) {
     for (received, due) in cases {
         assert_eq!(call(utc(received)), Ok(utc(due)), "received {received}");
     }
@@ -272,7 +272,7 @@ fn same_day_at_an_absent_time() {
     for received in ["2026-03-28T23:00:00Z", "2026-03-29T21:59:59.999999999Z"] {
         for at in [clock(2, 0), clock(2, 30), Clock::new(2, 59, 59, 999_999_999)] {
             let due = FristShape::SameDayAt(at).due_at(utc(received));
-            assert_eq!(due, Err(Refusal::LocalTimeAbsent), "{received} {at}");
+            assert_eq!(due, Err(Refusal::LocalTimeAbsent.into()), "{received} {at}");
         }
     }
     gives(
@@ -302,7 +302,7 @@ fn same_day_runs_to_the_end_of_any_day() {
 /// The last Werktag is 30 December 2899, the last instant 22:59:59.999999999 UTC of the day after.
 #[test]
 fn at_the_upper_edge() {
-    const LEAVES: Result<Instant, Refusal> = Err(Refusal::LeavesCalendar);
+    const LEAVES: Result<Instant, Error> = Err(Error::Refused(Refusal::LeavesCalendar));
     let last = Instant::LAST;
     assert_eq!(FristShape::SameDay.due_at(last), Ok(last));
     assert_eq!(deadline_at_werktage(last, 0), Ok(last));
@@ -334,10 +334,10 @@ fn at_the_lower_edge() {
     // All Werktage of the calendar lie after its first day, which is none.
     let all = deadline_at_werktage(first, 222_031);
     assert_eq!(all, Ok(utc("2899-12-30T22:59:59.999999999Z")));
-    assert_eq!(deadline_at_werktage(first, 222_032), Err(Refusal::LeavesCalendar));
+    assert_eq!(deadline_at_werktage(first, 222_032), Err(Refusal::LeavesCalendar.into()));
     // Its hours are 7,924,320, the first of them at 0.
     assert_eq!(add_hours(first, 7_924_319), Ok(utc("2899-12-31T22:00:00Z")));
-    assert_eq!(add_hours(first, 7_924_320), Err(Refusal::LeavesCalendar));
+    assert_eq!(add_hours(first, 7_924_320), Err(Refusal::LeavesCalendar.into()));
 }
 
 #[test]
@@ -352,7 +352,7 @@ fn the_largest_counts_leave_the_calendar() {
                 FristShape::WerktagAt { werktage: n, at: NOON }.due_at(received),
                 FristShape::EndOfWerktag(n).due_at(received),
             ];
-            assert_eq!(due, [Err(Refusal::LeavesCalendar); 6], "{received} {n}");
+            assert_eq!(due, [Err(Refusal::LeavesCalendar.into()); 6], "{received} {n}");
         }
     }
 }

@@ -77,9 +77,9 @@ fn holidays_by_name() {
     assert_eq!(names(date(2008, 5, 1)), ["Tag der Arbeit", "Christi Himmelfahrt"]);
     assert_eq!(names(date(2008, 3, 21)), ["Karfreitag"]);
     assert_eq!(names(date(2038, 4, 23)), ["Karfreitag"]);
-    assert_eq!(Feiertag::on(date(2026, 2, 29)), Err(Refusal::NoDate));
-    assert_eq!(Feiertag::of_year(1995), Err(Refusal::NoDate));
-    assert_eq!(Feiertag::of_year(2900), Err(Refusal::NoDate));
+    assert_eq!(Feiertag::on(date(2026, 2, 29)), Err(Refusal::NoDate.into()));
+    assert_eq!(Feiertag::of_year(1995), Err(Refusal::NoDate.into()));
+    assert_eq!(Feiertag::of_year(2900), Err(Refusal::NoDate.into()));
 }
 
 #[test]
@@ -104,7 +104,7 @@ fn the_berlin_clock_of_an_instant() {
     let last = BerlinTime::of(Instant::LAST).expect("in range");
     assert_eq!((last.date, last.clock), (Date::LAST, Clock::new(23, 59, 59, 999_999_999)));
     let after = Instant::new(Instant::LAST.seconds + 1, 0);
-    assert_eq!(BerlinTime::of(after), Err(Refusal::InstantOutside));
+    assert_eq!(BerlinTime::of(after), Err(Refusal::InstantOutside.into()));
 }
 
 /// Every quarter of an hour of some years: the clock that is shown is the clock of the instant.

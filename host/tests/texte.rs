@@ -119,7 +119,7 @@ fn instants_at_the_edges() {
     }
     for year in ["0000", "9999"] {
         let outside = instant(&format!("{year}-06-01T00:00:00Z")).map(berlin_date);
-        assert_eq!(outside, Ok(Err(Refusal::InstantOutside)), "{year}");
+        assert_eq!(outside, Ok(Err(Refusal::InstantOutside.into())), "{year}");
     }
 }
 

@@ -6,7 +6,7 @@ mod utc;
 
 use mako_fristen_host::{
     berlin_at, berlin_date, berlin_midnight, end_of_day_berlin, tag_des_beginns, tagesbeginn_utc,
-    Clock, Date, Instant, Refusal, Sparte,
+    Clock, Date, Error, Instant, Refusal, Sparte,
 };
 use utc::utc;
 
@@ -40,7 +40,7 @@ fn the_instants_of_these_tests_are_pythons() {
 
 #[test]
 fn case_j_29_march_02_30_is_absent() {
-    assert_eq!(berlin_at(date(2026, 3, 29), clock(2, 30, 0)), Err(Refusal::LocalTimeAbsent));
+    assert_eq!(berlin_at(date(2026, 3, 29), clock(2, 30, 0)), Err(Refusal::LocalTimeAbsent.into()));
 }
 
 #[test]
@@ -61,9 +61,9 @@ fn the_absent_hour_to_the_nanosecond() {
     let day = date(2026, 3, 29);
     let last_before = utc("2026-03-29T00:59:59.999999999Z");
     assert_eq!(berlin_at(day, Clock::new(1, 59, 59, LAST_NANO)), Ok(last_before));
-    assert_eq!(berlin_at(day, clock(2, 0, 0)), Err(Refusal::LocalTimeAbsent));
+    assert_eq!(berlin_at(day, clock(2, 0, 0)), Err(Refusal::LocalTimeAbsent.into()));
     let last_absent = Clock::new(2, 59, 59, LAST_NANO);
-    assert_eq!(berlin_at(day, last_absent), Err(Refusal::LocalTimeAbsent));
+    assert_eq!(berlin_at(day, last_absent), Err(Refusal::LocalTimeAbsent.into()));
     assert_eq!(berlin_at(day, clock(3, 0, 0)), Ok(utc("2026-03-29T01:00:00Z")));
 }
 
@@ -101,7 +101,7 @@ fn the_switches_of_some_years() {
         assert_eq!(days, [march], "{year}");
         let hours = |day| {
             let noon = |day| berlin_at(date(year, 10, day), clock(12, 0, 0));
-            Ok::<_, Refusal>((noon(day)?.seconds - noon(day - 1)?.seconds) / 3600)
+            Ok::<_, Error>((noon(day)?.seconds - noon(day - 1)?.seconds) / 3600)
         };
         let days: Vec<u8> = (2..=31).filter(|&day| hours(day) == Ok(25)).collect();
         assert_eq!(days, [october], "{year}");
@@ -157,7 +157,7 @@ fn what_is_no_beginning() {
     ];
     for (instant, sparte) in instants {
         let day = tag_des_beginns(utc(instant), sparte);
-        assert_eq!(day, Err(Refusal::NoBeginning), "{instant} {sparte:?}");
+        assert_eq!(day, Err(Refusal::NoBeginning.into()), "{instant} {sparte:?}");
     }
 }
 
@@ -194,10 +194,10 @@ fn both_edges_of_the_calendar() {
         Instant::new(Instant::LAST.seconds + 1, 0),
     ];
     for instant in outside {
-        assert_eq!(berlin_date(instant), Err(Refusal::InstantOutside), "{instant}");
+        assert_eq!(berlin_date(instant), Err(Refusal::InstantOutside.into()), "{instant}");
         for sparte in Sparte::ALL {
             let day = tag_des_beginns(instant, sparte);
-            assert_eq!(day, Err(Refusal::InstantOutside), "{instant}");
+            assert_eq!(day, Err(Refusal::InstantOutside.into()), "{instant}");
         }
     }
 }
@@ -217,7 +217,7 @@ fn what_is_no_clock() {
         clock(2, 60, 0),
     ];
     for at in clocks {
-        assert_eq!(berlin_at(date(2026, 3, 29), at), Err(Refusal::NoClock), "{at}");
+        assert_eq!(berlin_at(date(2026, 3, 29), at), Err(Refusal::NoClock.into()), "{at}");
     }
     assert!(berlin_at(date(2026, 3, 29), Clock::new(23, 59, 59, LAST_NANO)).is_ok());
 }

@@ -4,8 +4,8 @@
 mod utc;
 
 use mako_fristen_host::{
-    Date, Instant, Refusal, Span, Sparte, VorlaufShape, VorlaufVerdict, VorlaufVerdict::TooEarly,
-    VorlaufVerdict::TooLate,
+    Date, Error, Instant, Refusal, Span, Sparte, VorlaufShape, VorlaufVerdict,
+    VorlaufVerdict::TooEarly, VorlaufVerdict::TooLate,
 };
 use utc::utc;
 use VorlaufShape::{
@@ -14,11 +14,11 @@ use VorlaufShape::{
 };
 
 const OK: Verdict = Ok(VorlaufVerdict::Ok);
-const LEAVES: Verdict = Err(Refusal::LeavesCalendar);
-const SPAN_LEAVES: Result<Span, Refusal> = Err(Refusal::LeavesCalendar);
+const LEAVES: Verdict = Err(Error::Refused(Refusal::LeavesCalendar));
+const SPAN_LEAVES: Result<Span, Error> = Err(Error::Refused(Refusal::LeavesCalendar));
 const CHRISTMAS: Date = date(2025, 12, 23);
 
-type Verdict = Result<VorlaufVerdict, Refusal>;
+type Verdict = Result<VorlaufVerdict, Error>;
 
 const fn date(year: u16, month: u8, day: u8) -> Date {
     Date::new(year, month, day)
@@ -387,7 +387,7 @@ fn a_verdict_at_instants_by_a_switch() {
     assert_eq!(check("2026-03-28T23:00:00Z", Sparte::Strom), OK);
     assert_eq!(check("2026-03-29T04:00:00Z", Sparte::Gas), OK);
     assert_eq!(check("2026-03-29T22:00:00Z", Sparte::Strom), OK);
-    let no_beginning = Err(Refusal::NoBeginning);
+    let no_beginning = Err(Refusal::NoBeginning.into());
     assert_eq!(check("2026-03-29T05:00:00Z", Sparte::Gas), no_beginning);
     assert_eq!(check("2026-03-29T23:00:00Z", Sparte::Strom), no_beginning);
     assert_eq!(check("2026-03-28T05:00:00Z", Sparte::Gas), late(0, date(2026, 3, 29)));
@@ -406,12 +406,12 @@ fn an_anchor_that_is_no_beginning() {
     ];
     for (anchor, sparte) in anchors {
         let anchor = utc(anchor);
-        assert_eq!(check(at, anchor, sparte), Err(Refusal::NoBeginning), "{anchor}");
+        assert_eq!(check(at, anchor, sparte), Err(Refusal::NoBeginning.into()), "{anchor}");
         let outside = Instant::new(Instant::FIRST.seconds - 1, 0);
-        assert_eq!(check(outside, anchor, sparte), Err(Refusal::InstantOutside), "{anchor}");
+        assert_eq!(check(outside, anchor, sparte), Err(Refusal::InstantOutside.into()), "{anchor}");
     }
     assert_eq!(check(at, utc("2026-01-11T23:00:00Z"), Sparte::Strom), LEAVES);
-    assert_eq!(check(at, Instant::LAST, Sparte::Strom), Err(Refusal::NoBeginning));
+    assert_eq!(check(at, Instant::LAST, Sparte::Strom), Err(Refusal::NoBeginning.into()));
     let outside = Instant::new(Instant::LAST.seconds + 1, 0);
-    assert_eq!(check(at, outside, Sparte::Strom), Err(Refusal::InstantOutside));
+    assert_eq!(check(at, outside, Sparte::Strom), Err(Refusal::InstantOutside.into()));
 }

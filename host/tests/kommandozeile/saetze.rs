@@ -269,15 +269,30 @@ pub const SPANS: &[(&str, &str)] = &[
 pub const JSON: &[(&str, &str)] = &[
     (
         "--json tag 2026-11-18",
-        r#"{"call":"mf_is_werktag","arguments":["2026-11-18"],"refusal":null,"kind":0,"kind_name":"KeinWerktag","why":["Buß- und Bettag"]}"#,
+        concat!(
+            r#"{"call":"mf_is_werktag","arguments":["2026-11-18"],"refusal":null,"kind":0,"#,
+            r#""kind_name":"KeinWerktag","why":["Buß- und Bettag"]}"#,
+        ),
     ),
     (
         "contrl Regelfall 2026-03-31T12:00:00+02:00 --json",
-        r#"{"call":"mf_contrl_due_at","arguments":["Regelfall","2026-03-31T12:00:00+02:00"],"refusal":null,"instant":{"seconds":1775080800,"nanos":0,"utc":"2026-04-01T22:00:00Z","berlin":"2026-04-02T00:00:00+02:00"},"label":"contrl-delivery-window"}"#,
+        concat!(
+            r#"{"call":"mf_contrl_due_at","arguments":["Regelfall","#,
+            r#""2026-03-31T12:00:00+02:00"],"refusal":null,"instant":{"seconds":1775080800,"#,
+            r#""nanos":0,"utc":"2026-04-01T22:00:00Z","berlin":"2026-04-02T00:00:00+02:00"},"#,
+            r#""label":"contrl-delivery-window"}"#,
+        ),
     ),
     (
         "aperak-gas --json 44001 2026-04-02T10:00:00+02:00",
-        r#"{"call":"mf_aperak_gas_due_at","arguments":["44001","2026-04-02T10:00:00+02:00"],"refusal":null,"kind":1,"kind_name":"Initialprozess","instant":{"seconds":1775771999,"nanos":999999999,"utc":"2026-04-09T21:59:59.999999999Z","berlin":"2026-04-09T23:59:59.999999999+02:00"},"label":"aperak-gas-initialprozess-3-werktage"}"#,
+        concat!(
+            r#"{"call":"mf_aperak_gas_due_at","arguments":["44001","#,
+            r#""2026-04-02T10:00:00+02:00"],"refusal":null,"kind":1,"#,
+            r#""kind_name":"Initialprozess","instant":{"seconds":1775771999,"nanos":999999999,"#,
+            r#""utc":"2026-04-09T21:59:59.999999999Z","#,
+            r#""berlin":"2026-04-09T23:59:59.999999999+02:00"},"#,
+            r#""label":"aperak-gas-initialprozess-3-werktage"}"#,
+        ),
     ),
     (
         "werktage-between 2026-04-02 2026-04-07 --json",
@@ -285,11 +300,19 @@ pub const JSON: &[(&str, &str)] = &[
     ),
     (
         "span Korridor 2 2026-04-07 --json",
-        r#"{"call":"mf_vorlauf_span","arguments":["Korridor","2","2026-04-07"],"refusal":null,"kind":1,"kind_name":"Between","date":"2026-04-01","last_date":"2026-04-09"}"#,
+        concat!(
+            r#"{"call":"mf_vorlauf_span","arguments":["Korridor","2","2026-04-07"],"#,
+            r#""refusal":null,"kind":1,"kind_name":"Between","date":"2026-04-01","#,
+            r#""last_date":"2026-04-09"}"#,
+        ),
     ),
     (
         "abmeldung ZT0 --eeg nein 2026-01-08 2026-01-12 --json",
-        r#"{"call":"mf_abmeldung_check","arguments":["ZT0","--eeg","nein","2026-01-08","2026-01-12"],"reason_hex":"5a5430","refusal":null,"kind":0,"kind_name":"Ok","count":0,"date":null}"#,
+        concat!(
+            r#"{"call":"mf_abmeldung_check","arguments":["ZT0","--eeg","nein","2026-01-08","#,
+            r#""2026-01-12"],"reason_hex":"5a5430","refusal":null,"kind":0,"kind_name":"Ok","#,
+            r#""count":0,"date":null}"#,
+        ),
     ),
 ];
 
@@ -298,15 +321,24 @@ pub const JSON: &[(&str, &str)] = &[
 pub const VERDICTS_JSON: &[(&str, &str)] = &[
     (
         "check LatestWerktageBefore 1 2026-01-10 2026-01-12",
-        r#""kind_name":"TooLate","count":0,"date":"2026-01-12","date_acceptable":false,"span":{"first":"2026-01-13","last":null}}"#,
+        concat!(
+            r#""kind_name":"TooLate","count":0,"date":"2026-01-12","date_acceptable":false,"#,
+            r#""span":{"first":"2026-01-13","last":null}}"#,
+        ),
     ),
     (
         "check WindowWerktageBefore 5 2 2026-01-13 2026-01-13",
-        r#""kind_name":"TooLate","count":2,"date":"2026-01-15","date_acceptable":true,"span":{"first":"2026-01-15","last":"2026-01-20"}}"#,
+        concat!(
+            r#""kind_name":"TooLate","count":2,"date":"2026-01-15","date_acceptable":true,"#,
+            r#""span":{"first":"2026-01-15","last":"2026-01-20"}}"#,
+        ),
     ),
     (
         "check WindowWerktageBefore 1 1 2026-01-10 2026-01-12",
-        r#""kind_name":"TooLate","count":0,"date":"2026-01-12","date_acceptable":false,"span":{"first":null,"last":null}}"#,
+        concat!(
+            r#""kind_name":"TooLate","count":0,"date":"2026-01-12","date_acceptable":false,"#,
+            r#""span":{"first":null,"last":null}}"#,
+        ),
     ),
     (
         "check WindowWerktageBefore 3 1 2899-12-28 2899-12-28",
@@ -314,11 +346,17 @@ pub const VERDICTS_JSON: &[(&str, &str)] = &[
     ),
     (
         "check-at TagVorDemLetztenWerktagVor 2026-01-07T23:30:00Z 2026-01-09T00:00:00+01:00 Strom",
-        r#""kind_name":"TooLate","count":1,"date":"2026-01-10","date_acceptable":true,"span":{"first":"2026-01-10","last":null}}"#,
+        concat!(
+            r#""kind_name":"TooLate","count":1,"date":"2026-01-10","date_acceptable":true,"#,
+            r#""span":{"first":"2026-01-10","last":null}}"#,
+        ),
     ),
     (
         "abmeldung Z33 --eeg ja 2026-01-31 2026-02-28",
-        r#""kind_name":"TooLate","count":2,"date":"2026-02-28","date_acceptable":false,"span":{"first":"2026-03-01","last":null}}"#,
+        concat!(
+            r#""kind_name":"TooLate","count":2,"date":"2026-02-28","date_acceptable":false,"#,
+            r#""span":{"first":"2026-03-01","last":null}}"#,
+        ),
     ),
     ("check Korridor 0 2026-01-10 2026-01-11", r#""kind_name":"TooEarly","count":0,"date":null}"#),
     (

@@ -29,7 +29,8 @@ Optionen, an beliebiger Stelle
   --help, -h  Hilfe, auch zu einem Befehl
   --          danach folgen keine Optionen mehr
 
-Ende mit 0: Antwort. 2: abgelehnt. 64: falscher Aufruf. 69: nicht zu bauen. 74: Ausgabe gestört.
+Ende mit 0: Antwort. 2: abgelehnt. 64: falscher Aufruf. 69: nicht zu bauen.
+70: Antwort der Bibliothek nicht lesbar. 74: Ausgabe gestört.
 ";
 
 /// The list of all subcommands.

@@ -1,9 +1,10 @@
 use mako_fristen_host::{
-    berlin_date, ffi, AbmeldungVorlauf, Answer, Call, Date, Eeg, FristShape, Question, Refusal,
-    Span, VorlaufShape, VorlaufVerdict,
+    berlin_date, ffi, tag_des_beginns, AbmeldungVorlauf, Answer, Call, Date, Eeg, Error,
+    FristShape, Parameter, Question, Refusal, Span, Sparte, VorlaufShape, VorlaufVerdict,
 };
 
-/// A call with its arguments, as they were given.
+/// A call with its arguments, as they were given. What a command has read by its name is here for
+/// its sentence; that it should be missing, a name without a code, is a refusal of its own.
 #[derive(Debug)]
 pub struct Inquiry {
     pub call: Call,
@@ -20,46 +21,9 @@ impl Inquiry {
         Inquiry { call, question, reason, frist: None, vorlauf: None }
     }
 
-    /// The EEG mark of a deregistration, and its case.
-    pub fn abmeldung(&self) -> Result<(Eeg, AbmeldungVorlauf), Refusal> {
-        let eeg = Eeg::ALL.into_iter().find(|eeg| eeg.code() == self.question.code);
-        let eeg = eeg.ok_or(Refusal::UnknownCode)?;
-        Ok((eeg, AbmeldungVorlauf::fuer(&self.reason, eeg)?))
-    }
-
-    /// The transmission day of a verdict.
-    pub fn transmission_day(&self) -> Result<Date, Refusal> {
-        match self.call {
-            Call::VorlaufCheckAt => berlin_date(self.question.instant),
-            _ => Ok(self.question.date),
-        }
-    }
-
-    /// The anchors that the transmission day of a verdict allows.
-    pub fn allowed(&self) -> Result<Span, Refusal> {
-        self.shape()?.span(self.transmission_day()?)
-    }
-
-    /// Whether an anchor is acceptable: its verdict is Ok. One whose verdict is refused is not.
-    pub fn accepts(&self, anchor: Date) -> bool {
-        let judged = |shape: VorlaufShape| shape.check(self.transmission_day()?, anchor);
-        self.shape().and_then(judged) == Ok(VorlaufVerdict::Ok)
-    }
-
-    fn shape(&self) -> Result<VorlaufShape, Refusal> {
-        let shape = match self.call {
-            Call::AbmeldungCheck => self.abmeldung()?.1.shape(),
-            _ => self.vorlauf,
-        };
-        // Where there is a verdict, there is a shape.
-        shape.ok_or(Refusal::UnknownCode)
-    }
-
-    /// The 32 bytes, of a refused call too.
-    pub fn answer(&self) -> Answer {
-        let mut bytes = [0; Answer::LEN];
-        self.put(&mut bytes);
-        Answer::from_bytes(bytes)
+    /// The answer of the call, read: neither a refusal nor bytes that document 01 does not have.
+    pub fn answer(&self) -> Result<Answer, Error> {
+        Answer::of(self.call, |answer| self.put(answer))
     }
 
     fn put(&self, answer: &mut [u8]) -> u8 {
@@ -71,6 +35,72 @@ impl Inquiry {
                 reason, eeg, from.year, from.month, from.day, to.year, to.month, to.day, answer,
             ),
             _ => self.question.ask(answer),
+        }
+    }
+
+    /// The Sparte, be it the first code or the second.
+    pub fn sparte(&self) -> Result<Sparte, Error> {
+        let second = self.call.takes(Parameter::SecondSparte);
+        let code = if second { self.question.code2 } else { self.question.code };
+        Ok(Sparte::of_code(code).ok_or(Refusal::UnknownCode)?)
+    }
+
+    /// The EEG mark of a deregistration.
+    pub fn eeg(&self) -> Result<Eeg, Error> {
+        Ok(Eeg::of_code(self.question.code).ok_or(Refusal::UnknownCode)?)
+    }
+
+    /// The case of a deregistration.
+    pub fn abmeldung(&self) -> Result<AbmeldungVorlauf, Error> {
+        AbmeldungVorlauf::fuer(&self.reason, self.eeg()?)
+    }
+
+    /// The shape of an answer's Frist.
+    pub fn frist(&self) -> Result<FristShape, Error> {
+        Ok(self.frist.ok_or(Refusal::UnknownCode)?)
+    }
+
+    /// The shape of a Vorlauffrist. Where there is a verdict, there is a shape.
+    pub fn shape(&self) -> Result<VorlaufShape, Error> {
+        let shape = match self.call {
+            Call::AbmeldungCheck => self.abmeldung()?.shape(),
+            _ => self.vorlauf,
+        };
+        Ok(shape.ok_or(Refusal::UnknownCode)?)
+    }
+
+    /// The transmission day of a verdict.
+    pub fn transmission_day(&self) -> Result<Date, Error> {
+        match self.call.takes(Parameter::Instant) {
+            true => berlin_date(self.question.instant),
+            false => Ok(self.question.date),
+        }
+    }
+
+    /// The anchor of a verdict.
+    pub fn anchor(&self) -> Result<Date, Error> {
+        match self.call.takes(Parameter::SecondInstant) {
+            true => tag_des_beginns(self.question.instant2, self.sparte()?),
+            false => Ok(self.question.date2),
+        }
+    }
+
+    /// The anchors that the transmission day of a verdict allows; none if an end of their span
+    /// leaves the calendar.
+    pub fn allowed(&self) -> Result<Option<Span>, Error> {
+        match self.shape()?.span(self.transmission_day()?) {
+            Ok(span) => Ok(Some(span)),
+            Err(Error::Refused(Refusal::LeavesCalendar)) => Ok(None),
+            Err(error) => Err(error),
+        }
+    }
+
+    /// Whether an anchor is acceptable: its verdict is Ok. One whose verdict is refused is not.
+    pub fn accepts(&self, anchor: Date) -> Result<bool, Error> {
+        match self.shape()?.check(self.transmission_day()?, anchor) {
+            Ok(verdict) => Ok(verdict == VorlaufVerdict::Ok),
+            Err(Error::Refused(_)) => Ok(false),
+            Err(error) => Err(error),
         }
     }
 }

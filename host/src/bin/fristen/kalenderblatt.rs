@@ -2,8 +2,8 @@
 
 use crate::deutsch::{monat, werktage};
 use crate::json::Json;
-use crate::report::{arguments, refused};
-use mako_fristen_host::{is_werktag, Date, Feiertag, Refusal, Weekday};
+use crate::report::{arguments, refusal_json};
+use mako_fristen_host::{is_werktag, Date, Error, Feiertag, Refusal, Weekday};
 use std::ffi::OsString;
 
 /// How a closed day is shown.
@@ -37,11 +37,11 @@ struct Month {
 }
 
 impl Month {
-    fn of(year: u16, number: u8) -> Result<Month, Refusal> {
+    fn of(year: u16, number: u8) -> Result<Month, Error> {
         let days = (1..=31).map(|day| Date::new(year, number, day));
         let days = days.filter(|day| day.weekday().is_some());
-        let days = days.map(|day| Ok((day, is_werktag(day)?))).collect::<Result<_, _>>()?;
-        Ok(Month { number, days })
+        let tested = days.map(|day| is_werktag(day).map(|open| (day, open)));
+        Ok(Month { number, days: tested.collect::<Result<_, _>>()? })
     }
 
     fn werktage(&self) -> u32 {
@@ -53,7 +53,7 @@ impl Year {
     /// # Errors
     ///
     /// [`Refusal::NoDate`], for a year that is none from 1996 to 2899.
-    pub fn of(year: u32) -> Result<Year, Refusal> {
+    pub fn of(year: u32) -> Result<Year, Error> {
         let year = u16::try_from(year).map_err(|_| Refusal::NoDate)?;
         let holidays = Feiertag::of_year(year)?;
         let months = (1..=12).map(|month| Month::of(year, month)).collect::<Result<_, _>>()?;
@@ -114,9 +114,9 @@ impl Year {
         let day = date.day;
         match (open, mark) {
             (true, _) => format!("{day:2} "),
-            (_, Mark::Star) => format!("{day:2}*"),
-            (_, Mark::Colour) if self.is_holiday(date) => format!("\x1b[7;31m{day:2}\x1b[0m "),
-            (_, Mark::Colour) => format!("\x1b[31m{day:2}\x1b[0m "),
+            (false, Mark::Star) => format!("{day:2}*"),
+            (false, Mark::Colour) if self.is_holiday(date) => format!("\x1b[7;31m{day:2}\x1b[0m "),
+            (false, Mark::Colour) => format!("\x1b[31m{day:2}\x1b[0m "),
         }
     }
 
@@ -152,7 +152,7 @@ pub fn refused_json(given: &[OsString], refusal: Refusal) -> Json {
     Json::Object(vec![
         ("call", Json::text("kalender")),
         ("arguments", arguments(given)),
-        ("refusal", refused(refusal)),
+        ("refusal", refusal_json(refusal)),
     ])
 }
 
@@ -180,7 +180,7 @@ mod tests {
     #[test]
     fn a_year_outside_the_calendar_is_refused() {
         for year in [0, 1995, 2900, 65_535, 65_536, u32::MAX] {
-            assert_eq!(Year::of(year).err(), Some(Refusal::NoDate), "{year}");
+            assert_eq!(Year::of(year).err(), Some(Refusal::NoDate.into()), "{year}");
         }
     }
 }

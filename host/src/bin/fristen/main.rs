@@ -4,6 +4,7 @@ mod arguments;
 mod command;
 mod commands;
 mod deutsch;
+mod errors;
 mod help;
 mod inquiry;
 mod json;
@@ -12,7 +13,6 @@ mod labels;
 mod names;
 mod operands;
 mod outcome;
-mod refusals;
 mod report;
 mod sentences;
 mod usage;
@@ -20,7 +20,7 @@ mod usage;
 use arguments::{is_option, Arguments, Form};
 use command::Command;
 use kalenderblatt::{Mark, Year};
-use mako_fristen_host::{Call, Refusal};
+use mako_fristen_host::{check_archive, Answer, Call, Error, Refusal};
 use outcome::Outcome;
 use std::env;
 use std::ffi::OsString;
@@ -82,34 +82,31 @@ fn answered(command: &Command, arguments: &Arguments) -> Result<Outcome, Usage> 
 
 fn called(command: &Command, call: Call, arguments: &Arguments) -> Result<Outcome, Usage> {
     let inquiry = operands::inquiry(command, call, arguments)?;
-    let answer = inquiry.answer();
-    let refusal = Refusal::of_number(answer.number());
-    let status = Outcome::status(refusal.is_some());
-    let sentence = || match refusal {
-        Some(refusal) => refusals::sentence(refusal),
-        None => sentences::of(&inquiry, &answer).unwrap_or_else(refusals::sentence),
-    };
-    Ok(match arguments.form {
-        Form::Sentence => Outcome::new(sentence(), status),
-        Form::Json => Outcome::new(report::json(&inquiry, &arguments.given, &answer), status),
-        Form::Bytes => Outcome::new(format!("{answer:x}"), status),
-    })
+    let (form, given) = (arguments.form, &arguments.given);
+    let answer = check_archive().map_err(Error::from).and_then(|()| inquiry.answer());
+    let said = answer.and_then(|answer| match form {
+        Form::Sentence => sentences::of(&inquiry, &answer),
+        Form::Json => report::answered(&inquiry, given, &answer).map(|json| json.to_string()),
+        Form::Bytes => Ok(format!("{answer:x}")),
+    });
+    Ok(Outcome::of(said, |refusal: Refusal| match form {
+        Form::Sentence => errors::refused(refusal),
+        Form::Json => report::refused(&inquiry, given, refusal).to_string(),
+        Form::Bytes => format!("{:x}", Answer::refused(refusal)),
+    }))
 }
 
 fn kalender(command: &Command, arguments: &Arguments) -> Result<Outcome, Usage> {
     let year = operands::year(command, arguments)?;
-    if arguments.form == Form::Bytes {
-        return Err(Usage::new("--bytes gibt es zu diesem Befehl nicht"));
-    }
     let colour = io::stdout().is_terminal() && env::var_os("NO_COLOR").is_none();
     let mark = if colour { Mark::Colour } else { Mark::Star };
+    let year = check_archive().map_err(Error::from).and_then(|()| Year::of(year));
     let given = &arguments.given;
-    Ok(match (Year::of(year), arguments.form) {
-        (Ok(year), Form::Json) => Outcome::new(year.json(given), Outcome::status(false)),
-        (Ok(year), _) => Outcome::new(year.text(mark), Outcome::status(false)),
-        (Err(refusal), Form::Json) => {
-            Outcome::new(kalenderblatt::refused_json(given, refusal), Outcome::status(true))
-        }
-        (Err(refusal), _) => Outcome::new(refusals::sentence(refusal), Outcome::status(true)),
-    })
+    match arguments.form {
+        Form::Sentence => Ok(Outcome::of(year.map(|year| year.text(mark)), errors::refused)),
+        Form::Json => Ok(Outcome::of(year.map(|year| year.json(given)), |refusal| {
+            kalenderblatt::refused_json(given, refusal)
+        })),
+        Form::Bytes => Err(Usage::new("--bytes gibt es zu diesem Befehl nicht")),
+    }
 }

@@ -3,151 +3,170 @@
 use crate::inquiry::Inquiry;
 use crate::json::Json;
 use crate::labels;
-use crate::refusals;
 use crate::sentences::why_closed;
-use mako_fristen_host::{Answer, BerlinTime, Call, Clock, Date, Instant, Refusal, Span};
+use mako_fristen_host::{
+    AbmeldungVorlauf, Answer, BerlinTime, Clock, Content, Date, Error, GasDue, GasProzess, Instant,
+    Parameter, Refusal, Span, VorlaufVerdict,
+};
 use std::ffi::OsString;
 
 type Members = Vec<(&'static str, Json)>;
 
-const TOO_LATE: u8 = 1;
-
-/// A part of the answer.
-#[derive(Clone, Copy)]
-enum Field {
-    Kind(&'static [&'static str]),
-    Count,
-    Instant,
-    Date,
-    LastDate,
+/// The call, its arguments as given, what it filled, and what the host adds.
+pub fn answered(inquiry: &Inquiry, given: &[OsString], answer: &Answer) -> Result<Json, Error> {
+    let mut members = asked(inquiry, given);
+    members.push(("refusal", Json::Null));
+    members.extend(content(inquiry, answer)?);
+    Ok(Json::Object(members))
 }
 
-const VERDICT: &[Field] =
-    &[Field::Kind(&["Ok", "TooLate", "TooEarly", "NoShape"]), Field::Count, Field::Date];
-const GAS_DUE: &[Field] = &[Field::Kind(&["Folgeprozess", "Initialprozess"]), Field::Instant];
-
-/// What the call fills, and the names of its kinds, as docs/host-calls.md has them.
-fn fields(call: Call) -> &'static [Field] {
-    match call {
-        Call::IsWerktag => &[Field::Kind(&["KeinWerktag", "Werktag"])],
-        Call::NextWerktag
-        | Call::AddWerktage
-        | Call::SubWerktage
-        | Call::AddMonths
-        | Call::SubtractMonths
-        | Call::BerlinDate
-        | Call::TagDesBeginns => &[Field::Date],
-        Call::WerktageBetween => &[Field::Count],
-        Call::AperakGasFolgeprozessDueAt
-        | Call::AperakGasInitialprozessDueAt
-        | Call::AperakGasDueAt => GAS_DUE,
-        Call::VorlaufCheck | Call::VorlaufCheckAt | Call::AbmeldungCheck => VERDICT,
-        Call::VorlaufSpan => {
-            &[Field::Kind(&["From", "Between", "Empty"]), Field::Date, Field::LastDate]
-        }
-        Call::AbmeldungFuer => &[Field::Kind(&[
-            "TagVorDemLetztenWerktag",
-            "EinMonat",
-            "Unbestimmt",
-            "AnPruefschritt120",
-        ])],
-        Call::EogAnkuendigungFristgerecht => &[Field::Kind(&["Nein", "Ja", "WederNoch"])],
-        _ => &[Field::Instant],
-    }
-}
-
-/// The call, its arguments as given, the refusal, what the call filled, and what the host adds.
-pub fn json(inquiry: &Inquiry, given: &[OsString], answer: &Answer) -> Json {
-    let refusal = Refusal::of_number(answer.number());
-    let mut members = vec![("call", Json::text(inquiry.call.name()))];
-    members.push(("arguments", arguments(given)));
-    if matches!(inquiry.call, Call::AbmeldungFuer | Call::AbmeldungCheck) {
-        // The arguments are text, which a reason need not be.
-        members.push(("reason_hex", Json::Text(hex(&inquiry.reason))));
-    }
-    members.push(("refusal", refusal.map_or(Json::Null, refused)));
-    if refusal.is_none() {
-        for field in fields(inquiry.call) {
-            field.write(answer, &mut members);
-        }
-        members.extend(added(inquiry, answer));
-    }
+/// The call, its arguments as given, and the refusal.
+pub fn refused(inquiry: &Inquiry, given: &[OsString], refusal: Refusal) -> Json {
+    let mut members = asked(inquiry, given);
+    members.push(("refusal", refusal_json(refusal)));
     Json::Object(members)
 }
 
-fn added(inquiry: &Inquiry, answer: &Answer) -> Members {
-    match inquiry.call {
-        Call::IsWerktag => {
-            let why = why_closed(inquiry.question.date).unwrap_or_default();
-            vec![("why", Json::list(why.into_iter().map(Json::Text)))]
-        }
-        Call::VorlaufCheck | Call::VorlaufCheckAt | Call::AbmeldungCheck
-            if answer.kind() == TOO_LATE =>
-        {
-            let span = inquiry.allowed().map_or(Json::Null, ends);
-            let acceptable = Json::Bool(inquiry.accepts(answer.date()));
-            vec![("date_acceptable", acceptable), ("span", span)]
-        }
-        call => {
-            labels::of(call, answer).map(|label| ("label", Json::text(label))).into_iter().collect()
-        }
+fn asked(inquiry: &Inquiry, given: &[OsString]) -> Members {
+    let mut members =
+        vec![("call", Json::text(inquiry.call.name())), ("arguments", arguments(given))];
+    if inquiry.call.takes(Parameter::Reason) {
+        // The arguments are text, which a reason need not be.
+        members.push(("reason_hex", Json::Text(hex(&inquiry.reason))));
     }
-}
-
-/// The ends of the allowed anchors' span; null for one that it does not have.
-fn ends(span: Span) -> Json {
-    let (first, last) = match span {
-        Span::From(first) => (Json::text(first), Json::Null),
-        Span::Between(first, last) => (Json::text(first), Json::text(last)),
-        Span::Empty => (Json::Null, Json::Null),
-    };
-    Json::Object(vec![("first", first), ("last", last)])
+    members
 }
 
 pub fn arguments(given: &[OsString]) -> Json {
     Json::list(given.iter().map(|argument| Json::text(argument.to_string_lossy())))
 }
 
-pub fn refused(refusal: Refusal) -> Json {
+pub fn refusal_json(refusal: Refusal) -> Json {
     let number = Json::Number(i64::from(refusal.number()));
-    Json::Object(vec![("number", number), ("text", Json::text(refusals::text(refusal)))])
+    Json::Object(vec![("number", number), ("text", Json::text(refusal.beschreibung()))])
 }
 
-impl Field {
-    fn write(self, answer: &Answer, members: &mut Members) {
-        match self {
-            Field::Kind(names) => {
-                let name = names.get(usize::from(answer.kind()));
-                members.push(("kind", Json::Number(i64::from(answer.kind()))));
-                members.push(("kind_name", name.map_or(Json::Null, Json::text)));
-            }
-            Field::Count => members.push(("count", Json::Number(i64::from(answer.count())))),
-            Field::Instant => members.push(("instant", instant(answer.instant()))),
-            Field::Date => members.push(("date", date(answer.date()))),
-            Field::LastDate => members.push(("last_date", date(answer.last_date()))),
+/// The fields, with the kinds by name, and what goes with them.
+fn content(inquiry: &Inquiry, answer: &Answer) -> Result<Members, Error> {
+    let call = inquiry.call;
+    let kind = |name| kind(answer, name);
+    Ok(match call.content() {
+        Content::Werktag => {
+            let name = if answer.read(call)? { "Werktag" } else { "KeinWerktag" };
+            let why = why_closed(inquiry.question.date)?.into_iter().map(Json::Text);
+            joined([kind(name), vec![("why", Json::list(why))]])
         }
+        Content::Date => vec![("date", Json::text(answer.read::<Date>(call)?))],
+        Content::Count => vec![("count", Json::Number(i64::from(answer.read::<u32>(call)?)))],
+        Content::Instant => {
+            joined([vec![("instant", instant(answer.read(call)?)?)], label(labels::of(call))])
+        }
+        Content::GasDue => {
+            let GasDue { kind: process, due } = answer.read(call)?;
+            let due = vec![("instant", instant(due)?)];
+            joined([kind(gas_name(process)), due, label(Some(process.label()))])
+        }
+        Content::Verdict => verdict(inquiry, answer, Some(answer.read(call)?))?,
+        Content::AbmeldungVerdict => verdict(inquiry, answer, answer.read(call)?)?,
+        Content::Span => {
+            let span = answer.read(call)?;
+            let (first, last) = ends(span);
+            joined([kind(span_name(span)), vec![("date", first), ("last_date", last)]])
+        }
+        Content::AbmeldungVorlauf => kind(case_name(answer.read(call)?)),
+        Content::Ankuendigung => kind(in_time_name(answer.read(call)?)),
+    })
+}
+
+fn joined<const N: usize>(members: [Members; N]) -> Members {
+    members.into_iter().flatten().collect()
+}
+
+fn kind(answer: &Answer, name: &str) -> Members {
+    vec![("kind", Json::Number(i64::from(answer.kind()))), ("kind_name", Json::text(name))]
+}
+
+fn label(label: Option<&str>) -> Members {
+    label.map(|label| ("label", Json::text(label))).into_iter().collect()
+}
+
+/// None has no shape. A `TooLate` has whether its date is acceptable, and which dates are.
+fn verdict(
+    inquiry: &Inquiry,
+    answer: &Answer,
+    verdict: Option<VorlaufVerdict>,
+) -> Result<Members, Error> {
+    let fields = |name, count: u32, date| {
+        let filled = vec![("count", Json::Number(i64::from(count))), ("date", date)];
+        joined([kind(answer, name), filled])
+    };
+    Ok(match verdict {
+        Some(VorlaufVerdict::Ok) => fields("Ok", 0, Json::Null),
+        Some(VorlaufVerdict::TooEarly { excess_wt }) => fields("TooEarly", excess_wt, Json::Null),
+        Some(VorlaufVerdict::TooLate { shortfall_wt, earliest_possible }) => {
+            let acceptable = Json::Bool(inquiry.accepts(earliest_possible)?);
+            let span = inquiry.allowed()?.map_or(Json::Null, |span| {
+                let (first, last) = ends(span);
+                Json::Object(vec![("first", first), ("last", last)])
+            });
+            let added = vec![("date_acceptable", acceptable), ("span", span)];
+            joined([fields("TooLate", shortfall_wt, Json::text(earliest_possible)), added])
+        }
+        None => fields("NoShape", 0, Json::Null),
+    })
+}
+
+/// The ends of a span; null for one that it does not have.
+fn ends(span: Span) -> (Json, Json) {
+    match span {
+        Span::From(first) => (Json::text(first), Json::Null),
+        Span::Between(first, last) => (Json::text(first), Json::text(last)),
+        Span::Empty => (Json::Null, Json::Null),
     }
 }
 
-/// Null where the answer has none, as in an Ok.
-fn date(date: Date) -> Json {
-    if date == Date::default() {
-        return Json::Null;
+fn span_name(span: Span) -> &'static str {
+    match span {
+        Span::From(_) => "From",
+        Span::Between(..) => "Between",
+        Span::Empty => "Empty",
     }
-    Json::text(date)
 }
 
-fn instant(instant: Instant) -> Json {
+fn gas_name(process: GasProzess) -> &'static str {
+    match process {
+        GasProzess::Folgeprozess => "Folgeprozess",
+        GasProzess::Initialprozess => "Initialprozess",
+    }
+}
+
+fn case_name(case: AbmeldungVorlauf) -> &'static str {
+    match case {
+        AbmeldungVorlauf::TagVorDemLetztenWerktag => "TagVorDemLetztenWerktag",
+        AbmeldungVorlauf::EinMonat => "EinMonat",
+        AbmeldungVorlauf::Unbestimmt => "Unbestimmt",
+        AbmeldungVorlauf::AnPruefschritt120 => "AnPruefschritt120",
+    }
+}
+
+fn in_time_name(in_time: Option<bool>) -> &'static str {
+    match in_time {
+        Some(false) => "Nein",
+        Some(true) => "Ja",
+        None => "WederNoch",
+    }
+}
+
+fn instant(instant: Instant) -> Result<Json, Error> {
     let utc = instant.utc().map(|(date, clock)| stamp(date, clock, "Z"));
-    let berlin = BerlinTime::of(instant)
-        .ok()
-        .map(|time| stamp(time.date, time.clock, if time.summer { "+02:00" } else { "+01:00" }));
-    Json::Object(vec![
+    let BerlinTime { date, clock, summer, .. } = BerlinTime::of(instant)?;
+    let berlin = stamp(date, clock, if summer { "+02:00" } else { "+01:00" });
+    Ok(Json::Object(vec![
         ("seconds", Json::Number(instant.seconds)),
         ("nanos", Json::Number(i64::from(instant.nanos))),
         ("utc", utc.map_or(Json::Null, Json::Text)),
-        ("berlin", berlin.map_or(Json::Null, Json::Text)),
-    ])
+        ("berlin", Json::Text(berlin)),
+    ]))
 }
 
 /// As RFC 3339 has it, with nine digits of a second or none.

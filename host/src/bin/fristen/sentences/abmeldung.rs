@@ -2,44 +2,37 @@ use super::vorlauf::{verdict, ZUORDNUNGSENDE};
 use crate::deutsch::{am, tag};
 use crate::inquiry::Inquiry;
 use crate::usage::quoted_bytes;
-use mako_fristen_host::{sub_werktage, AbmeldungVorlauf, Answer, BerlinTime, Call, Eeg, Refusal};
+use mako_fristen_host::{sub_werktage, AbmeldungVorlauf, BerlinTime, Eeg, Error, VorlaufVerdict};
 
-pub fn sentence(inquiry: &Inquiry, answer: &Answer) -> Result<String, Refusal> {
-    if inquiry.call == Call::EogAnkuendigungFristgerecht {
-        return ankuendigung(inquiry, answer.kind());
-    }
-    let question = &inquiry.question;
-    let (eeg, case) = inquiry.abmeldung()?;
-    let heading = heading(&inquiry.reason, eeg, case);
-    if inquiry.call == Call::AbmeldungFuer {
-        return Ok(heading);
-    }
-    let days =
-        format!("Übertragungstag {}, Zuordnungsende {}.", tag(question.date), tag(question.date2));
-    Ok(match case.shape() {
-        Some(_) => format!("{heading}\n{}", verdict(inquiry, answer, &ZUORDNUNGSENDE, &days)),
-        None => format!("{heading}\nKein Urteil, also auch nicht „Frist gewahrt“: {days}"),
-    })
-}
-
-fn heading(reason: &[u8], eeg: Eeg, case: AbmeldungVorlauf) -> String {
-    let malo = match (case, eeg) {
+/// The reason, the mark where it matters, and the case.
+pub fn heading(inquiry: &Inquiry, case: AbmeldungVorlauf) -> Result<String, Error> {
+    let malo = match (case, inquiry.eeg()?) {
         (AbmeldungVorlauf::AnPruefschritt120, _) => "",
         (_, Eeg::No) => ", keine EEG-Marktlokation",
         (_, Eeg::Yes) => ", EEG-Marktlokation",
         (_, Eeg::Unknown) => ", unbestimmt",
     };
-    format!("Grund {}{malo}: {}", quoted_bytes(reason), case.beschreibung())
+    Ok(format!("Grund {}{malo}: {}", quoted_bytes(&inquiry.reason), case.beschreibung()))
 }
 
-fn ankuendigung(inquiry: &Inquiry, kind: u8) -> Result<String, Refusal> {
+pub fn judged(inquiry: &Inquiry, judged: Option<VorlaufVerdict>) -> Result<String, Error> {
+    let heading = heading(inquiry, inquiry.abmeldung()?)?;
+    let (from, to) = (tag(inquiry.question.date), tag(inquiry.question.date2));
+    let days = format!("Übertragungstag {from}, Zuordnungsende {to}.");
+    Ok(match judged {
+        Some(given) => format!("{heading}\n{}", verdict(inquiry, given, &ZUORDNUNGSENDE, &days)?),
+        None => format!("{heading}\nKein Urteil, also auch nicht „Frist gewahrt“: {days}"),
+    })
+}
+
+pub fn ankuendigung(inquiry: &Inquiry, in_time: Option<bool>) -> Result<String, Error> {
     let received = am(BerlinTime::of(inquiry.question.instant)?);
     let begin = inquiry.question.date;
     let what = format!("Eingang {received}, Zuordnungsbeginn {}.", tag(begin));
-    let word = match kind {
-        0 => "Nicht fristgerecht",
-        1 => "Fristgerecht",
-        _ => {
+    let word = match in_time {
+        Some(false) => "Nicht fristgerecht",
+        Some(true) => "Fristgerecht",
+        None => {
             return Ok(format!(
                 "Weder fristgerecht noch verspätet: {what}\n\
                  Der Zuordnungsbeginn liegt nicht in der Zukunft; dann gilt „Unverzüglich“, und ab \

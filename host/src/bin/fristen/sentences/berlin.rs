@@ -1,42 +1,33 @@
 use crate::deutsch::{der, uhr, utc, zeitpunkt};
 use crate::inquiry::Inquiry;
-use crate::names::SPARTEN;
-use mako_fristen_host::{Answer, BerlinTime, Call, Refusal};
+use mako_fristen_host::{BerlinTime, Date, Error, Instant};
 
-pub fn sentence(inquiry: &Inquiry, answer: &Answer) -> Result<String, Refusal> {
-    let question = &inquiry.question;
-    let (date, sparte) = (question.date, sparte(question.code));
-    let shown = || BerlinTime::of(answer.instant());
-    let in_utc = || utc(answer.instant());
-    Ok(match inquiry.call {
-        Call::BerlinDate => {
-            let time = BerlinTime::of(question.instant)?;
-            format!("In Berlin ist es dann {}, {}.", der(answer.date()), uhr(time))
-        }
-        Call::TagDesBeginns => {
-            format!("In der Sparte {sparte} beginnt zu diesem Zeitpunkt {}.", der(answer.date()))
-        }
-        Call::BerlinMidnight => {
-            format!("{}, beginnt in Berlin um {}; das ist {}.", der(date), uhr(shown()?), in_utc())
-        }
-        Call::EndOfDayBerlin => {
-            format!("{}, endet in Berlin um {}; das ist {}.", der(date), uhr(shown()?), in_utc())
-        }
-        Call::TagesbeginnUtc => {
-            let (date, uhr) = (der(date), uhr(shown()?));
-            let utc = in_utc();
-            format!("In der Sparte {sparte} beginnt {date}, in Berlin um {uhr}; das ist {utc}.")
-        }
-        _ => at(shown()?, &in_utc()),
-    })
-}
-
-fn at(time: BerlinTime, utc: &str) -> String {
+pub fn at(instant: Instant) -> Result<String, Error> {
+    let (time, utc) = (BerlinTime::of(instant)?, utc(instant));
     let twice =
         if time.repeated { " Die Uhr zeigt diese Zeit zweimal; es gilt die frühere." } else { "" };
-    format!("In Berlin {}; das ist {utc}.{twice}", zeitpunkt(time))
+    Ok(format!("In Berlin {}; das ist {utc}.{twice}", zeitpunkt(time)))
 }
 
-pub fn sparte(code: u8) -> &'static str {
-    SPARTEN.iter().find(|(_, sparte)| sparte.code() == code).map_or("?", |(name, _)| *name)
+/// Where a day in Berlin begins or ends, as `verb` has it.
+pub fn edge(inquiry: &Inquiry, instant: Instant, verb: &str) -> Result<String, Error> {
+    let (date, utc) = (der(inquiry.question.date), utc(instant));
+    let uhr = uhr(BerlinTime::of(instant)?);
+    Ok(format!("{date}, {verb} in Berlin um {uhr}; das ist {utc}."))
+}
+
+pub fn beginning(inquiry: &Inquiry, instant: Instant) -> Result<String, Error> {
+    let (date, utc) = (der(inquiry.question.date), utc(instant));
+    let (sparte, uhr) = (inquiry.sparte()?, uhr(BerlinTime::of(instant)?));
+    Ok(format!("In der Sparte {sparte} beginnt {date}, in Berlin um {uhr}; das ist {utc}."))
+}
+
+pub fn day(inquiry: &Inquiry, date: Date) -> Result<String, Error> {
+    let uhr = uhr(BerlinTime::of(inquiry.question.instant)?);
+    Ok(format!("In Berlin ist es dann {}, {uhr}.", der(date)))
+}
+
+pub fn day_begun(inquiry: &Inquiry, date: Date) -> Result<String, Error> {
+    let sparte = inquiry.sparte()?;
+    Ok(format!("In der Sparte {sparte} beginnt zu diesem Zeitpunkt {}.", der(date)))
 }

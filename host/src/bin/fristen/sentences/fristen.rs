@@ -2,45 +2,26 @@ use crate::deutsch::{am, faellig, stunden, zeitpunkt};
 use crate::inquiry::Inquiry;
 use crate::labels;
 use mako_fristen_host::{
-    is_werktag, Answer, BerlinTime, Call, Clock, FristShape, GasProzess, Refusal,
+    is_werktag, BerlinTime, Call, Clock, ContrlAnlass, Error, FristShape, GasDue, GasProzess,
+    Instant, Refusal,
 };
 
-pub fn sentence(inquiry: &Inquiry, answer: &Answer) -> Result<String, Refusal> {
-    let question = &inquiry.question;
-    let received = BerlinTime::of(question.instant)?;
-    let due = BerlinTime::of(answer.instant())?;
-    if inquiry.call == Call::AddHours {
-        let (from, to) = (zeitpunkt(received), zeitpunkt(due));
-        return Ok(format!("{} nach {from}, ist es {to}.", stunden(question.n)));
-    }
-    let from = am(received);
-    let to = faellig(due);
-    if let Some(shape) = shape(inquiry) {
-        let (frist, corner) = (shape.beschreibung(), corner(shape, received, due)?);
-        return Ok(format!("Eingang {from}: Die Frist {frist} endet {to}.{corner}"));
-    }
-    let (message, end) = (message(inquiry, answer), umstellung(inquiry.call, due));
-    let label = labels::of(inquiry.call, answer).map_or(String::new(), |l| format!(" ({l})"));
-    Ok(format!("Eingang {from}: {message} ist fällig {to}{label}.{end}"))
+pub fn hours(inquiry: &Inquiry, to: Instant) -> Result<String, Error> {
+    let from = zeitpunkt(BerlinTime::of(inquiry.question.instant)?);
+    let (n, to) = (stunden(inquiry.question.n), zeitpunkt(BerlinTime::of(to)?));
+    Ok(format!("{n} nach {from}, ist es {to}."))
 }
 
 /// The calls that step by Werktage are shapes under other names.
-fn shape(inquiry: &Inquiry) -> Option<FristShape> {
-    let (n, at) = (inquiry.question.n, inquiry.question.clock);
-    match inquiry.call {
-        Call::NextWerktagAt => Some(FristShape::WerktagAt { werktage: 1, at }),
-        Call::NthWerktagAt => Some(FristShape::WerktagAt { werktage: n, at }),
-        Call::DeadlineAtWerktage | Call::EndOfWerktagAfter => Some(FristShape::EndOfWerktag(n)),
-        _ => inquiry.frist,
-    }
+pub fn shaped(inquiry: &Inquiry, due: Instant, shape: FristShape) -> Result<String, Error> {
+    let (received, due) = (BerlinTime::of(inquiry.question.instant)?, BerlinTime::of(due)?);
+    let (frist, corner) = (shape.beschreibung(), corner(shape, received, due)?);
+    let (from, to) = (am(received), faellig(due));
+    Ok(format!("Eingang {from}: Die Frist {frist} endet {to}.{corner}"))
 }
 
 /// Where the due instant is not what the words of the shape say.
-fn corner(
-    shape: FristShape,
-    received: BerlinTime,
-    due: BerlinTime,
-) -> Result<&'static str, Refusal> {
+fn corner(shape: FristShape, received: BerlinTime, due: BerlinTime) -> Result<&'static str, Error> {
     Ok(match shape {
         FristShape::WerktagAt { werktage: 0, .. } => " 0 Werktage zählen hier wie 1.",
         FristShape::EndOfWerktag(0) => {
@@ -53,36 +34,56 @@ fn corner(
         FristShape::SameDayAt(_) => {
             " Der Übertragungstag ist kein Werktag: es gilt der nächste Werktag."
         }
-        _ => "",
+        FristShape::WerktagAt { .. } | FristShape::EndOfWerktag(_) | FristShape::SameDay => "",
     })
 }
 
-fn message(inquiry: &Inquiry, answer: &Answer) -> String {
-    let gas = match labels::gas(answer) {
-        GasProzess::Initialprozess => "Initialprozess",
-        GasProzess::Folgeprozess => "Folgeprozess",
+pub fn contrl(inquiry: &Inquiry, due: Instant) -> Result<String, Error> {
+    let anlass = ContrlAnlass::of_code(inquiry.question.code).ok_or(Refusal::UnknownCode)?;
+    let message = match anlass {
+        ContrlAnlass::Regelfall => "Die CONTRL im Regelfall",
+        ContrlAnlass::StromUtilmdOderOrders => "Die CONTRL auf UTILMD oder ORDERS Strom",
+        ContrlAnlass::GasAlocat => "Die CONTRL auf ALOCAT Gas",
     };
-    let pid = inquiry.question.n;
-    match (inquiry.call, inquiry.question.code) {
-        (Call::ContrlDueAt, 0) => "Die CONTRL im Regelfall".to_owned(),
-        (Call::ContrlDueAt, 1) => "Die CONTRL auf UTILMD oder ORDERS Strom".to_owned(),
-        (Call::ContrlDueAt, _) => "Die CONTRL auf ALOCAT Gas".to_owned(),
-        (Call::AperakStromDueAt, _) => "Die APERAK auf UTILMD oder ORDERS Strom".to_owned(),
-        (Call::AperakStromAllgemeinDueAt, _) => {
-            "Die APERAK auf eine andere Nachricht Strom".to_owned()
-        }
-        (Call::AperakGasDueAt, _) => {
-            format!("Die APERAK auf Prüfidentifikator {pid} ({gas} Gas)")
-        }
-        _ => format!("Die APERAK im {gas} Gas"),
-    }
+    let end = umstellung(BerlinTime::of(due)?);
+    Ok(message_due(inquiry, message, due, labels::of(inquiry.call))? + end)
 }
 
 /// The midnight at which the tolerance of a Formatumstellung ends, moved there or not.
-fn umstellung(call: Call, due: BerlinTime) -> &'static str {
+fn umstellung(due: BerlinTime) -> &'static str {
     let end = matches!((due.date.month, due.date.day), (4 | 10, 2));
-    if call == Call::ContrlDueAt && end && due.clock == Clock::default() {
+    if end && due.clock == Clock::default() {
         return " Dann endet der Zeitraum der Formatumstellung.";
     }
     ""
+}
+
+pub fn strom(inquiry: &Inquiry, due: Instant, on: &str) -> Result<String, Error> {
+    message_due(inquiry, &format!("Die APERAK auf {on} Strom"), due, labels::of(inquiry.call))
+}
+
+pub fn gas(inquiry: &Inquiry, GasDue { kind, due }: GasDue) -> Result<String, Error> {
+    let process = match kind {
+        GasProzess::Initialprozess => "Initialprozess Gas",
+        GasProzess::Folgeprozess => "Folgeprozess Gas",
+    };
+    let pid = inquiry.question.n;
+    let message = if inquiry.call == Call::AperakGasDueAt {
+        format!("Die APERAK auf Prüfidentifikator {pid} ({process})")
+    } else {
+        format!("Die APERAK im {process}")
+    };
+    message_due(inquiry, &message, due, Some(kind.label()))
+}
+
+fn message_due(
+    inquiry: &Inquiry,
+    message: &str,
+    due: Instant,
+    label: Option<&str>,
+) -> Result<String, Error> {
+    let from = am(BerlinTime::of(inquiry.question.instant)?);
+    let to = faellig(BerlinTime::of(due)?);
+    let label = label.map_or(String::new(), |label| format!(" ({label})"));
+    Ok(format!("Eingang {from}: {message} ist fällig {to}{label}."))
 }

@@ -1,6 +1,6 @@
 use crate::deutsch::{dem, den, der, tag, werktage, werktagen};
 use crate::inquiry::Inquiry;
-use mako_fristen_host::{tag_des_beginns, Answer, Call, Date, Refusal, Span, Sparte};
+use mako_fristen_host::{Date, Error, Span, VorlaufVerdict};
 
 /// What the anchor is called, with the words of its gender and number.
 pub struct Anchor {
@@ -30,40 +30,42 @@ pub const ZUORDNUNGSENDE: Anchor = Anchor {
     span: "Die Spanne der zulässigen Zuordnungsenden",
 };
 
-pub fn sentence(inquiry: &Inquiry, answer: &Answer) -> Result<String, Refusal> {
-    // A command of these calls has read a shape.
-    let Some(shape) = inquiry.vorlauf else { return Err(Refusal::UnknownCode) };
-    let question = &inquiry.question;
-    let (rule, from) = (shape.beschreibung(), inquiry.transmission_day()?);
-    if inquiry.call == Call::VorlaufSpan {
-        let allowed = TERMIN.allowed(inquiry.allowed()?);
-        return Ok(format!("Übertragungstag {}. {rule}\n{allowed}", tag(from)));
-    }
-    let anchor = match inquiry.call {
-        Call::VorlaufCheckAt => {
-            let sparte = if question.code2 == 0 { Sparte::Strom } else { Sparte::Gas };
-            tag_des_beginns(question.instant2, sparte)?
-        }
-        _ => question.date2,
-    };
-    let days = format!("Übertragungstag {}, Termin {}.", tag(from), tag(anchor));
-    Ok(verdict(inquiry, answer, &TERMIN, &format!("{days}\n{rule}")))
+pub fn spanned(inquiry: &Inquiry, span: Span) -> Result<String, Error> {
+    let (from, rule) = (tag(inquiry.transmission_day()?), inquiry.shape()?.beschreibung());
+    Ok(format!("Übertragungstag {from}. {rule}\n{}", TERMIN.allowed(span)))
+}
+
+pub fn judged(inquiry: &Inquiry, given: VorlaufVerdict) -> Result<String, Error> {
+    let (from, to) = (tag(inquiry.transmission_day()?), tag(inquiry.anchor()?));
+    let rule = inquiry.shape()?.beschreibung();
+    let what = format!("Übertragungstag {from}, Termin {to}.\n{rule}");
+    verdict(inquiry, given, &TERMIN, &what)
 }
 
 /// The verdict, `what` was judged, and for a `TooLate` what is missing and which dates are allowed.
-pub fn verdict(inquiry: &Inquiry, answer: &Answer, anchor: &Anchor, what: &str) -> String {
-    let n = answer.count();
-    match answer.kind() {
-        0 => format!("Frist gewahrt: {what}"),
-        2 => format!("Zu früh: {what}\n{}", too_early(n)),
-        _ => {
-            let verb = if n == 1 { "fehlt" } else { "fehlen" };
-            let why = if n == 0 { ": zu spät nur um Tage, die keine Werktage sind" } else { "" };
-            let missing = format!("Es {verb} {}{why}.", werktage(n));
-            let earliest = anchor.earliest(answer.date(), inquiry);
+pub fn verdict(
+    inquiry: &Inquiry,
+    given: VorlaufVerdict,
+    anchor: &Anchor,
+    what: &str,
+) -> Result<String, Error> {
+    Ok(match given {
+        VorlaufVerdict::Ok => format!("Frist gewahrt: {what}"),
+        VorlaufVerdict::TooEarly { excess_wt } => {
+            format!("Zu früh: {what}\n{}", too_early(excess_wt))
+        }
+        VorlaufVerdict::TooLate { shortfall_wt, earliest_possible } => {
+            let missing = missing(shortfall_wt);
+            let earliest = anchor.earliest(earliest_possible, inquiry)?;
             format!("Zu spät: {what}\n{missing}\n{earliest}")
         }
-    }
+    })
+}
+
+fn missing(n: u32) -> String {
+    let verb = if n == 1 { "fehlt" } else { "fehlen" };
+    let why = if n == 0 { ": zu spät nur um Tage, die keine Werktage sind" } else { "" };
+    format!("Es {verb} {}{why}.", werktage(n))
 }
 
 fn too_early(n: u32) -> String {
@@ -77,17 +79,17 @@ fn too_early(n: u32) -> String {
 
 impl Anchor {
     /// The date that the original names, which need not be acceptable, and the dates that are.
-    fn earliest(&self, named: Date, inquiry: &Inquiry) -> String {
+    fn earliest(&self, named: Date, inquiry: &Inquiry) -> Result<String, Error> {
         let Anchor { it, the_earliest, are_allowed, span, .. } = self;
         let named_as = format!("Als {} wird {}, genannt", self.earliest, der(named));
-        let accepted = inquiry.accepts(named);
+        let accepted = inquiry.accepts(named)?;
         let judged = format!("zulässig ist {it}{}", if accepted { "" } else { " nicht" });
-        match inquiry.allowed() {
-            Err(_) => format!("{named_as}; {judged}. {span} verlässt den Kalender."),
-            Ok(Span::From(first)) if accepted && first == named => {
+        Ok(match inquiry.allowed()? {
+            None => format!("{named_as}; {judged}. {span} verlässt den Kalender."),
+            Some(Span::From(first)) if accepted && first == named => {
                 format!("{named_as}; zulässig {are_allowed} ab diesem Tag.")
             }
-            Ok(allowed) => {
+            Some(allowed) => {
                 let first = matches!(allowed, Span::Between(first, _) if first == named);
                 let later = if accepted && !first {
                     format!(", {the_earliest} ist {it} nicht")
@@ -96,7 +98,7 @@ impl Anchor {
                 };
                 format!("{named_as}; {judged}{later}.\n{}", self.allowed(allowed))
             }
-        }
+        })
     }
 
     fn allowed(&self, span: Span) -> String {

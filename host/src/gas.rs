@@ -1,15 +1,13 @@
-//! The labels under which the original registers a due instant, word for word.
+use crate::Instant;
 
-use crate::GasProzess;
-
-/// Of [`contrl_due_at`](crate::contrl_due_at), whatever the Anlass.
-pub const CONTRL_FRIST_LABEL: &str = "contrl-delivery-window";
-
-/// Of [`aperak_strom_due_at`](crate::aperak_strom_due_at), also for a receipt on a Saturday.
-pub const APERAK_STROM_WINDOW_LABEL: &str = "aperak-strom-45min-window";
-
-/// Of [`aperak_strom_allgemein_due_at`](crate::aperak_strom_allgemein_due_at).
-pub const APERAK_STROM_ALLGEMEIN_LABEL: &str = "aperak-strom-naechster-wt-1200";
+/// Which process a Gas message belongs to.
+#[derive(Clone, Copy, Debug, PartialEq, Eq, Hash)]
+pub enum GasProzess {
+    /// A follow-up.
+    Folgeprozess,
+    /// An initial process.
+    Initialprozess,
+}
 
 impl GasProzess {
     /// The label that the original's `aperak_gas_due_at` returns beside the due instant.
@@ -20,7 +18,7 @@ impl GasProzess {
     /// let received = berlin_midnight(Date::new(2026, 4, 2))?;
     /// let label = aperak_gas_due_at(44_001, received)?.kind.label();
     /// assert_eq!(label, "aperak-gas-initialprozess-3-werktage");
-    /// # Ok::<(), mako_fristen_host::Refusal>(())
+    /// # Ok::<(), mako_fristen_host::Error>(())
     /// ```
     #[must_use]
     pub const fn label(self) -> &'static str {
@@ -29,4 +27,13 @@ impl GasProzess {
             GasProzess::Initialprozess => "aperak-gas-initialprozess-3-werktage",
         }
     }
+}
+
+/// When the APERAK on a Gas message is due, and as what.
+#[derive(Clone, Copy, Debug, PartialEq, Eq, Hash)]
+pub struct GasDue {
+    /// The process whose rule gave the instant.
+    pub kind: GasProzess,
+    /// The due instant.
+    pub due: Instant,
 }

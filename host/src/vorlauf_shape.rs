@@ -1,7 +1,9 @@
-//! Vorlauffristen with plain types: whether a message was sent in time for the date it carries, the
-//! anchor, and which anchors its day allows.
+//! A Vorlauffrist: whether a message was sent in time for the date it carries, the anchor, and which
+//! anchors its day allows.
 
-use crate::{Answer, Call, Date, Instant, Question, Refusal, Sparte};
+#[cfg(doc)]
+use crate::Refusal;
+use crate::{Call, Date, Error, Instant, Question, Span, Sparte, VorlaufVerdict};
 
 /// The shape of a Vorlauffrist, in Werktage or months relative to the anchor.
 #[derive(Clone, Copy, Debug, PartialEq, Eq, Hash)]
@@ -34,67 +36,17 @@ pub enum VorlaufShape {
     },
 }
 
-/// What a Vorlauffrist says of a transmission day and an anchor.
-#[derive(Clone, Copy, Debug, PartialEq, Eq, Hash)]
-#[must_use]
-pub enum VorlaufVerdict {
-    /// Sent in time.
-    Ok,
-    /// Sent too late for this anchor.
-    TooLate {
-        /// How many Werktage are missing: those after the last permitted transmission day up to
-        /// and including the transmission day; for
-        /// [`EarliestWerktageAfter`](VorlaufShape::EarliestWerktageAfter) those after the anchor up
-        /// to and including the named date. It is 0 if no Werktag lies there.
-        shortfall_wt: u32,
-        /// The original's date, which is not always an anchor that would be accepted:
-        /// [`VorlaufShape::span`] has those.
-        earliest_possible: Date,
-    },
-    /// Sent before the window opens.
-    TooEarly {
-        /// How many Werktage before.
-        excess_wt: u32,
-    },
-}
-
-/// The anchors that a transmission day allows.
-#[derive(Clone, Copy, Debug, PartialEq, Eq, Hash)]
-pub enum Span {
-    /// This day and every later one.
-    From(Date),
-    /// The first day to the last.
-    Between(Date, Date),
-    /// No day at all.
-    Empty,
-}
-
-impl Span {
-    /// Whether `anchor` lies in the span. A date that is none of the calendar is not told apart
-    /// here: the order of the three numbers decides.
-    ///
-    /// ```
-    /// use mako_fristen_host::{Date, Span};
-    ///
-    /// let span = Span::From(Date::new(2026, 1, 13));
-    /// assert!(span.contains(Date::new(2026, 1, 13)));
-    /// assert!(!span.contains(Date::new(2026, 1, 12)));
-    /// ```
-    #[must_use]
-    pub fn contains(self, anchor: Date) -> bool {
-        match self {
-            Span::From(first) => first <= anchor,
-            Span::Between(first, last) => (first..=last).contains(&anchor),
-            Span::Empty => false,
-        }
-    }
-}
-
 impl VorlaufShape {
     /// How many codes there are.
     pub const CODES: u8 = 8;
 
-    /// The number by which a call knows the shape.
+    /// The number by which a call knows the shape, whatever its counts.
+    ///
+    /// ```
+    /// use mako_fristen_host::VorlaufShape;
+    ///
+    /// assert_eq!(VorlaufShape::Korridor(5).code(), 4);
+    /// ```
     #[must_use]
     pub const fn code(self) -> u8 {
         match self {
@@ -110,6 +62,14 @@ impl VorlaufShape {
     }
 
     /// The two counts; one that the shape does not have is zero.
+    ///
+    /// ```
+    /// use mako_fristen_host::VorlaufShape;
+    ///
+    /// assert_eq!(VorlaufShape::Korridor(5).counts(), (5, 0));
+    /// let window = VorlaufShape::WindowWerktageBefore { earliest: 8, latest: 5 };
+    /// assert_eq!(window.counts(), (8, 5));
+    /// ```
     #[must_use]
     pub const fn counts(self) -> (u32, u32) {
         match self {
@@ -141,9 +101,9 @@ impl VorlaufShape {
     ///
     /// [`Refusal::NoDate`], for either date; [`Refusal::LeavesCalendar`], if a date that the
     /// original computes for it does so; the shapes with months compute theirs for an Ok as well.
-    pub fn check(self, uebertragungstag: Date, anchor: Date) -> Result<VorlaufVerdict, Refusal> {
+    pub fn check(self, uebertragungstag: Date, anchor: Date) -> Result<VorlaufVerdict, Error> {
         let question = Question::on(Call::VorlaufCheck, uebertragungstag).with_second(anchor);
-        Ok(verdict(&question.with_shape(self).answer()?))
+        question.with_shape(self).content()
     }
 
     /// The same with a transmission instant, whose day is the Berlin day in both Sparten, and an
@@ -152,7 +112,8 @@ impl VorlaufShape {
     ///
     /// ```
     /// use mako_fristen_host::{
-    ///     berlin_at, berlin_midnight, Clock, Date, Refusal, Sparte, VorlaufShape, VorlaufVerdict,
+    ///     berlin_at, berlin_midnight, Clock, Date, Error, Refusal, Sparte, VorlaufShape,
+    ///     VorlaufVerdict,
     /// };
     ///
     /// let friday_evening = berlin_at(Date::new(2026, 1, 9), Clock::new(23, 59, 59, 0))?;
@@ -162,8 +123,8 @@ impl VorlaufShape {
     ///     VorlaufShape::LatestWerktageBefore(1).check_at(friday_evening, anchor, Sparte::Gas)
     /// };
     /// assert_eq!(check(gas_day), Ok(VorlaufVerdict::Ok));
-    /// assert_eq!(check(berlin_midnight(monday)?), Err(Refusal::NoBeginning));
-    /// # Ok::<(), Refusal>(())
+    /// assert_eq!(check(berlin_midnight(monday)?), Err(Refusal::NoBeginning.into()));
+    /// # Ok::<(), Error>(())
     /// ```
     ///
     /// # Errors
@@ -175,9 +136,9 @@ impl VorlaufShape {
         uebertragen: Instant,
         anchor: Instant,
         sparte: Sparte,
-    ) -> Result<VorlaufVerdict, Refusal> {
+    ) -> Result<VorlaufVerdict, Error> {
         let question = Question::at(Call::VorlaufCheckAt, uebertragen).with_second_instant(anchor);
-        Ok(verdict(&question.with_second_code(sparte.code()).with_shape(self).answer()?))
+        question.with_second_code(sparte.code()).with_shape(self).content()
     }
 
     /// The anchors that the transmission day allows. From Saturday, 10 January 2026 on, one Werktag
@@ -196,56 +157,76 @@ impl VorlaufShape {
     /// # Errors
     ///
     /// [`Refusal::NoDate`]; [`Refusal::LeavesCalendar`], if an end of the span does so.
-    pub fn span(self, uebertragungstag: Date) -> Result<Span, Refusal> {
-        let question = Question::on(Call::VorlaufSpan, uebertragungstag).with_shape(self);
-        let answer = question.answer()?;
-        Ok(match answer.kind() {
-            0 => Span::From(answer.date()),
-            1 => Span::Between(answer.date(), answer.last_date()),
-            _ => Span::Empty,
-        })
+    pub fn span(self, uebertragungstag: Date) -> Result<Span, Error> {
+        Question::on(Call::VorlaufSpan, uebertragungstag).with_shape(self).content()
+    }
+
+    /// A German sentence, in which the anchor is the Termin. A count of 0 has its own words.
+    ///
+    /// ```
+    /// use mako_fristen_host::VorlaufShape;
+    ///
+    /// let of = |n| VorlaufShape::LatestWerktageBefore(n).beschreibung();
+    /// assert_eq!(of(5), "Spätester Übertragungstag ist der 5. Werktag vor dem Termin.");
+    /// assert_eq!(of(0), "Spätester Übertragungstag ist der Termin selbst.");
+    /// ```
+    #[must_use]
+    pub fn beschreibung(self) -> String {
+        match self {
+            VorlaufShape::LatestWerktageBefore(n) => {
+                format!("Spätester Übertragungstag ist {}.", werktag(n, "vor"))
+            }
+            VorlaufShape::WindowWerktageBefore { earliest, latest } => {
+                let (from, to) = (werktag(earliest, "vor"), werktag(latest, "vor"));
+                format!("Frühester Übertragungstag ist {from}, spätester {to}.")
+            }
+            VorlaufShape::LatestWerktageAfter(n) => {
+                format!("Spätester Übertragungstag ist {}.", werktag(n, "nach"))
+            }
+            VorlaufShape::EarliestWerktageAfter(n) => earliest(n),
+            VorlaufShape::Korridor(n) => korridor(n),
+            VorlaufShape::TagVorDemLetztenWerktagVor => {
+                "Spätester Übertragungstag ist der Tag vor dem letzten Werktag vor dem Termin."
+                    .to_owned()
+            }
+            VorlaufShape::LatestMonateBefore(n) => {
+                format!("Spätester Übertragungstag liegt {} vor dem Termin.", monate(n))
+            }
+            VorlaufShape::LatestMonateUndWerktageBefore { monate: m, werktage } => {
+                let days = if werktage == 1 { "Werktag" } else { "Werktage" };
+                let months = monate(m);
+                format!(
+                    "Spätester Übertragungstag liegt {months} und {werktage} {days} vor dem Termin."
+                )
+            }
+        }
     }
 }
 
-pub(crate) fn verdict(answer: &Answer) -> VorlaufVerdict {
-    match answer.kind() {
-        0 => VorlaufVerdict::Ok,
-        2 => VorlaufVerdict::TooEarly { excess_wt: answer.count() },
-        _ => VorlaufVerdict::TooLate {
-            shortfall_wt: answer.count(),
-            earliest_possible: answer.date(),
-        },
+fn earliest(n: u32) -> String {
+    match n {
+        0 => "Frühester Termin ist der Übertragungstag selbst.".to_owned(),
+        n => format!("Frühester Termin ist der {n}. Werktag nach dem Übertragungstag."),
     }
 }
 
-/// Whether the Ankündigung der Zuordnung, received at `uez`, came from 00:00 to 13:00 of the last
-/// Werktag before the Zuordnungsbeginn. None if that day has begun by then.
-///
-/// ```
-/// use mako_fristen_host::{
-///     berlin_at, berlin_midnight, eog_ankuendigung_fristgerecht, Clock, Date,
-/// };
-///
-/// let (friday, monday) = (Date::new(2026, 1, 9), Date::new(2026, 1, 12));
-/// let in_time = |uez| eog_ankuendigung_fristgerecht(uez, monday);
-/// assert_eq!(in_time(berlin_at(friday, Clock::new(13, 0, 0, 0))?), Ok(Some(true)));
-/// assert_eq!(in_time(berlin_at(friday, Clock::new(13, 0, 0, 1))?), Ok(Some(false)));
-/// assert_eq!(in_time(berlin_midnight(monday)?), Ok(None));
-/// # Ok::<(), mako_fristen_host::Refusal>(())
-/// ```
-///
-/// # Errors
-///
-/// [`Refusal::NoDate`], [`Refusal::InstantOutside`]; [`Refusal::LeavesCalendar`], if there is no
-/// such Werktag and the Zuordnungsbeginn is yet to come.
-pub fn eog_ankuendigung_fristgerecht(
-    uez: Instant,
-    zuordnungsbeginn: Date,
-) -> Result<Option<bool>, Refusal> {
-    let question = Question::at(Call::EogAnkuendigungFristgerecht, uez);
-    Ok(match (Question { date: zuordnungsbeginn, ..question }).answer()?.kind() {
-        0 => Some(false),
-        1 => Some(true),
-        _ => None,
-    })
+fn korridor(n: u32) -> String {
+    match n {
+        0 => "Der Übertragungstag muss der Termin selbst sein.".to_owned(),
+        n => format!(
+            "Der Übertragungstag muss vom {n}. Werktag vor bis zum {n}. Werktag nach dem Termin \
+             liegen."
+        ),
+    }
+}
+
+fn werktag(n: u32, side: &str) -> String {
+    match n {
+        0 => "der Termin selbst".to_owned(),
+        n => format!("der {n}. Werktag {side} dem Termin"),
+    }
+}
+
+fn monate(n: u32) -> String {
+    format!("{n} {}", if n == 1 { "Monat" } else { "Monate" })
 }
