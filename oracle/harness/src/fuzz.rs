@@ -9,9 +9,11 @@ pub use area::Place;
 pub use case::Case;
 pub use system::{on_valgrind, tell_of_crashes};
 
+use crate::original::caught;
 use area::{Area, Lent};
 use case::Round;
 use mako_fristen_host::{ffi, Answer, Call, Question, Refusal};
+use std::fmt;
 use std::time::{Duration, Instant};
 use system::Mark;
 
@@ -91,9 +93,20 @@ impl Fuzzer {
         Fuzzer { ask, answers, reasons, found }
     }
 
+    /// Puts the case of a place.
+    pub fn put_at(&mut self, seed: u64, place: u64) {
+        match caught(|| Case::at(seed, place)) {
+            Ok(case) => self.put(&case, seed, place),
+            Err(panic) => self.wrong("a question", &panic.to_string(), seed, place),
+        }
+    }
+
     /// Puts the case at every place, with an answer of 32 bytes and one of another length.
     pub fn put(&mut self, case: &Case, seed: u64, place: u64) {
         system::at_place(place);
+        if let Some(Err(panic)) = &case.expected {
+            self.wrong(case, &panic.to_string(), seed, place);
+        }
         let errors = system::valgrind_errors();
         let mut first = None;
         for round in &case.rounds {
@@ -109,7 +122,7 @@ impl Fuzzer {
         }
     }
 
-    fn wrong(&mut self, case: &Case, fault: &str, seed: u64, place: u64) {
+    fn wrong(&mut self, case: impl fmt::Display, fault: &str, seed: u64, place: u64) {
         self.found.wrong += 1;
         if self.found.shown.len() < SHOWN {
             let again = format!("oracle/fuzz --seed {seed} --place {place}");
@@ -124,6 +137,7 @@ impl Fuzzer {
         round: &Round,
         first: Option<Answer>,
     ) -> (Option<String>, Option<Answer>) {
+        let expected = case.expected.as_ref().and_then(|expected| expected.as_ref().ok()).copied();
         let mut answer = self.answers.lend(round.place, &round.content, round.guard);
         let mut reason = self.reasons.lend(round.reason_place, &case.reason, round.guard);
         let whole = round.content.len() == Answer::LEN;
@@ -138,8 +152,8 @@ impl Fuzzer {
         let (fault, given) = match <[u8; Answer::LEN]>::try_from(&*answer.slice()) {
             Ok(bytes) if whole => {
                 let given = Answer::from_bytes(bytes);
-                self.found.told += u64::from(case.expected.is_some());
-                (answer_fault(number, given, case.expected.or(first)), Some(given))
+                self.found.told += u64::from(expected.is_some());
+                (answer_fault(number, given, expected.or(first)), Some(given))
             }
             _ => (length_fault(number, answer.slice() == round.content), None),
         };

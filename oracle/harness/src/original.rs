@@ -1,9 +1,11 @@
 //! What the original answers to a question, in document 01's terms: the one place where an expected
 //! answer is made.
 
+mod panics;
 mod span;
 mod verdict;
 
+pub use panics::{caught, Panic};
 pub use span::expected_of_the_verdicts;
 
 use crate::{days, instants};
@@ -11,25 +13,39 @@ use mako_fristen::antwort::FristShape;
 use mako_fristen::HolidayCalendar::BdewMaKo;
 use mako_fristen::{ContrlAnlass, Sparte};
 use mako_fristen_host::{Answer, Call, Parameter, Question, Refusal};
-use std::any::Any;
-use std::cell::Cell;
-use std::panic::{self, UnwindSafe};
 use time::{Date, OffsetDateTime};
 
 /// The last year of the original's date type, on either side of 0.
 const LAST_YEAR_OF_TYPE: i64 = 9999;
 
-/// The answer that document 01 makes of the original's.
-#[must_use]
-pub fn expected(question: &Question) -> Answer {
-    answered(question, capped).unwrap_or_else(Answer::refused)
+/// The answer that document 01 makes of the original's; of a panic that is none of the known ones
+/// it makes none.
+pub type Expected = Result<Answer, Panic>;
+
+/// # Errors
+///
+/// A panic that stands for no refusal.
+pub fn expected(question: &Question) -> Expected {
+    told(|| answered(question, capped))
 }
 
 /// The same with every count put to the original as it is, which then may walk until it
 /// panics.
-#[must_use]
-pub fn expected_uncapped(question: &Question) -> Answer {
-    answered(question, |n, _| n).unwrap_or_else(Answer::refused)
+///
+/// # Errors
+///
+/// A panic that stands for no refusal.
+pub fn expected_uncapped(question: &Question) -> Expected {
+    told(|| answered(question, |n, _| n))
+}
+
+fn told(original: impl FnOnce() -> Result<Answer, Refusal>) -> Expected {
+    known(original).map(|answer| answer.unwrap_or_else(Answer::refused))
+}
+
+/// What the original gives, and for a known panic the refusal that it stands for.
+fn known<T>(original: impl FnOnce() -> Result<T, Refusal>) -> Result<Result<T, Refusal>, Panic> {
+    caught(original).or_else(|panic| panic.refusal().map(Err).ok_or(panic))
 }
 
 /// What is put to the original for a count of Werktage, with so many days left.
@@ -109,17 +125,17 @@ fn host_date(date: Date) -> Result<mako_fristen_host::Date, Refusal> {
 }
 
 fn next_werktag(date: Date) -> Result<Date, Refusal> {
-    step(|| mako_fristen::next_werktag(date, BdewMaKo))
+    inside(mako_fristen::next_werktag(date, BdewMaKo))
 }
 
 fn werktage_on(date: Date, n: u32, cap: Cap) -> Result<Date, Refusal> {
     let n = cap(n, days::left(date));
-    step(|| mako_fristen::add_werktage(date, n, BdewMaKo))
+    inside(mako_fristen::add_werktage(date, n, BdewMaKo))
 }
 
 fn werktage_back(date: Date, n: u32, cap: Cap) -> Result<Date, Refusal> {
     let n = cap(n, days::index(date));
-    step(|| mako_fristen::sub_werktage(date, n, BdewMaKo))
+    inside(mako_fristen::sub_werktage(date, n, BdewMaKo))
 }
 
 fn months_on(date: Date, n: u32) -> Result<Date, Refusal> {
@@ -130,25 +146,19 @@ fn months_back(date: Date, n: u32) -> Result<Date, Refusal> {
     shift(date, -i64::from(n), || mako_fristen::subtract_months(date, n))
 }
 
-/// The date of a step. Where the original panics, it has walked past the year 9999 or below the
-/// year 0, so out of the calendar.
-fn step(original: impl FnOnce() -> Date + UnwindSafe) -> Result<Date, Refusal> {
-    let date = quietly(original)?;
+/// The date, if the calendar has it.
+fn inside(date: Date) -> Result<Date, Refusal> {
     host_date(date).map(|_| date)
 }
 
 /// A shift by months. Where the year passes its date type's range, the original returns the date
 /// unshifted, which looks like an answer; document 01 says 8. So that year is found here.
-fn shift(
-    date: Date,
-    by: i64,
-    original: impl FnOnce() -> Date + UnwindSafe,
-) -> Result<Date, Refusal> {
+fn shift(date: Date, by: i64, original: impl FnOnce() -> Date) -> Result<Date, Refusal> {
     let months = i64::from(date.year()) * 12 + i64::from(u8::from(date.month())) - 1 + by;
     if months.div_euclid(12).abs() > LAST_YEAR_OF_TYPE {
         return Err(Refusal::LeavesCalendar);
     }
-    step(original)
+    inside(original())
 }
 
 fn clock_on_a_date(question: &Question) -> Result<Answer, Refusal> {
@@ -156,18 +166,18 @@ fn clock_on_a_date(question: &Question) -> Result<Answer, Refusal> {
     match question.call {
         Call::BerlinAt => {
             let at = instants::given_clock(question.clock)?;
-            due(|| mako_fristen::berlin_at(date, at))
+            due(mako_fristen::berlin_at(date, at))
         }
-        Call::BerlinMidnight => due(|| mako_fristen::berlin_midnight(date)),
-        Call::EndOfDayBerlin => due(|| mako_fristen::end_of_day_berlin(date)),
-        _ => due(|| mako_fristen::tagesbeginn_utc(date, sparte(question.code))),
+        Call::BerlinMidnight => due(mako_fristen::berlin_midnight(date)),
+        Call::EndOfDayBerlin => due(mako_fristen::end_of_day_berlin(date)),
+        _ => due(mako_fristen::tagesbeginn_utc(date, sparte(question.code))),
     }
 }
 
 fn day_of_an_instant(question: &Question) -> Result<Answer, Refusal> {
     let instant = instants::given(question.instant)?;
     dated(if question.call == Call::BerlinDate {
-        step(|| mako_fristen::berlin_date(instant))
+        inside(mako_fristen::berlin_date(instant))
     } else {
         day_begun(instant, question.code)
     })
@@ -176,29 +186,27 @@ fn day_of_an_instant(question: &Question) -> Result<Answer, Refusal> {
 /// The day that begins at the instant in the Sparte of the code.
 fn day_begun(instant: OffsetDateTime, code: u8) -> Result<Date, Refusal> {
     let day = mako_fristen::tag_des_beginns(instant, sparte(code));
-    let day = day.map_err(|_| Refusal::NoBeginning)?;
-    step(|| day)
+    inside(day.map_err(|_| Refusal::NoBeginning)?)
 }
 
 fn message_due(question: &Question) -> Result<Answer, Refusal> {
     let received = instants::given(question.instant)?;
     match question.call {
-        Call::ContrlDueAt => due(|| mako_fristen::contrl_due_at(received, anlass(question.code))),
-        Call::AperakStromDueAt => due(|| mako_fristen::aperak_strom_due_at(received)),
+        Call::ContrlDueAt => due(mako_fristen::contrl_due_at(received, anlass(question.code))),
+        Call::AperakStromDueAt => due(mako_fristen::aperak_strom_due_at(received)),
         Call::AperakStromAllgemeinDueAt => {
-            due(|| mako_fristen::aperak_strom_allgemein_due_at(received))
+            due(mako_fristen::aperak_strom_allgemein_due_at(received))
         }
         Call::AperakGasFolgeprozessDueAt => {
-            due(|| mako_fristen::aperak_gas_folgeprozess_due_at(received))
+            due(mako_fristen::aperak_gas_folgeprozess_due_at(received))
         }
         Call::AperakGasInitialprozessDueAt => {
-            Ok(due(|| mako_fristen::aperak_gas_initialprozess_due_at(received))?.with_kind(1))
+            Ok(due(mako_fristen::aperak_gas_initialprozess_due_at(received))?.with_kind(1))
         }
         Call::AperakGasDueAt => {
-            let (label, _) = mako_fristen::aperak_gas_due_at(question.n, received);
+            let (label, at) = mako_fristen::aperak_gas_due_at(question.n, received);
             let initial = label == mako_fristen::APERAK_GAS_INITIALPROZESS_LABEL;
-            let answer = due(|| mako_fristen::aperak_gas_due_at(question.n, received).1)?;
-            Ok(answer.with_kind(initial.into()))
+            Ok(due(at)?.with_kind(initial.into()))
         }
         other => unreachable!("{} is no message", other.name()),
     }
@@ -208,11 +216,11 @@ fn after_an_instant(question: &Question, cap: Cap) -> Result<Answer, Refusal> {
     let (from, n) = (instants::given(question.instant)?, question.n);
     let werktage = cap(n, days::left(mako_fristen::berlin_date(from)));
     match question.call {
-        Call::AddHours => due(|| mako_fristen::add_hours(from, n)),
+        Call::AddHours => due(mako_fristen::add_hours(from, n)),
         Call::DeadlineAtWerktage => {
-            due(|| mako_fristen::deadline_at_werktage(from, werktage, BdewMaKo))
+            due(mako_fristen::deadline_at_werktage(from, werktage, BdewMaKo))
         }
-        _ => due(|| mako_fristen::end_of_werktag_after(from, werktage, BdewMaKo)),
+        _ => due(mako_fristen::end_of_werktag_after(from, werktage, BdewMaKo)),
     }
 }
 
@@ -220,10 +228,10 @@ fn clock_on_a_werktag(question: &Question, cap: Cap) -> Result<Answer, Refusal> 
     let received = instants::given(question.instant)?;
     let at = instants::given_clock(question.clock)?;
     if question.call == Call::NextWerktagAt {
-        return due(|| mako_fristen::next_werktag_at(received, at, BdewMaKo));
+        return due(mako_fristen::next_werktag_at(received, at, BdewMaKo));
     }
     let n = cap(question.n, days::left(mako_fristen::berlin_date(received)));
-    due(|| mako_fristen::nth_werktag_at(received, n, at, BdewMaKo))
+    due(mako_fristen::nth_werktag_at(received, n, at, BdewMaKo))
 }
 
 /// A clock or count that the shape does not have is not looked at.
@@ -237,19 +245,13 @@ fn answer_due(question: &Question, cap: Cap) -> Result<Answer, Refusal> {
         2 => FristShape::SameDayAt(at?),
         _ => FristShape::SameDay,
     };
-    due(|| shape.due_at(received, BdewMaKo))
+    due(shape.due_at(received, BdewMaKo))
 }
 
-/// An instant whose Berlin day must be one of the calendar. The original panics on an absent local
-/// time, and where an instant passes the year 9999, so the calendar.
-fn due(original: impl FnOnce() -> OffsetDateTime + UnwindSafe) -> Result<Answer, Refusal> {
-    let with_day = || {
-        let due = original();
-        (due, mako_fristen::berlin_date(due))
-    };
-    let (due, day) = quietly(with_day)?;
-    days::to_host(day).ok_or(Refusal::LeavesCalendar)?;
-    Ok(Answer::default().with_instant(instants::to_host(due)))
+/// An instant whose Berlin day must be one of the calendar.
+fn due(at: OffsetDateTime) -> Result<Answer, Refusal> {
+    inside(mako_fristen::berlin_date(at))?;
+    Ok(Answer::default().with_instant(instants::to_host(at)))
 }
 
 fn anlass(code: u8) -> ContrlAnlass {
@@ -259,34 +261,4 @@ fn anlass(code: u8) -> ContrlAnlass {
 
 fn sparte(code: u8) -> Sparte {
     [Sparte::Strom, Sparte::Gas][usize::from(code)]
-}
-
-thread_local! {
-    static QUIET: Cell<bool> = const { Cell::new(false) };
-}
-
-/// Lets the original's panics pass without a word, and no others. Once, before any question.
-pub fn silence() {
-    let loud = panic::take_hook();
-    panic::set_hook(Box::new(move |info| {
-        if !QUIET.get() {
-            loud(info);
-        }
-    }));
-}
-
-/// What the original gives, or the refusal that its panic stands for.
-fn quietly<T>(original: impl FnOnce() -> T + UnwindSafe) -> Result<T, Refusal> {
-    QUIET.set(true);
-    let result = panic::catch_unwind(original);
-    QUIET.set(false);
-    result.map_err(|panic| refusal_of(&*panic))
-}
-
-/// `berlin_at` says what it could not resolve; every other panic is of a date past its type.
-fn refusal_of(panic: &(dyn Any + Send)) -> Refusal {
-    match panic.downcast_ref::<String>() {
-        Some(text) if text.contains("could not resolve") => Refusal::LocalTimeAbsent,
-        _ => Refusal::LeavesCalendar,
-    }
 }

@@ -10,7 +10,7 @@ mod uhr;
 mod vorlauf;
 pub mod zone;
 
-use crate::original;
+use crate::original::{self, Expected};
 use crate::random::Random;
 use mako_fristen_host::{Answer, Call, Question};
 
@@ -31,7 +31,7 @@ pub struct Row {
     pub len: u64,
     pub probe: Box<dyn Fn(u64) -> Probe + Sync>,
     /// What is expected of a question with an answer of 32 bytes.
-    pub expected: fn(&Question) -> Answer,
+    pub expected: fn(&Question) -> Expected,
 }
 
 impl Row {
@@ -94,8 +94,16 @@ fn far(few: u64, random: u64) -> u64 {
 
 #[cfg(test)]
 mod tests {
-    use super::long;
+    use super::{long, rows, Row};
     use mako_fristen_host::Call;
+
+    #[test]
+    fn every_call_has_rows_and_no_row_is_empty() {
+        let rows = rows(1, 2_000_000);
+        assert!(Call::ALL.iter().all(|&call| rows.iter().any(|row| row.call == call)));
+        let empty: Vec<&Row> = rows.iter().filter(|row| row.len == 0).collect();
+        assert!(empty.is_empty(), "{:?}", empty.iter().map(|row| row.what).collect::<Vec<_>>());
+    }
 
     #[test]
     fn a_long_run_has_millions_of_every_call() {

@@ -2,6 +2,7 @@
 //! the years after that. The original and its zone have no part in this.
 
 use crate::days;
+use crate::original::Expected;
 use mako_fristen_host::{Answer, Call, Instant, Question, Refusal};
 use std::ffi::{c_char, c_int, c_long};
 use std::path::Path;
@@ -27,14 +28,17 @@ pub fn open() -> Option<String> {
 }
 
 /// The answer that the database gives to `mf_berlin_date` or `mf_berlin_at`.
-#[must_use]
-pub fn expected(question: &Question) -> Answer {
+///
+/// # Errors
+///
+/// None: the type is that of the original's answers.
+pub fn expected(question: &Question) -> Expected {
     let answer = match question.call {
         Call::BerlinDate => day(question.instant.seconds),
         Call::BerlinAt => earliest(question),
         other => unreachable!("{} is not put to the database", other.name()),
     };
-    answer.unwrap_or_else(Answer::refused)
+    Ok(answer.unwrap_or_else(Answer::refused))
 }
 
 fn day(seconds: i64) -> Result<Answer, Refusal> {

@@ -1,10 +1,9 @@
 //! The comparison at scale: every row of `compare`, with more random questions, and for every call
-//! arguments of every kind. Prints a table of the calls; ends with 1 on any difference, and says
-//! how to repeat it. Options: `--seed N`, `--millions N` (random questions), and to put one question
-//! again, `--row N --place N`.
+//! arguments of every kind. Prints a table of the calls and, for a difference, how to repeat it;
+//! ends with 1 on any, and if a row was not compared. Options: `--seed N`, `--millions N` (random
+//! questions), and to put one question again, `--row N --place N`.
 
 use harness::options::{self, DEFAULT_SEED};
-use harness::original;
 use harness::progress::{span, Progress};
 use harness::rows::{self, Row};
 use harness::run::{self, Difference, Outcome};
@@ -15,7 +14,6 @@ use std::time::Instant;
 const DEFAULT_MILLIONS: f64 = 250.0;
 
 fn main() -> ExitCode {
-    original::silence();
     options::only(&["--seed", "--millions", "--row", "--place"]);
     let (seed, millions) =
         (options::option("--seed", DEFAULT_SEED), options::option("--millions", DEFAULT_MILLIONS));
@@ -37,7 +35,8 @@ fn main() -> ExitCode {
         }
     }
     println!("{} rows in {}", rows.len(), span(started.elapsed()));
-    ExitCode::from(u8::from(differences != 0))
+    let whole = rows.iter().zip(&outcomes).all(|(row, outcome)| outcome.is_whole(row));
+    ExitCode::from(u8::from(differences != 0 || !whole))
 }
 
 /// Prints comparisons and differences of every call, and gives the sum of the latter.
@@ -46,7 +45,7 @@ fn table(rows: &[Row], outcomes: &[Outcome]) -> u64 {
     let (mut comparisons, mut differences) = (0, 0);
     for call in Call::ALL {
         let of_call = || rows.iter().zip(outcomes).filter(|(row, _)| row.call == call);
-        let compared: u64 = of_call().map(|(row, _)| row.len).sum();
+        let compared: u64 = of_call().map(|(_, outcome)| outcome.compared).sum();
         let differing: u64 = of_call().map(|(_, outcome)| outcome.differences).sum();
         println!("{:36} {compared:12} {differing:12}", call.name());
         comparisons += compared;
@@ -60,15 +59,11 @@ fn put_again(rows: &[Row], row: usize, place: u64) -> ExitCode {
     let Some(row) = rows.get(row).filter(|row| place < row.len) else {
         options::stop("there is no such row or place");
     };
-    let probe = (row.probe)(place);
-    match run::difference(row, &probe) {
-        Some(text) => {
-            println!("{text}");
-            ExitCode::FAILURE
-        }
-        None => {
-            println!("{} with {} bytes: no difference", probe.question, probe.len);
-            ExitCode::SUCCESS
-        }
+    if let Some(text) = run::difference_at(row, place) {
+        println!("{text}");
+        return ExitCode::FAILURE;
     }
+    let probe = (row.probe)(place);
+    println!("{} with {} bytes: no difference", probe.question, probe.len);
+    ExitCode::SUCCESS
 }

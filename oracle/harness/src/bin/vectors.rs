@@ -21,11 +21,16 @@ fn main() -> ExitCode {
     options::only(&["--seed", "--out"]);
     let seed = options::option("--seed", DEFAULT_SEED);
     let path = options::option("--out", String::from("vectors.txt"));
-    original::silence();
     let rows = rows::rows(seed, RANDOM);
     let questions: Vec<Question> =
         Call::ALL.into_iter().flat_map(|call| sample(call, &rows, seed)).collect();
-    let text: String = questions.iter().map(line).collect();
+    let text = match questions.iter().map(line).collect::<Result<String, String>>() {
+        Ok(text) => text,
+        Err(told) => {
+            eprintln!("{told}");
+            return ExitCode::FAILURE;
+        }
+    };
     if let Err(error) = fs::write(&path, text) {
         eprintln!("{path}: {error}");
         return ExitCode::FAILURE;
@@ -56,6 +61,7 @@ fn sample(call: Call, rows: &[Row], seed: u64) -> Vec<Question> {
     questions
 }
 
-fn line(question: &Question) -> String {
-    format!("{} {:x}\n", hex(&question.to_bytes()), original::expected(question))
+fn line(question: &Question) -> Result<String, String> {
+    let answer = original::expected(question).map_err(|panic| format!("{question}: {panic}"))?;
+    Ok(format!("{} {answer:x}\n", hex(&question.to_bytes())))
 }

@@ -2,7 +2,7 @@
 
 use super::area::{Place, LONGEST};
 use crate::days::{self, DAYS};
-use crate::original;
+use crate::original::{self, Expected};
 use crate::random::Random;
 use crate::rows::any;
 use mako_fristen_host::{Answer, Call, Date, Instant, Parameter, Question, Reason};
@@ -18,7 +18,7 @@ pub struct Case {
     pub question: Question,
     pub reason: Vec<u8>,
     /// The original's answer, unless it would take too long.
-    pub expected: Option<Answer>,
+    pub expected: Option<Expected>,
     pub rounds: Vec<Round>,
 }
 

@@ -6,6 +6,7 @@ use super::{host_calls, tell_of_crashes, Ask, Case, Found, Fuzzer};
 use crate::original;
 use mako_fristen_host::{Answer, Call, Date, Question, Reason};
 use std::hint::black_box;
+use std::io::ErrorKind;
 use std::os::unix::process::ExitStatusExt;
 use std::process::{Command, Output};
 use std::time::Duration;
@@ -54,10 +55,20 @@ fn the_host_calls_are_right() {
 
 #[test]
 fn a_wrong_expectation_is_found() {
-    let case = Case { expected: Some(Answer::default()), ..case(32) };
+    let case = Case { expected: Some(Ok(Answer::default())), ..case(32) };
     let faults = faults(host_calls, &case);
     assert_eq!(faults.len(), 4);
     assert!(faults[0].starts_with("expected 0000"), "{faults:?}");
+}
+
+#[test]
+fn an_unknown_panic_of_the_original_is_wrong() {
+    let panic = original::caught(|| -> u8 { panic!("made up") }).expect_err("a panic");
+    let mut fuzzer = Fuzzer::new(host_calls);
+    fuzzer.put(&Case { expected: Some(Err(panic)), ..case(32) }, 1, 2);
+    let Found { wrong, told, shown, .. } = &fuzzer.found;
+    assert_eq!((*wrong, *told), (1, 0), "{shown:?}");
+    assert!(shown[0].contains("mf_abmeldung_check") && shown[0].contains("made up"), "{shown:?}");
 }
 
 #[test]
@@ -183,7 +194,7 @@ fn cases_are_of_every_call_place_and_length() {
     assert!(rounds().any(|round| round.content.len() == 4096));
     assert!((0..64).all(|by| rounds().any(|round| round.place == Place::Among(by))));
     assert!(cases.iter().any(|case| case.reason.len() > 200));
-    let told = cases.iter().filter(|case| case.expected.is_some()).count();
+    let told = cases.iter().filter(|case| matches!(case.expected, Some(Ok(_)))).count();
     assert!(told * 10 > cases.len() * 9, "{told}");
 }
 
@@ -200,7 +211,10 @@ fn run_erring(name: &str, under: &[&str]) -> Option<Output> {
             command
         }
     };
-    command.args(arguments).output().ok()
+    match command.args(arguments).output() {
+        Err(error) if error.kind() == ErrorKind::NotFound => None,
+        output => Some(output.expect("the program runs")),
+    }
 }
 
 #[test]

@@ -3,7 +3,8 @@
 
 use super::verdict::{shape, verdict};
 use super::{
-    capped, expected, host_date, months_on, next_werktag, werktage_back, werktage_on, Cap,
+    capped, expected, host_date, known, months_on, next_werktag, werktage_back, werktage_on, Cap,
+    Expected, Panic,
 };
 use crate::days::{self, DAYS};
 use mako_fristen::vorlauf::VorlaufShape;
@@ -26,26 +27,34 @@ pub(super) fn of_shape(question: &Question, cap: Cap) -> Result<Answer, Refusal>
 
 /// The span by its words, if the verdicts bear it out: of the anchors around, every one whose
 /// verdict is not refused is Ok exactly if it lies in the span. Else a kind that no call has.
-#[must_use]
-pub fn expected_of_the_verdicts(question: &Question) -> Answer {
+///
+/// # Errors
+///
+/// A panic that stands for no refusal.
+pub fn expected_of_the_verdicts(question: &Question) -> Expected {
     const CONTRADICTED: u8 = u8::MAX;
     let Ok(day) = days::given(question.date) else { return expected(question) };
-    let Ok((first, last)) = ends(shape(question), day, capped) else { return expected(question) };
+    let Ok((first, last)) = known(|| ends(shape(question), day, capped))? else {
+        return expected(question);
+    };
     let end = last.unwrap_or(first);
     let from = days::index(first.min(end)).saturating_sub(AROUND);
     let to = (days::index(first.max(end)) + AROUND).min(DAYS - 1);
-    let agrees = |anchor: Date| match verdict(shape(question), day, anchor, capped) {
-        Ok(answer) => {
-            let inside = first <= anchor && last.is_none_or(|last| anchor <= last);
-            (answer.kind() == 0) == inside
-        }
-        Err(_) => true,
+    let agrees = |anchor: Date| -> Result<bool, Panic> {
+        Ok(match known(|| verdict(shape(question), day, anchor, capped))? {
+            Ok(answer) => {
+                let inside = first <= anchor && last.is_none_or(|last| anchor <= last);
+                (answer.kind() == 0) == inside
+            }
+            Err(_) => true,
+        })
     };
-    if (from..=to).map(days::day).all(agrees) {
-        expected(question)
-    } else {
-        Answer::default().with_kind(CONTRADICTED)
+    for anchor in (from..=to).map(days::day) {
+        if !agrees(anchor)? {
+            return Ok(Answer::default().with_kind(CONTRADICTED));
+        }
     }
+    expected(question)
 }
 
 /// The first day, and the last where there is one; in an empty span the first is the later.

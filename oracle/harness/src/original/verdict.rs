@@ -1,8 +1,7 @@
 //! Verdicts: of a shape, of a deregistration's reason, of the 13:00 announcement.
 
 use super::{
-    day_begun, host_date, months_back, months_on, next_werktag, quietly, werktage_back,
-    werktage_on, Cap,
+    day_begun, host_date, months_back, months_on, next_werktag, werktage_back, werktage_on, Cap,
 };
 use crate::{days, instants};
 use mako_fristen::abmeldung::AbmeldungVorlauf;
@@ -41,7 +40,7 @@ pub(super) fn of_reason(question: &Question, cap: Cap) -> Result<Answer, Refusal
     if let Some(shape) = vorlauf.shape() {
         stays(shape, day, anchor, cap)?;
     }
-    match quietly(|| vorlauf.check(day, anchor, BdewMaKo))? {
+    match vorlauf.check(day, anchor, BdewMaKo) {
         Some(verdict) => answer(verdict),
         None => Ok(Answer::default().with_kind(3)),
     }
@@ -53,7 +52,7 @@ pub(super) fn of_announcement(question: &Question, cap: Cap) -> Result<Answer, R
     if at < mako_fristen::berlin_midnight(beginning) {
         werktage_back(beginning, 1, cap)?;
     }
-    let kept = quietly(|| vorlauf::eog_ankuendigung_fristgerecht(at, beginning, BdewMaKo))?;
+    let kept = vorlauf::eog_ankuendigung_fristgerecht(at, beginning, BdewMaKo);
     Ok(Answer::default().with_kind(kept.map_or(2, u8::from)))
 }
 
@@ -79,7 +78,7 @@ pub(super) fn verdict(
     cap: Cap,
 ) -> Result<Answer, Refusal> {
     stays(shape, day, anchor, cap)?;
-    answer(quietly(|| shape.check(day, anchor, BdewMaKo))?)
+    answer(shape.check(day, anchor, BdewMaKo))
 }
 
 fn answer(verdict: VorlaufVerdict) -> Result<Answer, Refusal> {

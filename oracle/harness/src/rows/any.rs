@@ -309,12 +309,12 @@ mod tests {
     /// Every refusal that a parameter can lead to is met, and a good part of the questions is answered.
     #[test]
     fn answers_and_refusals_of_every_call_are_met() {
-        original::silence();
         for row in rows(1, 100 * LOOK) {
             let probes = (0..LOOK).map(|place| (row.probe)(place));
             let whole = probes.filter(|probe| probe.len == Answer::LEN);
+            let expected = whole.map(|probe| original::expected(&probe.question));
             let numbers: Vec<u8> =
-                whole.map(|probe| original::expected(&probe.question).number()).collect();
+                expected.map(|answer| answer.expect("no unknown panic").number()).collect();
             let answered = numbers.iter().filter(|&&number| number == 0).count();
             assert!(answered * 3 > numbers.len(), "{}: {answered}", row.call.name());
             let met: HashSet<u8> = numbers.into_iter().collect();

@@ -152,6 +152,7 @@ fn with_anchor(question: Question, index: u32) -> Question {
 /// eight, and all where the span has none, by the transmission day.
 pub(super) fn any_anchor(question: &Question, random: &mut Random) -> u32 {
     let span = original::expected(&Question { call: Call::VorlaufSpan, ..*question });
+    let span = span.unwrap_or_else(|panic| panic!("{panic}"));
     let end = if span.kind() == 1 && random.below(2) == 0 { span.last_date() } else { span.date() };
     let (centre, around) = match days::given(end) {
         Ok(end) if random.below(8) != 0 => (end, 3),
