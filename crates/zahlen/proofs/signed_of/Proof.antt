@@ -1,9 +1,9 @@
--- `antwortsatz::signed_of` meets its contract: below 2^63 the number itself, else one below zero, through its distance from -1.
+-- `zahlen::signed_of` meets its contract: below 2^63 the number itself, else one below zero, through its distance from -1.
 -- Assumes nothing.
-use Rattle.antwortsatz.proofs.Bits.{signed-rules}
+use Rattle.zahlen.proofs.Bits.{signed-rules}
 use borrow.Author.Needs.{needs}
-use Rattle.antwortsatz.proofs.signed_of.Statement.{statement}
-use Rattle.antwortsatz.proofs.signed_of.Tie as tie
+use Rattle.zahlen.proofs.signed_of.Statement.{statement}
+use Rattle.zahlen.proofs.signed_of.Tie as tie
 
 cast-result : tie.Need-cast-result
 cast-result c = search needs

@@ -1,9 +1,9 @@
--- `antwortsatz::bits_of` meets its contract. A negative number is -(y + 1), and 2^64 - 1 - y are its bits; any other is its own bits.
+-- `zahlen::bits_of` meets its contract. A negative number is -(y + 1), and 2^64 - 1 - y are its bits; any other is its own bits.
 -- Assumes nothing.
 use borrow.Author.Needs.{needs}
-use Rattle.antwortsatz.proofs.Bits.{bits-rules}
-use Rattle.antwortsatz.proofs.bits_of.Statement.{statement}
-use Rattle.antwortsatz.proofs.bits_of.Tie as tie
+use Rattle.zahlen.proofs.Bits.{bits-rules}
+use Rattle.zahlen.proofs.bits_of.Statement.{statement}
+use Rattle.zahlen.proofs.bits_of.Tie as tie
 
 add-y : tie.Need-add-y
 add-y c = search (needs, bits-rules)

@@ -1,4 +1,4 @@
--- The bits of a signed number, as `bits_of` computes them. A signed local holds bits, so a goal shows `toZ w64 (ofZ w64 z)` around
+-- What the proofs of `bits_of` and `signed_of` cite: the bits of a signed number, as they compute them. A signed local holds bits, so a goal shows `toZ w64 (ofZ w64 z)` around
 -- each value z: `back z`. `toZ-ofZ` takes that off where z fits, and a case split on `pos n` and `negsuc n`, which is -(n + 1),
 -- leaves facts about natural numbers.
 -- Assumes nothing.
@@ -6,7 +6,6 @@ use Prim.Native.Nat.{ℕ, zero, suc, _-_, _^_, _≤_, _<_}
 use mathlib.Core.Bool.{true, false}
 use mathlib.Core.Path.{_≡_, refl, sym, _∙_, subst}
 use native.Mathlib.Omega.{arith}
-use native.Mathlib.Decide.{decLt}
 use lib.Dec.{T}
 use lib.IntN.{ℤ, pos, negsuc, negℤ, natAbs, _+ℤ_, _-ℤ_, +ℤ-one, +ℤ-idl, negℤ-negℤ}
 use lib.Signed.{ltZ, nonNeg}
@@ -15,8 +14,7 @@ use mir.Syntax.{w64}
 use mir.Val.{Fits, SFits, toZ}
 use mir.Facts.{toZ-ofZ}
 use Rattle.datum.proofs.Signed.{back, back-pos, neg-fits, below}
-use Rattle.antwortsatz.specs.declared.Answer.{Answer}
-use Rattle.antwortsatz.specs.Bytes.{bitsOf, signedOf, laid, bytesOf}
+use Rattle.zahlen.specs.TwosComplement.{bitsIn, signedIn, bitsOf, signedOf}
 
 -- -(n + 1) + 1 is -n
 next : (n : ℕ) → negsuc n +ℤ pos 1 ≡ negℤ (pos n)
@@ -73,7 +71,7 @@ module _ (x : ℤ) (f : SFits w64 x) where
   top-asks = negative (λ z. natAbs (back (flipped z)) ≤ 18446744073709551615) (λ n k. rw (flip-is n k, toZ-ofZ (as-pos n k)) (omega (arith, k .sfits)))
 
   pub bits-negative : ltZ (back x) (pos 0) ≡ true → 18446744073709551615 - natAbs (back (flipped x)) ≡ bitsOf x
-  unfolding bitsOf
+  unfolding bitsIn
   bits-negative = negative (λ z. 18446744073709551615 - natAbs (back (flipped z)) ≡ bitsOf z) (λ n k. rw (flip-is n k, toZ-ofZ (as-pos n k)) (omega arith))
 
   pub natural-sign : ltZ (back x) (pos 0) ≡ false → T (nonNeg (back x))
@@ -83,20 +81,15 @@ module _ (x : ℤ) (f : SFits w64 x) where
   natural-fits = natural (λ z. Fits w64 (natAbs (back z))) (λ n k. rw (toZ-ofZ k) (omega (arith, k .sfits)))
 
   pub bits-natural : ltZ (back x) (pos 0) ≡ false → natAbs (back x) ≡ bitsOf x
-  unfolding bitsOf
+  unfolding bitsIn
   bits-natural = natural (λ z. natAbs (back z) ≡ bitsOf z) (λ n k. rw (toZ-ofZ k))
 
 pub ruleset bits-rules = (add-asks, sub-asks, cast-sign, cast-fits, top-asks, bits-negative, natural-sign, natural-fits, bits-natural)
 
--- The array of `record_bytes`, whose seconds went through `bits_of`
-pub bytes-are : (a : Answer) (s : ℕ) → SFits w64 (a .seconds) → s ≡ bitsOf (back (a .seconds)) → laid a s ≡ bytesOf a
-unfolding bytesOf
-bytes-are a s f e = rw (e, toZ-ofZ f)
-
 -- signed_of: x is the bits of a number below zero, y how far that is below -1
 module _ (x : ℕ) where
   pub signed-small : x < 9223372036854775808 → toZ w64 x ≡ signedOf x
-  unfolding signedOf
+  unfolding signedIn
   signed-small h = let e : signedOf x ≡ pos x = (rw (lt-ltb x 9223372036854775808 h)) in back-pos x (omega arith) ∙ sym e
 
   module _ (h : 9223372036854775808 ≤ x) where
@@ -113,16 +106,7 @@ module _ (x : ℕ) where
     below-fits = rw second (neg-fits (18446744073709551615 - x) (omega arith))
 
     pub signed-large : back (back (pos 0 -ℤ toZ w64 (18446744073709551615 - x)) -ℤ pos 1) ≡ signedOf x
-    unfolding signedOf
+    unfolding signedIn
     signed-large = rw (le-ltb x 9223372036854775808 h) (toZ-ofZ below-fits ∙ second)
 
 pub ruleset signed-rules = (signed-small, minus-fits, below-fits, signed-large)
-
--- the two undo each other
-pub signed-bits : (x : ℕ) → x < 18446744073709551616 → bitsOf (signedOf x) ≡ x
-unfolding signedOf
-signed-bits x h =
-    elim (decLt x 9223372036854775808) [
-      | yes l ↦ rw (lt-ltb x 9223372036854775808 l) (unfold bitsOf in refl)
-      | no l ↦ rw (le-ltb x 9223372036854775808 (omega arith)) (unfold bitsOf in (omega arith))
-    ]
