@@ -24,7 +24,7 @@ use Rattle.fristen.specs.declared.FristShape.the-variants.{WerktagAt, EndOfWerk
 use Rattle.fristen.specs.Fristen.{properDue}
 use Rattle.fristen.specs.Antwort.{properShape}
 use Rattle.antwortsatz.specs.declared.Answer.{Answer}
-use Rattle.antwortsatz.specs.Answers.{refusedWith, instantAnswer}
+use Rattle.antwortsatz.specs.Answers.{refused, atInstant}
 use Rattle.antworten_frist.specs.declared.AnlassCode.{AnlassCode}
 use Rattle.antworten_frist.specs.declared.AnlassCode.the-variants.{Known as Occasion, Unknown as NoOccasion}
 use Rattle.antworten_frist.specs.declared.ShapeReading.{ShapeReading}
@@ -47,7 +47,7 @@ anlass-none n h = let z : n ≡ suc (suc (suc (n - 3))) = omega arith in rw z
 pub ruleset anlass-rules = (anlass-0, anlass-1, anlass-2, anlass-none)
 
 -- x is what `anlass_of` returned
-pub anlass-refused : (n : ℕ) (x : AnlassCode) (f : ContrlAnlass → Answer) (r : Answer) → x ≡ anlassOf n → x ≡ NoOccasion → r ≡ refusedWith 2 → r ≡ onAnlass (anlassOf n) f
+pub anlass-refused : (n : ℕ) (x : AnlassCode) (f : ContrlAnlass → Answer) (r : Answer) → x ≡ anlassOf n → x ≡ NoOccasion → r ≡ refused 2 → r ≡ onAnlass (anlassOf n) f
 anlass-refused n x f r e q p = rw (sym e ∙ q) p
 
 pub anlass-taken : (n : ℕ) (x : AnlassCode) (f : ContrlAnlass → Answer) (r : Answer) (a : ContrlAnlass) → x ≡ anlassOf n → x ≡ Occasion a → r ≡ f a → r ≡ onAnlass (anlassOf n) f
@@ -77,7 +77,7 @@ pub ruleset shape-rules = (clock-proper, shape-0-none, shape-0, shape-1, shape-2
 
 -- s is what `shape_of` returned
 module _ (x n : ℕ) (k : ClockReading) (s : ShapeReading) where
-  pub shape-refused : (f : FristShape → Answer) (r : Answer) → s ≡ shapeOf x n k → s ≡ Unclocked → r ≡ refusedWith 5 → r ≡ onShape (shapeOf x n k) f
+  pub shape-refused : (f : FristShape → Answer) (r : Answer) → s ≡ shapeOf x n k → s ≡ Unclocked → r ≡ refused 5 → r ≡ onShape (shapeOf x n k) f
   shape-refused f r e q p = rw (sym e ∙ q) p
 
   pub shape-taken : (f : FristShape → Answer) (r : Answer) (t : FristShape) → s ≡ shapeOf x n k → s ≡ Shaped t → r ≡ f t → r ≡ onShape (shapeOf x n k) f
@@ -86,19 +86,19 @@ module _ (x n : ℕ) (k : ClockReading) (s : ShapeReading) where
 pub shape-proper : (s : ShapeReading) (t : FristShape) → properShapeReading s → s ≡ Shaped t → properShape t
 shape-proper s t h q = rw q at h
 
-pub code-refused : (x : ℕ) (r b : Answer) → 3 < x → r ≡ refusedWith 2 → r ≡ cond (ltb 3 x) (refusedWith 2) b
+pub code-refused : (x : ℕ) (r b : Answer) → 3 < x → r ≡ refused 2 → r ≡ cond (ltb 3 x) (refused 2) b
 code-refused x r b h p = rw (lt-ltb 3 x h) p
 
-pub code-taken : (x : ℕ) (r b : Answer) → x ≤ 3 → r ≡ b → r ≡ cond (ltb 3 x) (refusedWith 2) b
+pub code-taken : (x : ℕ) (r b : Answer) → x ≤ 3 → r ≡ b → r ≡ cond (ltb 3 x) (refused 2) b
 code-taken x r b h p = rw (le-ltb 3 x h) p
 
-pub due-at : (k : ℕ) (d : Due) (m : Moment) (z : ℤ) (r : Answer) → d ≡ DueAt m → Proper m → z ≡ pos (secondsOf m) → r ≡ instantAnswer k (back z) (m .nanos) → r ≡ dueAnswer k d
+pub due-at : (k : ℕ) (d : Due) (m : Moment) (z : ℤ) (r : Answer) → d ≡ DueAt m → Proper m → z ≡ pos (secondsOf m) → r ≡ atInstant k (back z) (m .nanos) → r ≡ dueAnswer k d
 due-at k d m z r q h e p = rw q (moment-made k m z r h e p)
 
-pub due-absent : (k : ℕ) (d : Due) (r : Answer) → d ≡ Absent → r ≡ refusedWith 6 → r ≡ dueAnswer k d
+pub due-absent : (k : ℕ) (d : Due) (r : Answer) → d ≡ Absent → r ≡ refused 6 → r ≡ dueAnswer k d
 due-absent k d r q p = rw q p
 
-pub due-late : (k : ℕ) (d : Due) (r : Answer) → d ≡ Late → r ≡ refusedWith 8 → r ≡ dueAnswer k d
+pub due-late : (k : ℕ) (d : Due) (r : Answer) → d ≡ Late → r ≡ refused 8 → r ≡ dueAnswer k d
 due-late k d r q p = rw q p
 
 pub due-proper : (d : Due) (m : Moment) → properDue d → d ≡ DueAt m → Proper m

@@ -1,11 +1,11 @@
 -- What the calls answer that give a due instant: the instant i is the receipt.
---   contrlAnswer i x                   = when the CONTRL of the occasion with code x is due
---   aperakStromAnswer i, aperakStromAllgemeinAnswer i = when a Strom APERAK is due
---   aperakGasFolgeprozessAnswer i, aperakGasInitialprozessAnswer i, aperakGasAnswer pid i = when a Gas APERAK is due; kind 1 for the initial process
+--   contrlDueAtAnswer i x                   = when the CONTRL of the occasion with code x is due
+--   aperakStromDueAtAnswer i, aperakStromAllgemeinDueAtAnswer i = when a Strom APERAK is due
+--   aperakGasFolgeprozessDueAtAnswer i, aperakGasInitialprozessDueAtAnswer i, aperakGasDueAtAnswer pid i = when a Gas APERAK is due; kind 1 for the initial process
 --   addHoursAnswer i n                 = n hours later
 --   deadlineAtWerktageAnswer i n, endOfWerktagAfterAnswer i n = the end of the n-th Werktag after the receipt day
 --   nextWerktagAtAnswer i c, nthWerktagAtAnswer i n c = the clock c on the first, the n-th Werktag after the receipt day
---   fristAnswer x n c i                = when an answer of the shape with code x, count n and clock c is due
+--   fristDueAtAnswer x n c i                = when an answer of the shape with code x, count n and clock c is due
 -- Source: document 01, 'Due instants: 4; 5; 6 (`SameDayAt` only); 8, the due instant's day leaves the calendar'; 'a Gas due instant kind 1 for
 -- the initial process, else 0'; 'Codes are always checked. A count, clock, date or instant that the operation or its shape doesn't use is
 -- not checked.'
@@ -19,27 +19,27 @@ use Rattle.berlin.specs.declared.ClockReading.{ClockReading}
 use Rattle.fristen.specs.Fristen.{contrlDueAt, aperakStromDueAt, aperakStromAllgemeinDueAt, aperakGasFolgeprozessDueAt, aperakGasInitialprozessDueAt, aperakGasDueAt, addHours, deadlineAtWerktage, endOfWerktagAfter, nextWerktagAt, nthWerktagAt}
 use Rattle.fristen.specs.Antwort.{dueAt}
 use Rattle.antwortsatz.specs.declared.Answer.{Answer}
-use Rattle.antwortsatz.specs.Answers.{refusedWith}
+use Rattle.antwortsatz.specs.Answers.{refused}
 use Rattle.antworten.specs.Reading.{onInstant, onClock}
 use Rattle.antworten_frist.specs.FristReading.{onAnlass, onShape, anlassOf, shapeOf, dueAnswer}
 
-unfoldable pub contrlAnswer : Reading → ℕ → Answer
-contrlAnswer k x = onAnlass (anlassOf x) (λ a. onInstant k (λ m. dueAnswer 0 (contrlDueAt m a)))
+unfoldable pub contrlDueAtAnswer : Reading → ℕ → Answer
+contrlDueAtAnswer k x = onAnlass (anlassOf x) (λ a. onInstant k (λ m. dueAnswer 0 (contrlDueAt m a)))
 
-unfoldable pub aperakStromAnswer : Reading → Answer
-aperakStromAnswer k = onInstant k (λ m. dueAnswer 0 (aperakStromDueAt m))
+unfoldable pub aperakStromDueAtAnswer : Reading → Answer
+aperakStromDueAtAnswer k = onInstant k (λ m. dueAnswer 0 (aperakStromDueAt m))
 
-unfoldable pub aperakStromAllgemeinAnswer : Reading → Answer
-aperakStromAllgemeinAnswer k = onInstant k (λ m. dueAnswer 0 (aperakStromAllgemeinDueAt m BdewMaKo))
+unfoldable pub aperakStromAllgemeinDueAtAnswer : Reading → Answer
+aperakStromAllgemeinDueAtAnswer k = onInstant k (λ m. dueAnswer 0 (aperakStromAllgemeinDueAt m BdewMaKo))
 
-unfoldable pub aperakGasFolgeprozessAnswer : Reading → Answer
-aperakGasFolgeprozessAnswer k = onInstant k (λ m. dueAnswer 0 (aperakGasFolgeprozessDueAt m BdewMaKo))
+unfoldable pub aperakGasFolgeprozessDueAtAnswer : Reading → Answer
+aperakGasFolgeprozessDueAtAnswer k = onInstant k (λ m. dueAnswer 0 (aperakGasFolgeprozessDueAt m BdewMaKo))
 
-unfoldable pub aperakGasInitialprozessAnswer : Reading → Answer
-aperakGasInitialprozessAnswer k = onInstant k (λ m. dueAnswer 1 (aperakGasInitialprozessDueAt m BdewMaKo))
+unfoldable pub aperakGasInitialprozessDueAtAnswer : Reading → Answer
+aperakGasInitialprozessDueAtAnswer k = onInstant k (λ m. dueAnswer 1 (aperakGasInitialprozessDueAt m BdewMaKo))
 
-unfoldable pub aperakGasAnswer : ℕ → Reading → Answer
-aperakGasAnswer pid k = onInstant k (λ m. let g = aperakGasDueAt pid m BdewMaKo in dueAnswer (bit (g .initial)) (g .due))
+unfoldable pub aperakGasDueAtAnswer : ℕ → Reading → Answer
+aperakGasDueAtAnswer pid k = onInstant k (λ m. let g = aperakGasDueAt pid m BdewMaKo in dueAnswer (bit (g .initial)) (g .due))
 
 unfoldable pub addHoursAnswer : Reading → ℕ → Answer
 addHoursAnswer k n = onInstant k (λ m. dueAnswer 0 (addHours m n))
@@ -56,6 +56,6 @@ nextWerktagAtAnswer k t = onInstant k (λ m. onClock t (λ c. dueAnswer 0 (nextW
 unfoldable pub nthWerktagAtAnswer : Reading → ℕ → ClockReading → Answer
 nthWerktagAtAnswer k n t = onInstant k (λ m. onClock t (λ c. dueAnswer 0 (nthWerktagAt m n c BdewMaKo)))
 
-unfoldable pub fristAnswer : ℕ → ℕ → ClockReading → Reading → Answer
-fristAnswer x n t k =
-    cond (ltb 3 x) (refusedWith 2) (onInstant k (λ m. onShape (shapeOf x n t) (λ f. dueAnswer 0 (dueAt f m BdewMaKo))))
+unfoldable pub fristDueAtAnswer : ℕ → ℕ → ClockReading → Reading → Answer
+fristDueAtAnswer x n t k =
+    cond (ltb 3 x) (refused 2) (onInstant k (λ m. onShape (shapeOf x n t) (λ f. dueAnswer 0 (dueAt f m BdewMaKo))))

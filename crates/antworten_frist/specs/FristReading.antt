@@ -18,7 +18,7 @@ use Rattle.fristen.specs.declared.FristShape.{FristShape}
 use Rattle.fristen.specs.declared.FristShape.the-variants.{WerktagAt, EndOfWerktag, SameDayAt, SameDay}
 use Rattle.fristen.specs.Antwort.{properShape}
 use Rattle.antwortsatz.specs.declared.Answer.{Answer}
-use Rattle.antwortsatz.specs.Answers.{refusedWith}
+use Rattle.antwortsatz.specs.Answers.{refused}
 use Rattle.antworten_frist.specs.declared.AnlassCode.{AnlassCode}
 use Rattle.antworten_frist.specs.declared.AnlassCode.the-variants.{Known as Occasion, Unknown as NoOccasion}
 use Rattle.antworten_frist.specs.declared.ShapeReading.{ShapeReading}
@@ -33,7 +33,7 @@ anlassOf (suc (suc (suc n))) = NoOccasion
 
 abbrev pub onAnlass : AnlassCode → (ContrlAnlass → Answer) → Answer
 onAnlass (Occasion a) f = f a
-onAnlass NoOccasion f = refusedWith 2
+onAnlass NoOccasion f = refused 2
 
 -- the shape with the clock that it uses
 abbrev pub withClock : ClockReading → (Clock → FristShape) → ShapeReading
@@ -48,12 +48,12 @@ shapeOf (suc (suc (suc x))) n k = Shaped SameDay
 
 abbrev pub onShape : ShapeReading → (FristShape → Answer) → Answer
 onShape (Shaped s) f = f s
-onShape Unclocked f = refusedWith 5
+onShape Unclocked f = refused 5
 
 abbrev pub dueAnswer : ℕ → Due → Answer
 dueAnswer k (DueAt m) = momentAnswer k m
-dueAnswer k Absent = refusedWith 6
-dueAnswer k Late = refusedWith 8
+dueAnswer k Absent = refused 6
+dueAnswer k Late = refused 8
 
 abbrev pub properShapeReading : ShapeReading → Type 0
 properShapeReading (Shaped s) = properShape s

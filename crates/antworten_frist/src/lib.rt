@@ -3,12 +3,12 @@ ghost use mathlib.Core.Path.{_≡_};
 ghost use Rattle.fristen.specs.Fristen.{properDue};
 ghost use Rattle.antworten.specs.Reading.{properReading, properClock};
 ghost use Rattle.antworten_frist.specs.FristReading.{anlassOf, dueAnswer, shapeOf, properShapeReading};
-ghost use Rattle.antworten_frist.specs.Frist.{contrlAnswer, aperakStromAnswer, aperakStromAllgemeinAnswer, aperakGasFolgeprozessAnswer, aperakGasInitialprozessAnswer, aperakGasAnswer, addHoursAnswer, deadlineAtWerktageAnswer, endOfWerktagAfterAnswer, nextWerktagAtAnswer, nthWerktagAtAnswer, fristAnswer};
-use antwortsatz::ABSENT_TIME;
+ghost use Rattle.antworten_frist.specs.Frist.{contrlDueAtAnswer, aperakStromDueAtAnswer, aperakStromAllgemeinDueAtAnswer, aperakGasFolgeprozessDueAtAnswer, aperakGasInitialprozessDueAtAnswer, aperakGasDueAtAnswer, addHoursAnswer, deadlineAtWerktageAnswer, endOfWerktagAfterAnswer, nextWerktagAtAnswer, nthWerktagAtAnswer, fristDueAtAnswer};
 use antwortsatz::Answer;
-use antwortsatz::LEFT_CALENDAR;
+use antwortsatz::INSTANT_OUTSIDE;
+use antwortsatz::LEAVES_CALENDAR;
+use antwortsatz::LOCAL_TIME_ABSENT;
 use antwortsatz::NO_CLOCK;
-use antwortsatz::NO_INSTANT;
 use antwortsatz::UNKNOWN_CODE;
 use berlin::ClockReading;
 use berlin::Reading;
@@ -45,8 +45,8 @@ fn due_answer(kind: u8, due: Due) -> Answer
 {
     match due {
         Due::At(at) => antwortsatz::at_instant(kind, berlin::seconds_of(at), at.nanos),
-        Due::Absent => antwortsatz::refused(ABSENT_TIME),
-        Due::Outside => antwortsatz::refused(LEFT_CALENDAR),
+        Due::Absent => antwortsatz::refused(LOCAL_TIME_ABSENT),
+        Due::Outside => antwortsatz::refused(LEAVES_CALENDAR),
     }
 }
 
@@ -81,33 +81,33 @@ fn shape_of(code: u8, werktage: u32, clock: ClockReading) -> ShapeReading
 
 pub fn contrl_due_at_answer(instant: Reading, code: u8) -> Answer
     requires { ⌜ properReading instant ⌝ }
-    ensures { λ r. ⌜ r ≡ contrlAnswer instant code ⌝ }
+    ensures { λ r. ⌜ r ≡ contrlDueAtAnswer instant code ⌝ }
 {
     let AnlassCode::Known(anlass) = anlass_of(code) else {
         return antwortsatz::refused(UNKNOWN_CODE);
     };
     let Reading::At(received) = instant else {
-        return antwortsatz::refused(NO_INSTANT);
+        return antwortsatz::refused(INSTANT_OUTSIDE);
     };
     due_answer(0, fristen::contrl_due_at(received, anlass))
 }
 
 pub fn aperak_strom_due_at_answer(instant: Reading) -> Answer
     requires { ⌜ properReading instant ⌝ }
-    ensures { λ r. ⌜ r ≡ aperakStromAnswer instant ⌝ }
+    ensures { λ r. ⌜ r ≡ aperakStromDueAtAnswer instant ⌝ }
 {
     let Reading::At(received) = instant else {
-        return antwortsatz::refused(NO_INSTANT);
+        return antwortsatz::refused(INSTANT_OUTSIDE);
     };
     due_answer(0, fristen::aperak_strom_due_at(received))
 }
 
 pub fn aperak_strom_allgemein_due_at_answer(instant: Reading) -> Answer
     requires { ⌜ properReading instant ⌝ }
-    ensures { λ r. ⌜ r ≡ aperakStromAllgemeinAnswer instant ⌝ }
+    ensures { λ r. ⌜ r ≡ aperakStromAllgemeinDueAtAnswer instant ⌝ }
 {
     let Reading::At(received) = instant else {
-        return antwortsatz::refused(NO_INSTANT);
+        return antwortsatz::refused(INSTANT_OUTSIDE);
     };
     due_answer(
         0,
@@ -117,10 +117,10 @@ pub fn aperak_strom_allgemein_due_at_answer(instant: Reading) -> Answer
 
 pub fn aperak_gas_folgeprozess_due_at_answer(instant: Reading) -> Answer
     requires { ⌜ properReading instant ⌝ }
-    ensures { λ r. ⌜ r ≡ aperakGasFolgeprozessAnswer instant ⌝ }
+    ensures { λ r. ⌜ r ≡ aperakGasFolgeprozessDueAtAnswer instant ⌝ }
 {
     let Reading::At(received) = instant else {
-        return antwortsatz::refused(NO_INSTANT);
+        return antwortsatz::refused(INSTANT_OUTSIDE);
     };
     due_answer(
         0,
@@ -130,10 +130,10 @@ pub fn aperak_gas_folgeprozess_due_at_answer(instant: Reading) -> Answer
 
 pub fn aperak_gas_initialprozess_due_at_answer(instant: Reading) -> Answer
     requires { ⌜ properReading instant ⌝ }
-    ensures { λ r. ⌜ r ≡ aperakGasInitialprozessAnswer instant ⌝ }
+    ensures { λ r. ⌜ r ≡ aperakGasInitialprozessDueAtAnswer instant ⌝ }
 {
     let Reading::At(received) = instant else {
-        return antwortsatz::refused(NO_INSTANT);
+        return antwortsatz::refused(INSTANT_OUTSIDE);
     };
     due_answer(
         1,
@@ -143,10 +143,10 @@ pub fn aperak_gas_initialprozess_due_at_answer(instant: Reading) -> Answer
 
 pub fn aperak_gas_due_at_answer(pid: u32, instant: Reading) -> Answer
     requires { ⌜ properReading instant ⌝ }
-    ensures { λ r. ⌜ r ≡ aperakGasAnswer pid instant ⌝ }
+    ensures { λ r. ⌜ r ≡ aperakGasDueAtAnswer pid instant ⌝ }
 {
     let Reading::At(received) = instant else {
-        return antwortsatz::refused(NO_INSTANT);
+        return antwortsatz::refused(INSTANT_OUTSIDE);
     };
     let gas = fristen::aperak_gas_due_at(pid, received, HolidayCalendar::BdewMaKo);
     let due = gas.due;
@@ -161,7 +161,7 @@ pub fn add_hours_answer(instant: Reading, hours: u32) -> Answer
     ensures { λ r. ⌜ r ≡ addHoursAnswer instant hours ⌝ }
 {
     let Reading::At(from) = instant else {
-        return antwortsatz::refused(NO_INSTANT);
+        return antwortsatz::refused(INSTANT_OUTSIDE);
     };
     due_answer(0, fristen::add_hours(from, hours))
 }
@@ -171,7 +171,7 @@ pub fn deadline_at_werktage_answer(instant: Reading, werktage: u32) -> Answer
     ensures { λ r. ⌜ r ≡ deadlineAtWerktageAnswer instant werktage ⌝ }
 {
     let Reading::At(from) = instant else {
-        return antwortsatz::refused(NO_INSTANT);
+        return antwortsatz::refused(INSTANT_OUTSIDE);
     };
     due_answer(
         0,
@@ -184,7 +184,7 @@ pub fn end_of_werktag_after_answer(instant: Reading, werktage: u32) -> Answer
     ensures { λ r. ⌜ r ≡ endOfWerktagAfterAnswer instant werktage ⌝ }
 {
     let Reading::At(received) = instant else {
-        return antwortsatz::refused(NO_INSTANT);
+        return antwortsatz::refused(INSTANT_OUTSIDE);
     };
     due_answer(
         0,
@@ -197,7 +197,7 @@ pub fn next_werktag_at_answer(instant: Reading, clock: ClockReading) -> Answer
     ensures { λ r. ⌜ r ≡ nextWerktagAtAnswer instant clock ⌝ }
 {
     let Reading::At(received) = instant else {
-        return antwortsatz::refused(NO_INSTANT);
+        return antwortsatz::refused(INSTANT_OUTSIDE);
     };
     let ClockReading::At(at) = clock else {
         return antwortsatz::refused(NO_CLOCK);
@@ -213,7 +213,7 @@ pub fn nth_werktag_at_answer(instant: Reading, n: u32, clock: ClockReading) -> A
     ensures { λ r. ⌜ r ≡ nthWerktagAtAnswer instant n clock ⌝ }
 {
     let Reading::At(received) = instant else {
-        return antwortsatz::refused(NO_INSTANT);
+        return antwortsatz::refused(INSTANT_OUTSIDE);
     };
     let ClockReading::At(at) = clock else {
         return antwortsatz::refused(NO_CLOCK);
@@ -226,13 +226,13 @@ pub fn nth_werktag_at_answer(instant: Reading, n: u32, clock: ClockReading) -> A
 
 pub fn frist_due_at_answer(code: u8, werktage: u32, clock: ClockReading, instant: Reading) -> Answer
     requires { ⌜ (properReading instant) × (properClock clock) ⌝ }
-    ensures { λ r. ⌜ r ≡ fristAnswer code werktage clock instant ⌝ }
+    ensures { λ r. ⌜ r ≡ fristDueAtAnswer code werktage clock instant ⌝ }
 {
     if 3 < code {
         return antwortsatz::refused(UNKNOWN_CODE);
     }
     let Reading::At(received) = instant else {
-        return antwortsatz::refused(NO_INSTANT);
+        return antwortsatz::refused(INSTANT_OUTSIDE);
     };
     let ShapeReading::Known(shape) = shape_of(code, werktage, clock) else {
         return antwortsatz::refused(NO_CLOCK);

@@ -19,10 +19,10 @@ use Rattle.vorlauf.specs.Monate.{monthsLater, monthsEarlier, M}
 use Rattle.vorlauf.specs.Verdict.{dayAfter, dayAfterNext, checkOf}
 use Rattle.vorlauf.specs.Span.{spanOf}
 use Rattle.antwortsatz.specs.declared.Answer.{Answer}
-use Rattle.antwortsatz.specs.Answers.{zeroDate, refusedWith, kindAnswer, dateAnswer, instantAnswer, verdictAnswer, spanAnswer}
+use Rattle.antwortsatz.specs.Answers.{zeroDate, refused, ofKind, dated, atInstant, judged, spanned}
 use Rattle.antworten.specs.Kalender.{isWerktagAnswer, addWerktageAnswer}
 use Rattle.antworten.specs.Uhrzeit.{berlinAtAnswer, tagesbeginnUtcAnswer}
-use Rattle.antworten_frist.specs.Frist.{contrlAnswer, fristAnswer}
+use Rattle.antworten_frist.specs.Frist.{contrlDueAtAnswer, fristDueAtAnswer}
 use Rattle.antworten_vorlauf.specs.Vorlauf.{vorlaufCheckAnswer, vorlaufSpanAnswer}
 
 abbrev on : ℕ → ℕ → Date
@@ -41,32 +41,32 @@ pub cases :
           ∷ vorlaufCheckAnswer 6 1 0 (on 1 31) (on 2 28)
           ∷ vorlaufSpanAnswer 6 1 0 (on 1 31)
           ∷ vorlaufSpanAnswer 1 1 1 (on 1 10)
-          ∷ contrlAnswer (readInstant (pos 1774951199) 0) 0
-          ∷ contrlAnswer (readInstant (pos 1774951200) 0) 0
+          ∷ contrlDueAtAnswer (readInstant (pos 1774951199) 0) 0
+          ∷ contrlDueAtAnswer (readInstant (pos 1774951200) 0) 0
           ∷ berlinAtAnswer (on 3 29) (readClock 2 30 0 0)
           ∷ berlinAtAnswer (on 10 25) (readClock 2 30 0 0)
           ∷ tagesbeginnUtcAnswer (on 3 29) 1
-          ∷ fristAnswer 2 0 (readClock 12 0 0 0) (readInstant (pos 1767956400) 0)
+          ∷ fristDueAtAnswer 2 0 (readClock 12 0 0 0) (readInstant (pos 1767956400) 0)
           ∷ [],
     ) (
       on 4 5,
-      kindAnswer 0
-          ∷ dateAnswer (on 4 7)
-          ∷ dateAnswer (on 4 4)
-          ∷ verdictAnswer 1 0 (on 1 12)
-          ∷ spanAnswer 0 (on 1 13) zeroDate
-          ∷ verdictAnswer 1 1 (on 1 10)
-          ∷ verdictAnswer 0 0 zeroDate
-          ∷ verdictAnswer 1 2 (on 2 28)
-          ∷ spanAnswer 0 (on 3 1) zeroDate
-          ∷ kindAnswer 2
-          ∷ instantAnswer 0 (pos 1774972799) 0
-          ∷ instantAnswer 0 (pos 1775080800) 0
-          ∷ refusedWith 6
-          ∷ instantAnswer 0 (pos 1792888200) 0
-          ∷ instantAnswer 0 (pos 1774756800) 0
-          ∷ instantAnswer 0 (pos 1768215600) 0
+      ofKind 0
+          ∷ dated (on 4 7)
+          ∷ dated (on 4 4)
+          ∷ judged 1 0 (on 1 12)
+          ∷ spanned 0 (on 1 13) zeroDate
+          ∷ judged 1 1 (on 1 10)
+          ∷ judged 0 0 zeroDate
+          ∷ judged 1 2 (on 2 28)
+          ∷ spanned 0 (on 3 1) zeroDate
+          ∷ ofKind 2
+          ∷ atInstant 0 (pos 1774972799) 0
+          ∷ atInstant 0 (pos 1775080800) 0
+          ∷ refused 6
+          ∷ atInstant 0 (pos 1792888200) 0
+          ∷ atInstant 0 (pos 1774756800) 0
+          ∷ atInstant 0 (pos 1768215600) 0
           ∷ [],
     )
-unfolding indexOf isDate start at isLeap daysInMonth yearLen dateIn dateOf inMonth onMonth addMonths subtractMonths up down past first among add sub next W between easterSunday easterIndex any isFixed isBussUndBettag isEasterFeast isBdewMakoHoliday isWerktag readInstant readClock lastSunday yearAt offset berlinAt berlinMidnight endOfDayBerlin tagesbeginnUtc before later contrlSeconds inWindow toleratedIn tolerated contrlDueAt nthWerktagAt sameDayAt dueAt monthsLater monthsEarlier M dayAfter dayAfterNext checkOf spanOf kindAnswer dateAnswer instantAnswer verdictAnswer spanAnswer refusedWith isWerktagAnswer addWerktageAnswer berlinAtAnswer tagesbeginnUtcAnswer contrlAnswer fristAnswer vorlaufCheckAnswer vorlaufSpanAnswer
+unfolding indexOf isDate start at isLeap daysInMonth yearLen dateIn dateOf inMonth onMonth addMonths subtractMonths up down past first among add sub next W between easterSunday easterIndex any isFixed isBussUndBettag isEasterFeast isBdewMakoHoliday isWerktag readInstant readClock lastSunday yearAt offset berlinAt berlinMidnight endOfDayBerlin tagesbeginnUtc before later contrlSeconds inWindow toleratedIn tolerated contrlDueAt nthWerktagAt sameDayAt dueAt monthsLater monthsEarlier M dayAfter dayAfterNext checkOf spanOf ofKind dated atInstant judged spanned refused isWerktagAnswer addWerktageAnswer berlinAtAnswer tagesbeginnUtcAnswer contrlDueAtAnswer fristDueAtAnswer vorlaufCheckAnswer vorlaufSpanAnswer
 cases = refl

@@ -2,12 +2,12 @@
 ghost use mathlib.Core.Path.{_≡_};
 ghost use Rattle.antwortsatz.specs.Bytes.{repliedTo};
 ghost use Rattle.berlin.specs.Berlin.{readInstant, readClock};
-ghost use Rattle.antworten_frist.specs.Frist.{contrlAnswer, aperakStromAnswer, aperakStromAllgemeinAnswer, aperakGasFolgeprozessAnswer, aperakGasInitialprozessAnswer, aperakGasAnswer, addHoursAnswer, deadlineAtWerktageAnswer, endOfWerktagAfterAnswer, nextWerktagAtAnswer, nthWerktagAtAnswer, fristAnswer};
+ghost use Rattle.antworten_frist.specs.Frist.{contrlDueAtAnswer, aperakStromDueAtAnswer, aperakStromAllgemeinDueAtAnswer, aperakGasFolgeprozessDueAtAnswer, aperakGasInitialprozessDueAtAnswer, aperakGasDueAtAnswer, addHoursAnswer, deadlineAtWerktageAnswer, endOfWerktagAfterAnswer, nextWerktagAtAnswer, nthWerktagAtAnswer, fristDueAtAnswer};
 
 /// When a CONTRL is due.
 #[no_mangle]
 pub extern "C" fn mf_contrl_due_at(seconds: i64, nanos: u32, anlass: u8, answer: &mut [u8]) -> u8
-    ensures { λ r. ⌜ (r, now (answer .exit)) ≡ repliedTo (now (answer .entry)) (contrlAnswer (readInstant seconds nanos) anlass) ⌝ }
+    ensures { λ r. ⌜ (r, now (answer .exit)) ≡ repliedTo (now (answer .entry)) (contrlDueAtAnswer (readInstant seconds nanos) anlass) ⌝ }
 {
     let instant = berlin::read_instant(seconds, nanos);
     let a = antworten_frist::contrl_due_at_answer(instant, anlass);
@@ -17,7 +17,7 @@ pub extern "C" fn mf_contrl_due_at(seconds: i64, nanos: u32, anlass: u8, answer:
 /// When the Strom APERAK on a UTILMD or ORDERS is due.
 #[no_mangle]
 pub extern "C" fn mf_aperak_strom_due_at(seconds: i64, nanos: u32, answer: &mut [u8]) -> u8
-    ensures { λ r. ⌜ (r, now (answer .exit)) ≡ repliedTo (now (answer .entry)) (aperakStromAnswer (readInstant seconds nanos)) ⌝ }
+    ensures { λ r. ⌜ (r, now (answer .exit)) ≡ repliedTo (now (answer .entry)) (aperakStromDueAtAnswer (readInstant seconds nanos)) ⌝ }
 {
     let instant = berlin::read_instant(seconds, nanos);
     let a = antworten_frist::aperak_strom_due_at_answer(instant);
@@ -31,7 +31,7 @@ pub extern "C" fn mf_aperak_strom_allgemein_due_at(
     nanos: u32,
     answer: &mut [u8],
 ) -> u8
-    ensures { λ r. ⌜ (r, now (answer .exit)) ≡ repliedTo (now (answer .entry)) (aperakStromAllgemeinAnswer (readInstant seconds nanos)) ⌝ }
+    ensures { λ r. ⌜ (r, now (answer .exit)) ≡ repliedTo (now (answer .entry)) (aperakStromAllgemeinDueAtAnswer (readInstant seconds nanos)) ⌝ }
 {
     let instant = berlin::read_instant(seconds, nanos);
     let a = antworten_frist::aperak_strom_allgemein_due_at_answer(instant);
@@ -45,7 +45,7 @@ pub extern "C" fn mf_aperak_gas_folgeprozess_due_at(
     nanos: u32,
     answer: &mut [u8],
 ) -> u8
-    ensures { λ r. ⌜ (r, now (answer .exit)) ≡ repliedTo (now (answer .entry)) (aperakGasFolgeprozessAnswer (readInstant seconds nanos)) ⌝ }
+    ensures { λ r. ⌜ (r, now (answer .exit)) ≡ repliedTo (now (answer .entry)) (aperakGasFolgeprozessDueAtAnswer (readInstant seconds nanos)) ⌝ }
 {
     let instant = berlin::read_instant(seconds, nanos);
     let a = antworten_frist::aperak_gas_folgeprozess_due_at_answer(instant);
@@ -59,7 +59,7 @@ pub extern "C" fn mf_aperak_gas_initialprozess_due_at(
     nanos: u32,
     answer: &mut [u8],
 ) -> u8
-    ensures { λ r. ⌜ (r, now (answer .exit)) ≡ repliedTo (now (answer .entry)) (aperakGasInitialprozessAnswer (readInstant seconds nanos)) ⌝ }
+    ensures { λ r. ⌜ (r, now (answer .exit)) ≡ repliedTo (now (answer .entry)) (aperakGasInitialprozessDueAtAnswer (readInstant seconds nanos)) ⌝ }
 {
     let instant = berlin::read_instant(seconds, nanos);
     let a = antworten_frist::aperak_gas_initialprozess_due_at_answer(instant);
@@ -69,7 +69,7 @@ pub extern "C" fn mf_aperak_gas_initialprozess_due_at(
 /// When the Gas APERAK of a Prüfidentifikator is due; kind 1 for the initial process, else 0.
 #[no_mangle]
 pub extern "C" fn mf_aperak_gas_due_at(pid: u32, seconds: i64, nanos: u32, answer: &mut [u8]) -> u8
-    ensures { λ r. ⌜ (r, now (answer .exit)) ≡ repliedTo (now (answer .entry)) (aperakGasAnswer pid (readInstant seconds nanos)) ⌝ }
+    ensures { λ r. ⌜ (r, now (answer .exit)) ≡ repliedTo (now (answer .entry)) (aperakGasDueAtAnswer pid (readInstant seconds nanos)) ⌝ }
 {
     let instant = berlin::read_instant(seconds, nanos);
     let a = antworten_frist::aperak_gas_due_at_answer(pid, instant);
@@ -168,7 +168,7 @@ pub extern "C" fn mf_frist_due_at(
     nanos: u32,
     answer: &mut [u8],
 ) -> u8
-    ensures { λ r. ⌜ (r, now (answer .exit)) ≡ repliedTo (now (answer .entry)) (fristAnswer shape werktage (readClock hour minute second «nanos_of_second») (readInstant seconds nanos)) ⌝ }
+    ensures { λ r. ⌜ (r, now (answer .exit)) ≡ repliedTo (now (answer .entry)) (fristDueAtAnswer shape werktage (readClock hour minute second «nanos_of_second») (readInstant seconds nanos)) ⌝ }
 {
     let clock = berlin::read_clock(hour, minute, second, nanos_of_second);
     let instant = berlin::read_instant(seconds, nanos);

@@ -3,7 +3,7 @@ ghost use mathlib.Core.Path.{_≡_};
 ghost use Rattle.antwortsatz.specs.Bytes.{repliedTo};
 ghost use Rattle.berlin.specs.Berlin.{readInstant};
 ghost use Rattle.antworten.specs.Reading.{dateFrom};
-ghost use Rattle.antworten_vorlauf.specs.Vorlauf.{vorlaufCheckAnswer, vorlaufCheckAtAnswer, vorlaufSpanAnswer, abmeldungFuerAnswer, abmeldungCheckAnswer, eogAnswer};
+ghost use Rattle.antworten_vorlauf.specs.Vorlauf.{vorlaufCheckAnswer, vorlaufCheckAtAnswer, vorlaufSpanAnswer, abmeldungFuerAnswer, abmeldungCheckAnswer, eogAnkuendigungFristgerechtAnswer};
 use datum::Date;
 
 /// The verdict of a lead-time shape on a transmission date and an anchor.
@@ -122,10 +122,10 @@ pub extern "C" fn mf_eog_ankuendigung_fristgerecht(
     day: u8,
     answer: &mut [u8],
 ) -> u8
-    ensures { λ r. ⌜ (r, now (answer .exit)) ≡ repliedTo (now (answer .entry)) (eogAnswer (readInstant seconds nanos) (dateFrom year month day)) ⌝ }
+    ensures { λ r. ⌜ (r, now (answer .exit)) ≡ repliedTo (now (answer .entry)) (eogAnkuendigungFristgerechtAnswer (readInstant seconds nanos) (dateFrom year month day)) ⌝ }
 {
     let date = Date { year, month, day };
     let instant = berlin::read_instant(seconds, nanos);
-    let a = antworten_vorlauf::eog_answer(instant, date);
+    let a = antworten_vorlauf::eog_ankuendigung_fristgerecht_answer(instant, date);
     antwortsatz::reply(answer, a)
 }

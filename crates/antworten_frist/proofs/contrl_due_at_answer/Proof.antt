@@ -1,7 +1,7 @@
 -- `antworten_frist::contrl_due_at_answer` meets its contract: what is refused is refused in order, and the rest goes to the layer below.
 -- Assumes nothing.
 use Rattle.antworten_frist.proofs.Rules.{frist-rules}
-use Rattle.antworten_frist.specs.Frist.{contrlAnswer}
+use Rattle.antworten_frist.specs.Frist.{contrlDueAtAnswer}
 use borrow.Author.Needs.{needs}
 use Rattle.antworten_frist.proofs.contrl_due_at_answer.Statement.{statement}
 use Rattle.antworten_frist.proofs.contrl_due_at_answer.Tie as tie
@@ -19,7 +19,7 @@ refused-requires : tie.Need-refused-requires
 refused-requires c κs = search needs
 
 returns : tie.Need-returns
-unfolding contrlAnswer
+unfolding contrlDueAtAnswer
 returns c = search (needs, frist-rules)
 
 enum-known-instant : tie.Need-enum-known-instant
@@ -32,7 +32,7 @@ refused-requires-2 : tie.Need-refused-requires-2
 refused-requires-2 c κs = search needs
 
 returns-2 : tie.Need-returns-2
-unfolding contrlAnswer
+unfolding contrlDueAtAnswer
 returns-2 c = search (needs, frist-rules)
 
 contrl-due-at-requires : tie.Need-contrl-due-at-requires
@@ -42,7 +42,7 @@ due-answer-requires : tie.Need-due-answer-requires
 due-answer-requires c κs = search needs
 
 returns-3 : tie.Need-returns-3
-unfolding contrlAnswer
+unfolding contrlDueAtAnswer
 returns-3 c = search (needs, frist-rules)
 
 pub contrl-due-at-answer-spec : {M : Type 1} → statement M

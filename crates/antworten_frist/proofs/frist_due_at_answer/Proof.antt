@@ -1,7 +1,7 @@
 -- `antworten_frist::frist_due_at_answer` meets its contract: what is refused is refused in order, and the rest goes to the layer below.
 -- Assumes nothing.
 use Rattle.antworten_frist.proofs.Rules.{frist-rules}
-use Rattle.antworten_frist.specs.Frist.{fristAnswer}
+use Rattle.antworten_frist.specs.Frist.{fristDueAtAnswer}
 use borrow.Author.Needs.{needs}
 use Rattle.antworten_frist.proofs.frist_due_at_answer.Statement.{statement}
 use Rattle.antworten_frist.proofs.frist_due_at_answer.Tie as tie
@@ -10,7 +10,7 @@ refused-requires : tie.Need-refused-requires
 refused-requires c κs = search needs
 
 returns : tie.Need-returns
-unfolding fristAnswer
+unfolding fristDueAtAnswer
 returns c = search (needs, frist-rules)
 
 enum-known-instant : tie.Need-enum-known-instant
@@ -23,7 +23,7 @@ refused-requires-2 : tie.Need-refused-requires-2
 refused-requires-2 c κs = search needs
 
 returns-2 : tie.Need-returns-2
-unfolding fristAnswer
+unfolding fristDueAtAnswer
 returns-2 c = search (needs, frist-rules)
 
 shape-of-requires : tie.Need-shape-of-requires
@@ -39,7 +39,7 @@ refused-requires-3 : tie.Need-refused-requires-3
 refused-requires-3 c κs = search needs
 
 returns-3 : tie.Need-returns-3
-unfolding fristAnswer
+unfolding fristDueAtAnswer
 returns-3 c = search (needs, frist-rules)
 
 due-at-requires : tie.Need-due-at-requires
@@ -49,7 +49,7 @@ due-answer-requires : tie.Need-due-answer-requires
 due-answer-requires c κs = search needs
 
 returns-4 : tie.Need-returns-4
-unfolding fristAnswer
+unfolding fristDueAtAnswer
 returns-4 c = search (needs, frist-rules)
 
 pub frist-due-at-answer-spec : {M : Type 1} → statement M

@@ -1,10 +1,10 @@
--- `antworten_vorlauf::eog_answer` meets its contract: what is refused is refused in order, and the rest goes to the layer below.
+-- `antworten_vorlauf::eog_ankuendigung_fristgerecht_answer` meets its contract: what is refused is refused in order, and the rest goes to the layer below.
 -- Assumes nothing.
 use Rattle.antworten_vorlauf.proofs.Rules.{eog-rules}
-use Rattle.antworten_vorlauf.specs.Vorlauf.{eogAnswer}
+use Rattle.antworten_vorlauf.specs.Vorlauf.{eogAnkuendigungFristgerechtAnswer}
 use borrow.Author.Needs.{needs}
-use Rattle.antworten_vorlauf.proofs.eog_answer.Statement.{statement}
-use Rattle.antworten_vorlauf.proofs.eog_answer.Tie as tie
+use Rattle.antworten_vorlauf.proofs.eog_ankuendigung_fristgerecht_answer.Statement.{statement}
+use Rattle.antworten_vorlauf.proofs.eog_ankuendigung_fristgerecht_answer.Tie as tie
 
 index-of-requires : tie.Need-index-of-requires
 index-of-requires c κs = search needs
@@ -19,7 +19,7 @@ refused-requires : tie.Need-refused-requires
 refused-requires c κs = search needs
 
 returns : tie.Need-returns
-unfolding eogAnswer
+unfolding eogAnkuendigungFristgerechtAnswer
 returns c = search (needs, eog-rules)
 
 enum-known-instant : tie.Need-enum-known-instant
@@ -32,7 +32,7 @@ refused-requires-2 : tie.Need-refused-requires-2
 refused-requires-2 c κs = search needs
 
 returns-2 : tie.Need-returns-2
-unfolding eogAnswer
+unfolding eogAnkuendigungFristgerechtAnswer
 returns-2 c = search (needs, eog-rules)
 
 eog-ankuendigung-fristgerecht-requires : tie.Need-eog-ankuendigung-fristgerecht-requires
@@ -42,11 +42,11 @@ announced-answer-requires : tie.Need-announced-answer-requires
 announced-answer-requires c κs = search needs
 
 returns-3 : tie.Need-returns-3
-unfolding eogAnswer
+unfolding eogAnkuendigungFristgerechtAnswer
 returns-3 c = search (needs, eog-rules)
 
-pub eog-answer-spec : {M : Type 1} → statement M
-eog-answer-spec =
+pub eog-ankuendigung-fristgerecht-answer-spec : {M : Type 1} → statement M
+eog-ankuendigung-fristgerecht-answer-spec =
     tie.close
     (tie.spec
     index-of-requires
