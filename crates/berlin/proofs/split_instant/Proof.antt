@@ -1,12 +1,13 @@
 -- `berlin::split_instant` meets its contract: floor division from division toward zero.
 -- Assumes nothing.
-use Rattle.datum.proofs.FloorLaws.{split-asks, split-day-fits, split-second-fits, split-day-down, split-second-down, split-day, split-second}
+use Rattle.datum.proofs.FloorLaws.{split-asks, split-day-fits, split-second-fits, split-day-down}
+use Rattle.datum.proofs.FloorLaws.{split-second-down, split-day, split-second}
 use Rattle.berlin.proofs.Instants.{by-86400}
 use Rattle.berlin.proofs.split_instant.Statement.{statement}
 use Rattle.berlin.proofs.split_instant.Tie as tie
 
-div-day : tie.Need-div-day
-div-day c = split-asks 86400 by-86400 (c .args .s) (c .fits .s)
+div-utcday : tie.Need-div-utcday
+div-utcday c = split-asks 86400 by-86400 (c .args .s) (c .fits .s)
 
 rem-second : tie.Need-rem-second
 rem-second c = split-asks 86400 by-86400 (c .args .s) (c .fits .s)
@@ -30,4 +31,4 @@ returns-2 c = (
 )
 
 pub split-instant-spec : {M : Type 1} → statement M
-split-instant-spec = tie.close (tie.spec div-day rem-second sub-t5 add-t6 returns returns-2)
+split-instant-spec = tie.close (tie.spec div-utcday rem-second sub-t5 add-t6 returns returns-2)
