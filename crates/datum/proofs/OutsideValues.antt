@@ -21,7 +21,7 @@ pub edges :
 unfolding indexOf isDate start yearLen daysInMonth isLeap
 edges = refl
 
--- February in 2023, 2024, 2100 (of the full hundreds, only every fourth is a isLeap year) and 2400
+-- February in 2023, 2024, 2100 (of the full hundreds, only every fourth is a leap year) and 2400
 pub februaries : daysInMonth (isLeap 2023) 2 ∷ daysInMonth (isLeap 2024) 2 ∷ daysInMonth (isLeap 2100) 2 ∷ daysInMonth (isLeap 2400) 2 ∷ [] ≡ 28 ∷ 29 ∷ 28 ∷ 29 ∷ []
 unfolding daysInMonth isLeap
 februaries = refl

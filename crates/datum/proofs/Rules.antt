@@ -54,7 +54,7 @@ len-other l (suc zero) h = refl
 len-other l (suc (suc zero)) h = absurd (h refl)
 len-other l (suc (suc (suc m))) h = refl
 
--- month_start: the table of a common year, one more after a isLeap year's February
+-- month_start: the table of a common year, one more after a leap year's February
 abbrev pub before : List ℕ
 before = 0 ∷ 0 ∷ 31 ∷ 59 ∷ 90 ∷ 120 ∷ 151 ∷ 181 ∷ 212 ∷ 243 ∷ 273 ∷ 304 ∷ 334 ∷ 365 ∷ []
 

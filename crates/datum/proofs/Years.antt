@@ -1,5 +1,5 @@
 -- The first day of a year in closed form, and the year of a day.
---   closed         the days before a year, by the years' isLeap days
+--   closed         the days before a year, by the years' leap days
 --   yearLen-bounds a year has 365 or 366 days
 --   start-all      the 904 years have 330,180 days
 --   year-found     a year that starts by a day, and whose next starts after it, is the day's
@@ -42,7 +42,7 @@ by400 y h = omega arith
 cancel : (p q r p′ q′ r′ : ℕ) (a b c : Bool) → p ≡ p′ + bit a → q ≡ q′ + bit b → r ≡ r′ + bit c → bit (a && (not b || c)) + bit b ≡ bit a + bit c → bit (a && (not b || c)) + (p′ + r′) + q ≡ p + r + q′
 cancel p q r p′ q′ r′ a b c e f g h = omega arith
 
--- isLeap days up to and including a year, less those up to the year before: one, if it is a isLeap year
+-- leap days up to and including a year, less those up to the year before: one, if it is a leap year
 leap-tests : (y : ℕ) (a b c : Bool) → eqb (suc y % 4) 0 ≡ a → eqb (suc y % 100) 0 ≡ b → eqb (suc y % 400) 0 ≡ c → bit (a && (not b || c)) + (y / 4 + y / 400) + suc y / 100 ≡ suc y / 4 + suc y / 400 + y / 100
 leap-tests y true true true p q r = cancel (suc y / 4) (suc y / 100) (suc y / 400) (y / 4) (y / 100) (y / 400) true true true (step4 y true p) (step100 y true q) (step400 y true r) refl
 leap-tests y true true false p q r = cancel (suc y / 4) (suc y / 100) (suc y / 400) (y / 4) (y / 100) (y / 400) true true false (step4 y true p) (step100 y true q) (step400 y false r) refl

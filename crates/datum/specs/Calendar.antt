@@ -1,6 +1,6 @@
 -- The Gregorian calendar from 1 January 1996 to 31 December 2899.
---   isLeap y          = whether y is a isLeap year
---   daysInMonth l m    = days of month m, counted from 1, in a isLeap (l) or a common year; 0 for no month
+--   isLeap y          = whether y is a leap year
+--   daysInMonth l m    = days of month m, counted from 1, in a leap (l) or a common year; 0 for no month
 --   monthStart l m  = days of the year before month m
 --   yearLen k       = days of the year 1996 + k
 --   yearStart k     = days from 1 January 1996 to 1 January of the year 1996 + k

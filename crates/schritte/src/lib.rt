@@ -2,12 +2,36 @@
 // LAST. What a step or a count is, is defined in zaehlung for any test of a day; here the test is the holiday list's.
 ghost use mathlib.Core.Path.{_≡_};
 ghost use Prim.Native.Nat.{_≤_};
-ghost use Rattle.zaehlung.specs.Walk.{last, add, sub, between, next};
+ghost use Rattle.zaehlung.specs.Walk.{last, dayAfter, dayBefore, add, sub, next, W, between};
 ghost use Rattle.werktag.specs.Werktag.{isWerktag};
 use werktag::HolidayCalendar;
 use zaehlung::FIRST;
 use zaehlung::LAST;
 use zaehlung::Step;
+
+/// The day after, Werktag or not, or `Outside` past the calendar's last day.
+///
+/// After 31 December 2025: 1 January 2026.
+pub fn day_after(day: u32) -> Step
+    ensures { λ r. ⌜ r ≡ dayAfter day ⌝ }
+{
+    if LAST <= day {
+        return Step::Outside;
+    }
+    Step::Day(day + 1)
+}
+
+/// The day before, Werktag or not, or `Outside` before the calendar's first day.
+///
+/// Before 1 January 2026: 31 December 2025.
+pub fn day_before(day: u32) -> Step
+    ensures { λ r. ⌜ r ≡ dayBefore day ⌝ }
+{
+    if day <= FIRST {
+        return Step::Outside;
+    }
+    Step::Day(day - 1)
+}
 
 /// The `n`-th Werktag after `from`, or `Outside` where that would be past the calendar's last day.
 ///
@@ -99,4 +123,29 @@ pub fn next_werktag(from: u32, cal: HolidayCalendar) -> Step
         day += 1;
     }
     Step::Day(day)
+}
+
+/// W(n) of document 01: 't for n = 0, else the day after the n-th Werktag on or after t', or `Outside` where that would be past
+/// the calendar's last day. Each day that is left behind is tested.
+///
+/// With `n = 0`: `t` unchanged, Werktag or not.
+///
+/// From Saturday 10 January 2026 with 1: the Werktag is Monday 12, so Tuesday 13 January. `add_werktage` reaches the Monday.
+pub fn day_after_werktage(t: u32, n: u32, cal: HolidayCalendar) -> Step
+    requires { ⌜ t ≤ last ⌝ }
+    ensures { λ r. ⌜ r ≡ W (isWerktag cal) t n ⌝ }
+{
+    let mut current = t;
+    let mut remaining = n;
+    while 0 < remaining {
+        if LAST <= current {
+            return Step::Outside;
+        }
+        let left = current;
+        current += 1;
+        if werktag::is_werktag(left, cal) {
+            remaining -= 1;
+        }
+    }
+    Step::Day(current)
 }

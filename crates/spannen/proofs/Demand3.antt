@@ -16,15 +16,17 @@ use native.Mathlib.Omega.{arith}
 use Rattle.zaehlung.specs.Walk.{last}
 use Rattle.datum.specs.Calendar.{dateOf}
 use Rattle.vorlauf.specs.declared.VorlaufShape.{VorlaufShape}
-use Rattle.vorlauf.specs.declared.VorlaufShape.the-variants.{LatestWerktageBefore, WindowWerktageBefore, LatestWerktageAfter, EarliestWerktageAfter}
-use Rattle.vorlauf.specs.declared.VorlaufShape.the-variants.{Korridor, TagVorDemLetztenWerktagVor, LatestMonateBefore}
+use Rattle.vorlauf.specs.declared.VorlaufShape.the-variants.{LatestWerktageBefore, WindowWerktageBefore}
+use Rattle.vorlauf.specs.declared.VorlaufShape.the-variants.{LatestWerktageAfter, EarliestWerktageAfter, Korridor}
+use Rattle.vorlauf.specs.declared.VorlaufShape.the-variants.{TagVorDemLetztenWerktagVor, LatestMonateBefore}
 use Rattle.vorlauf.specs.declared.VorlaufVerdict.the-variants.{Ok, TooLate, Outside as Refused}
 use Rattle.vorlauf.specs.declared.Span.the-variants.{Empty, Outside as Leaves}
 use Rattle.vorlauf.specs.Verdict.{checkOf}
 use Rattle.vorlauf.specs.Span.{spanOf, liesIn, begins}
 use Rattle.spannen.proofs.SpansShapes.{shape-spans}
 use Rattle.spannen.proofs.SpansFirst.{accepted-least, first-accepted, empty-rejects}
-use Rattle.spannen.proofs.SpansNamed.{earliest-named, tag-named, month-named, before-named, window-named, after-named, korridor-named, before-ok}
+use Rattle.spannen.proofs.SpansNamed.{earliest-named, tag-named, month-named, before-named, window-named}
+use Rattle.spannen.proofs.SpansNamed.{after-named, korridor-named, after-not, korridor-not, before-ok}
 
 module _ (w : ℕ → Bool) (t : ℕ) (ht : t ≤ last) where
   -- Where 'the span stays inside the calendar', an anchor whose verdict isn't refused is acceptable exactly if it 'lies in the
@@ -78,11 +80,21 @@ module _ (w : ℕ → Bool) (t : ℕ) (ht : t ≤ last) where
     named-window = window-named w t ht a ha b y
 
     -- 'for `LatestWerktageAfter` and `Korridor` never'
-    pub named-after : (n : ℕ) → checkOf w (LatestWerktageAfter n) t a ≡ TooLate b y → begins (spanOf w (LatestWerktageAfter n) t) y → ⊥
+    pub named-after :
+        (n : ℕ) → checkOf w (LatestWerktageAfter n) t a ≡ TooLate b y → begins (spanOf w (LatestWerktageAfter n) t) y → ⊥
     named-after = after-named w t ht a ha b y
 
     pub named-korridor : (n : ℕ) → checkOf w (Korridor n) t a ≡ TooLate b y → begins (spanOf w (Korridor n) t) y → ⊥
     named-korridor = korridor-named w t ht a ha b y
+
+    -- 'Under TooLate, `LatestWerktageAfter` names the anchor itself and `Korridor` its opening day; neither is then an
+    -- acceptable anchor.'
+    pub unacceptable-after :
+        (n : ℕ) → checkOf w (LatestWerktageAfter n) t a ≡ TooLate b y → checkOf w (LatestWerktageAfter n) t y ≢ Ok
+    unacceptable-after = after-not w t ht a ha b y
+
+    pub unacceptable-korridor : (n : ℕ) → checkOf w (Korridor n) t a ≡ TooLate b y → checkOf w (Korridor n) t y ≢ Ok
+    unacceptable-korridor = korridor-not w t ht a ha b y
 
     -- 'For `LatestWerktageBefore` with n at least 1 the date is acceptable exactly if t is a Werktag.'
     pub named-acceptable :

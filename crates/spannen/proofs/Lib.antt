@@ -5,5 +5,7 @@ pub mod SpansMonths
 pub mod SpansCases
 pub mod SpansShapes
 pub mod SpansFirst
+pub mod SpansLate
 pub mod SpansNamed
 pub mod Demand3
+pub mod Closes

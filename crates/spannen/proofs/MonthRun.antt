@@ -5,7 +5,6 @@
 --   date-run      a date's index and `origin` are the days of all months before its own, and the days before it in that
 --   day-run       the same of the date of an index, which has the day
 --   on-run        the same of a date that a shift by months reached
---   on-inside     such a date is one of the calendar
 --   on-day        its day is the one asked for, or the month's last
 -- Source: document 01, lib.rs, months.
 -- Assumes nothing.
@@ -26,9 +25,9 @@ use Rattle.zaehlung.proofs.Every.{run, run-at}
 use Rattle.datum.specs.declared.Date.{Date}
 use Rattle.datum.specs.Calendar.{isLeap, daysInMonth, monthStart, yearLen, yearStart, daysBefore, dateOf}
 use Rattle.datum.specs.MonthShift.{ordinalOf, inMonth, onMonth}
-use Rattle.datum.proofs.Dates.{Valid, yearLen-at, months-sum, month-first, index-date, index-below, date-index}
+use Rattle.datum.proofs.Dates.{Valid, yearLen-at, months-sum, month-first, index-date, date-index}
 use Rattle.datum.proofs.Years.{start-none}
-use Rattle.vorlauf.specs.Monate.{toStep}
+use Rattle.datum.specs.Monate.{toStep}
 
 abbrev pub monthDays : ℕ → ℕ
 monthDays o = daysInMonth (isLeap (o / 12)) (o % 12 + 1)
@@ -137,9 +136,6 @@ on-valid t x e h p =
       day-from = omega (arith, month-has t);
       day-to = omega arith;
     }
-
-pub on-inside : (t x e : ℕ) → 1 ≤ x → toStep (onMonth (pos t) x) ≡ Day e → e ≤ last
-on-inside t x e h p = omega (arith, on-date t x e p .2, index-below (onDate t x) (on-valid t x e h p))
 
 pub on-day : (t x e : ℕ) → 1 ≤ x → toStep (onMonth (pos t) x) ≡ Day e → dateOf e .day ≡ min x (monthDays t)
 on-day t x e h p = rw (on-date t x e p .2, date-index (onDate t x) (on-valid t x e h p))

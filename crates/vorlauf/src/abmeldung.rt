@@ -6,7 +6,8 @@ ghost use mathlib.Core.Path.{_≡_};
 ghost use Prim.Native.Nat.{_≤_};
 ghost use Rattle.zaehlung.specs.Walk.{last};
 ghost use Rattle.werktag.specs.Werktag.{isWerktag};
-ghost use Rattle.vorlauf.specs.Abmeldung.{same, fuerOf, shapeOf, abmeldungOf, insideAbmeldung};
+ghost use Rattle.vorlauf.specs.Abmeldung.{sameBytes, fuerOf, shapeOf, abmeldungCheckOf};
+ghost use Rattle.vorlauf.specs.Inside.{insideAbmeldung};
 use super::VorlaufShape;
 use super::VorlaufVerdict;
 use werktag::HolidayCalendar;
@@ -44,7 +45,7 @@ pub enum AbmeldungVerdict {
 
 /// Whether two byte strings are the same.
 fn same_bytes(a: &[u8], b: &[u8]) -> bool
-    ensures { λ r. ⌜ r ≡ same (now (a .entry)) (now (b .entry)) ⌝ }
+    ensures { λ r. ⌜ r ≡ sameBytes (now (a .entry)) (now (b .entry)) ⌝ }
 {
     if a.len() != b.len() {
         return false;
@@ -97,7 +98,7 @@ impl AbmeldungVorlauf {
         cal: HolidayCalendar,
     ) -> AbmeldungVerdict
         requires { ⌜ (uebertragungstag ≤ last) × (zuordnungsende ≤ last) ⌝ }
-        ensures { λ r. ⌜ (r ≡ abmeldungOf (isWerktag cal) self uebertragungstag zuordnungsende) × insideAbmeldung r ⌝ }
+        ensures { λ r. ⌜ (r ≡ abmeldungCheckOf (isWerktag cal) self uebertragungstag zuordnungsende) × insideAbmeldung r ⌝ }
     {
         let AbmeldungShape::Some(shape) = self.shape() else {
             return AbmeldungVerdict::NoShape;

@@ -1,9 +1,9 @@
--- `vorlauf::monate::months_or_first` meets its contract: the date of a day has that day's index.
+-- `datum::monate::months_or_first` meets its contract: the date of a day has that day's index.
 -- Assumes nothing.
-use Rattle.vorlauf.proofs.MonthRules.{month-rules}
+use Rattle.datum.proofs.MonthStepRules.{month-rules}
 use borrow.Author.Needs.{needs}
-use Rattle.vorlauf.proofs.monate.months_or_first.Statement.{statement}
-use Rattle.vorlauf.proofs.monate.months_or_first.Tie as tie
+use Rattle.datum.proofs.monate.months_or_first.Statement.{statement}
+use Rattle.datum.proofs.monate.months_or_first.Tie as tie
 
 date-of-requires : tie.Need-date-of-requires
 date-of-requires c κs = search needs

@@ -1,10 +1,10 @@
--- `vorlauf::monate::to_step` meets its contract: each arm is a clause of `toStep`, and a date that a shift reached is one
+-- `datum::monate::to_step` meets its contract: each arm is a clause of `toStep`, and a date that a shift reached is one
 -- of the range, as the caller shows.
 -- Assumes nothing.
 use borrow.Author.Needs.{needs}
-use Rattle.vorlauf.proofs.MonthRules.{month-rules}
-use Rattle.vorlauf.proofs.monate.to_step.Statement.{statement}
-use Rattle.vorlauf.proofs.monate.to_step.Tie as tie
+use Rattle.datum.proofs.MonthStepRules.{month-rules}
+use Rattle.datum.proofs.monate.to_step.Statement.{statement}
+use Rattle.datum.proofs.monate.to_step.Tie as tie
 
 enum-known-shifted : tie.Need-enum-known-shifted
 enum-known-shifted c = search needs

@@ -1,5 +1,5 @@
--- `vorlauf::day_after_werktage` meets its contract. The invariant: from here the walk reaches what it reaches from the
--- start. Each turn and each return is then a rule of StepRules, which goes by the clauses of `W`; the days that are left
+-- `schritte::day_after_werktage` meets its contract. The invariant: from here the walk reaches what it reaches from the
+-- start. Each turn and each return is then a rule of Rules, which goes by the clauses of `W`; the days that are left
 -- grow fewer.
 -- Assumes nothing.
 use Prim.Native.Nat.{_-_}
@@ -7,9 +7,9 @@ use mathlib.Core.Path.{_≡_}
 use borrow.Author.Needs.{needs}
 use Rattle.zaehlung.specs.Walk.{last, W}
 use Rattle.werktag.specs.Werktag.{isWerktag}
-use Rattle.vorlauf.proofs.StepRules.{step-rules}
-use Rattle.vorlauf.proofs.day_after_werktage.Statement.{statement}
-use Rattle.vorlauf.proofs.day_after_werktage.Tie as tie
+use Rattle.schritte.proofs.Rules.{rules}
+use Rattle.schritte.proofs.day_after_werktage.Statement.{statement}
+use Rattle.schritte.proofs.day_after_werktage.Tie as tie
 
 abbrev Inv-loop : tie.InvT-loop
 Inv-loop t n cal current₀ remaining₀ current remaining = W (isWerktag cal) t n ≡ W (isWerktag cal) current remaining
@@ -21,7 +21,7 @@ loop-holds : tie.Need-loop-holds Inv-loop μ-loop
 loop-holds c = search needs
 
 returns : tie.Need-returns Inv-loop μ-loop
-returns c = search (needs, step-rules)
+returns c = search (needs, rules)
 
 add-current : tie.Need-add-current Inv-loop μ-loop
 add-current c = search needs
@@ -36,16 +36,16 @@ loop-less : tie.Need-loop-less Inv-loop μ-loop
 loop-less c = search needs
 
 loop-again : tie.Need-loop-again Inv-loop μ-loop
-loop-again c = search (needs, step-rules)
+loop-again c = search (needs, rules)
 
 loop-less-2 : tie.Need-loop-less-2 Inv-loop μ-loop
 loop-less-2 c = search needs
 
 loop-again-2 : tie.Need-loop-again-2 Inv-loop μ-loop
-loop-again-2 c = search (needs, step-rules)
+loop-again-2 c = search (needs, rules)
 
 returns-2 : tie.Need-returns-2 Inv-loop μ-loop
-returns-2 c = search (needs, step-rules)
+returns-2 c = search (needs, rules)
 
 pub day-after-werktage-spec : {M : Type 1} → statement M
 day-after-werktage-spec =

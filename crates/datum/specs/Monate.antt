@@ -1,25 +1,20 @@
 -- Months before and after a day given by its index, BGB §188.
---   insideShift s           = the date that a shift by months reached is one of the calendar
 --   toStep s           = the index of the date that a shift by months reached, or Outside
 --   monthsLater i n    = day i and n months: `add_months`
 --   monthsEarlier i n  = day i less n months: `subtract_months`
---   M n i              = day i and n months, or, where the day was cut to the month's last, the first of the next month
+--   M n i              = day i and n months, or, where the day was cut to the month's last, the first of the next month:
+--                        `months_or_first`
 -- Source: BGB §188 Abs. 2 and 3; document 01, lib.rs and 'The span of anchors'.
 use Prim.Native.Nat.{ℕ, suc, _+_, _/_, _%_}
-use mathlib.Core.Bool.{true, cond}
-use mathlib.Core.Path.{_≡_}
+use mathlib.Core.Bool.{cond}
 use lib.Dec.{leb}
 use lib.IntN.{pos}
 use Rattle.zaehlung.specs.declared.Step.{Step}
 use Rattle.zaehlung.specs.declared.Step.the-variants.{Day, Outside}
 use Rattle.datum.specs.declared.Shifted.{Shifted}
 use Rattle.datum.specs.declared.Shifted.the-variants.{On, Outside as Left}
-use Rattle.datum.specs.Calendar.{isLeap, daysInMonth, isDate, daysBefore, dateOf}
+use Rattle.datum.specs.Calendar.{isLeap, daysInMonth, daysBefore, dateOf}
 use Rattle.datum.specs.MonthShift.{ordinalOf, onMonth, addMonths, subtractMonths}
-
-abbrev pub insideShift : Shifted → Type 0
-insideShift (On d) = isDate d ≡ true
-insideShift Left = Unit {0}
 
 abbrev pub toStep : Shifted → Step
 toStep (On d) = Day (daysBefore d)

@@ -21,13 +21,14 @@ use Rattle.zaehlung.specs.declared.Step.{Step}
 use Rattle.zaehlung.specs.declared.Step.the-variants.{Day, Outside}
 use Rattle.zaehlung.specs.Walk.{last}
 use Rattle.zaehlung.proofs.Every.{run, run-at}
 use Rattle.datum.specs.declared.Date.{Date}
 use Rattle.datum.specs.declared.Shifted.{Shifted}
 use Rattle.datum.specs.declared.Shifted.the-variants.{On, Outside as Left}
 use Rattle.datum.specs.Calendar.{isLeap, daysInMonth, isDate, daysBefore, dateOf}
 use Rattle.datum.specs.MonthShift.{ordinalOf, inMonth, onMonth, addMonths, subtractMonths}
 use Rattle.datum.proofs.Dates.{valid-is, is-valid, index-below, index-date}
-use Rattle.vorlauf.specs.Monate.{insideShift, toStep, monthsLater, monthsEarlier, M}
+use Rattle.datum.specs.Inside.{insideShift}
+use Rattle.datum.specs.Monate.{toStep, monthsLater, monthsEarlier, M}
 
 -- every month has a day
 len-some : (l : Bool) (m : ℕ) → 1 ≤ m → m ≤ 12 → 1 ≤ daysInMonth l m

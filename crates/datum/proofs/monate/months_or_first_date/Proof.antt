@@ -1,9 +1,9 @@
--- `vorlauf::monate::months_or_first_date` meets its contract. The day was cut exactly if the date reached has a smaller day, and the first of the next month is the first of the month reached and a month (Months: `M-kept`, `M-cut`, `M-out`).
+-- `datum::monate::months_or_first_date` meets its contract. The day was cut exactly if the date reached has a smaller day, and the first of the next month is the first of the month reached and a month (Months: `M-kept`, `M-cut`, `M-out`).
 -- Assumes nothing.
-use Rattle.vorlauf.proofs.MonthRules.{date-shift-rules}
+use Rattle.datum.proofs.MonthStepRules.{date-shift-rules}
 use borrow.Author.Needs.{needs}
-use Rattle.vorlauf.proofs.monate.months_or_first_date.Statement.{statement}
-use Rattle.vorlauf.proofs.monate.months_or_first_date.Tie as tie
+use Rattle.datum.proofs.monate.months_or_first_date.Statement.{statement}
+use Rattle.datum.proofs.monate.months_or_first_date.Tie as tie
 
 add-months-requires : tie.Need-add-months-requires
 add-months-requires c κs = search (needs, date-shift-rules)

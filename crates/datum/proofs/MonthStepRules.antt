@@ -2,7 +2,7 @@
 -- returned, s and v are what shifts returned, r and u steps.
 --   month-some date-month      the month of a date is one: what a shift asks
 --   *-dated first-dated        a shift reaches a date of the range: what `to_step` asks
---   date-valid                 so that date is isDate: what `days_before` asks
+--   date-valid                 so that date is one of the range: what `days_before` asks
 --   toStep-* later-is earlier-is   the returns of `to_step`, `months_later`, `months_earlier`
 --   date-gone date-kept date-first   the three returns of `months_or_first_date`; date-reached is what the second promises
 --   M-dated                    the return of `months_or_first`
@@ -17,14 +17,15 @@ use Rattle.zaehlung.specs.declared.Step.{Step}
 use Rattle.zaehlung.specs.declared.Step.the-variants.{Day}
 use Rattle.zaehlung.specs.declared.Step.the-variants.{Outside as Left}
 use Rattle.zaehlung.specs.Walk.{last}
 use Rattle.datum.specs.declared.Date.{Date}
 use Rattle.datum.specs.declared.Shifted.{Shifted}
 use Rattle.datum.specs.declared.Shifted.the-variants.{On, Outside as Gone}
 use Rattle.datum.specs.Calendar.{isDate, daysBefore, dateOf}
 use Rattle.datum.specs.MonthShift.{addMonths, subtractMonths}
 use Rattle.datum.proofs.Dates.{index-date, date-index, index-below, valid-is, is-valid}
-use Rattle.vorlauf.specs.Monate.{insideShift, toStep, monthsLater, monthsEarlier, M}
-use Rattle.vorlauf.proofs.Months.{added-date, taken-date, M-kept, M-cut, M-out}
+use Rattle.datum.specs.Inside.{insideShift}
+use Rattle.datum.specs.Monate.{toStep, monthsLater, monthsEarlier, M}
+use Rattle.datum.proofs.Months.{added-date, taken-date, M-kept, M-cut, M-out}
 
 pub month-some : (i : ℕ) (d : Date) → i ≤ last → d ≡ dateOf i → 1 ≤ d .month
 month-some i d h e = rw e (index-date i h .0 .month-from)
