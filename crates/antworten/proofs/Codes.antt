@@ -1,6 +1,6 @@
 -- Codes, for every list of what they mean: the one way in which a code is read.
 --   entry-rules   for a function that gives the entry with a code: each arm of its `match` but the last, and the last
---   past          what the last arm knows: the code is none of the numbers before
+--   none-before   what the last arm knows: the code is none of the numbers before
 --   code-rules    for a call with a code: a code past the list is refused with 2, any other goes on with its entry
 -- Assumes nothing.
 use Prim.Native.Nat.{ℕ, zero, suc, _≤_, _<_}
@@ -24,14 +24,14 @@ module _ {A : Type 0} (l : List A) (d a : A) (x k : ℕ) where
 pub ruleset entry-rules = (entry, entry-last)
 
 -- x is none of the first k numbers
-abbrev pub Past : ℕ → ℕ → Type 0
-Past x zero = Unit {0}
-Past x (suc k) = Past x k × (x ≡ k → ⊥)
+abbrev pub NoneBefore : ℕ → ℕ → Type 0
+NoneBefore x zero = Unit {0}
+NoneBefore x (suc k) = NoneBefore x k × (x ≡ k → ⊥)
 
-pub past : (x k : ℕ) → Past x k → k ≤ x
-past x zero h = omega arith
-past x (suc k) h =
-    let l = past x k (h .0) in
+pub none-before : (x k : ℕ) → NoneBefore x k → k ≤ x
+none-before x zero h = omega arith
+none-before x (suc k) h =
+    let l = none-before x k (h .0) in
     elim (decLe (suc k) x) [
       | yes p ↦ p
       | no p ↦ absurd (h .1 (omega arith))

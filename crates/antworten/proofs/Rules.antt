@@ -33,7 +33,8 @@ use Rattle.berlin.specs.declared.Resolved.the-variants.{At as Shown, Absent as 
 use Rattle.berlin.specs.declared.Beginn.{Beginn}
 use Rattle.berlin.specs.declared.Beginn.the-variants.{Day as Begins, NoBeginning}
 use Rattle.berlin.specs.declared.Sparte.{Sparte}
-use Rattle.berlin.specs.Berlin.{Proper, ProperClock, secondsOf, readInstant, readClock, berlinAt, berlinMidnight, endOfDayBerlin, tagesbeginnUtc, tagDesBeginns}
+use Rattle.berlin.specs.Inside.{Proper, ProperClock}
+use Rattle.berlin.specs.Berlin.{secondsOf, readInstant, readClock, berlinAt, berlinMidnight, endOfDayBerlin, tagesbeginnUtc, tagDesBeginns}
 use Rattle.berlin.proofs.Proper.{read-proper, clock-proper as read-clock-proper, at-proper, midnight-proper, end-proper, begin-proper, beginn-le}
 use Rattle.datum.proofs.Signed.{back, back-pos}
 use Rattle.werktag.specs.declared.HolidayCalendar.{HolidayCalendar}

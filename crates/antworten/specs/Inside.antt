@@ -15,7 +15,7 @@ use Rattle.berlin.specs.declared.Resolved.{Resolved}
 use Rattle.berlin.specs.declared.Resolved.the-variants.{At as Shown, Absent as Never}
 use Rattle.berlin.specs.declared.Beginn.{Beginn}
 use Rattle.berlin.specs.declared.Beginn.the-variants.{Day as Begins, NoBeginning}
-use Rattle.berlin.specs.Berlin.{Proper, ProperClock}
+use Rattle.berlin.specs.Inside.{Proper, ProperClock}
 
 abbrev pub inside : Step → Type 0
 inside (Day d) = d ≤ last

@@ -17,7 +17,7 @@ use Prim.Native.Nat.{ℕ, zero, suc}
 use mathlib.Core.List.{List, [], _∷_}
 use lib.IntN.{pos}
 use Rattle.zaehlung.specs.declared.Step.{Step}
-use Rattle.zaehlung.specs.declared.Step.the-variants.{Day, Outside}
+use Rattle.zaehlung.specs.Walk.{onStep}
 use Rattle.datum.specs.declared.Date.{Date}
 use Rattle.datum.specs.declared.Index.{Index}
 use Rattle.datum.specs.declared.Index.the-variants.{Day as At, NoDate}
@@ -31,12 +31,11 @@ use Rattle.berlin.specs.declared.Reading.the-variants.{At as Read, NoInstant}
 use Rattle.berlin.specs.declared.ClockReading.{ClockReading}
 use Rattle.berlin.specs.declared.ClockReading.the-variants.{At as Clocked, NoClock}
 use Rattle.berlin.specs.declared.Resolved.{Resolved}
-use Rattle.berlin.specs.declared.Resolved.the-variants.{At as Shown, Absent as Never}
 use Rattle.berlin.specs.declared.Beginn.{Beginn}
 use Rattle.berlin.specs.declared.Beginn.the-variants.{Day as Begins, NoBeginning}
 use Rattle.berlin.specs.declared.Sparte.{Sparte}
 use Rattle.berlin.specs.declared.Sparte.the-variants.{Strom, Gas}
-use Rattle.berlin.specs.Berlin.{secondsOf}
+use Rattle.berlin.specs.Berlin.{secondsOf, onResolved}
 use Rattle.antwortsatz.specs.declared.Answer.{Answer}
 use Rattle.antwortsatz.specs.Refusals.{unknownCode, noDate, instantOutside, noClock, localTimeAbsent, noBeginning, leavesCalendar}
 use Rattle.antwortsatz.specs.Answers.{refused, dated, atInstant}
@@ -70,8 +69,7 @@ onClock NoClock f = refused noClock
 
 -- 'A step fills the date'; '8, a result leaves the calendar'
 abbrev pub stepAnswer : Step → Answer
-stepAnswer (Day d) = dated (dateOf d)
-stepAnswer Outside = refused leavesCalendar
+stepAnswer s = onStep (refused leavesCalendar) s (λ d. dated (dateOf d))
 
 abbrev pub shiftAnswer : Shifted → Answer
 shiftAnswer (On d) = dated d
@@ -82,8 +80,7 @@ momentAnswer k m = atInstant k (pos (secondsOf m)) (m .nanos)
 
 -- '6, local time absent'
 abbrev pub resolvedAnswer : Resolved → Answer
-resolvedAnswer (Shown m) = momentAnswer 0 m
-resolvedAnswer Never = refused localTimeAbsent
+resolvedAnswer r = onResolved (refused localTimeAbsent) r (momentAnswer 0)
 
 -- '7, not the beginning of a day in that Sparte'
 abbrev pub onBeginn : Beginn → (ℕ → Answer) → Answer

@@ -14,7 +14,7 @@ use Rattle.datum.specs.declared.Date.{Date}
 use Rattle.datum.specs.Calendar.{indexOf, dateOf}
 use Rattle.berlin.specs.declared.Reading.{Reading}
 use Rattle.berlin.specs.declared.ClockReading.{ClockReading}
-use Rattle.berlin.specs.Berlin.{secondsOf, berlinDay, berlinAt, berlinMidnight, endOfDayBerlin, tagesbeginnUtc, tagDesBeginns}
+use Rattle.berlin.specs.Berlin.{berlinDate, berlinAt, berlinMidnight, endOfDayBerlin, tagesbeginnUtc, tagDesBeginns}
 use Rattle.antwortsatz.specs.declared.Answer.{Answer}
 use Rattle.antwortsatz.specs.Answers.{dated}
 use Rattle.antworten.specs.Reading.{onCode, sparten, onDate, onInstant, onClock, momentAnswer, resolvedAnswer, beginnAnswer}
@@ -32,7 +32,7 @@ unfoldable pub tagesbeginnUtcAnswer : Date → ℕ → Answer
 tagesbeginnUtcAnswer d x = onCode sparten x (λ p. onDate (indexOf d) (λ i. momentAnswer 0 (tagesbeginnUtc i p)))
 
 unfoldable pub berlinDateAnswer : Reading → Answer
-berlinDateAnswer k = onInstant k (λ m. dated (dateOf (berlinDay (secondsOf m))))
+berlinDateAnswer k = onInstant k (λ m. dated (dateOf (berlinDate m)))
 
 unfoldable pub tagDesBeginnsAnswer : Reading → ℕ → Answer
 tagDesBeginnsAnswer k x = onCode sparten x (λ p. onInstant k (λ m. beginnAnswer (tagDesBeginns m p)))

@@ -2,7 +2,7 @@
 ghost use mathlib.Core.Path.{_≡_};
 ghost use Prim.Native.Nat.{_<_};
 ghost use lib.ListN.{length, getD};
-ghost use Rattle.berlin.specs.Berlin.{Proper};
+ghost use Rattle.berlin.specs.Inside.{Proper};
 ghost use Rattle.antworten.specs.Inside.{insideBeginn, properReading, properClock, properResolved};
 ghost use Rattle.antworten.specs.Reading.{sparten, momentAnswer, resolvedAnswer, beginnAnswer};
 ghost use Rattle.antworten.specs.Uhrzeit.{berlinAtAnswer, berlinMidnightAnswer, endOfDayBerlinAnswer};

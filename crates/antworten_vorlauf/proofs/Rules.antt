@@ -25,10 +25,12 @@ use Rattle.vorlauf.specs.declared.Span.the-variants.{From, Both, Empty, Outside
 use Rattle.vorlauf.specs.declared.abmeldung.AbmeldungVorlauf.{AbmeldungVorlauf}
 use Rattle.vorlauf.specs.declared.abmeldung.AbmeldungVerdict.{AbmeldungVerdict}
 use Rattle.vorlauf.specs.declared.abmeldung.AbmeldungVerdict.the-variants.{Verdict, NoShape}
-use Rattle.vorlauf.specs.Verdict.{checkOf, insideVerdict}
-use Rattle.vorlauf.specs.Monate.{insideShift, toStep, M}
-use Rattle.vorlauf.specs.Span.{from, spanOf, insideSpan}
-use Rattle.vorlauf.specs.Abmeldung.{abmeldungOf, insideAbmeldung}
+use Rattle.datum.specs.Inside.{insideShift}
+use Rattle.datum.specs.Monate.{toStep, M}
+use Rattle.vorlauf.specs.Verdict.{checkOf}
+use Rattle.vorlauf.specs.Span.{spanFrom, spanOf}
+use Rattle.vorlauf.specs.Abmeldung.{abmeldungCheckOf}
+use Rattle.vorlauf.specs.Inside.{insideVerdict, insideSpan, insideAbmeldung}
 use Rattle.ankuendigung.specs.declared.Fristgerecht.{Fristgerecht}
 use Rattle.ankuendigung.specs.declared.Fristgerecht.the-variants.{Nein as No, Ja as Yes, Weder as Neither, Outside as NoWerktag}
 use Rattle.antwortsatz.specs.declared.Answer.{Answer}
@@ -88,18 +90,18 @@ pub ruleset span-rules = (span-from, span-both, span-empty, span-leaves, from-in
 
 -- month_span_answer: s is what `months_or_first_date` returned
 module _ (d : Date) (n : ℕ) (s : Shifted) (p : toStep s ≡ M n (daysBefore d)) where
-  pub month-first : (f z : Date) (r : Answer) → insideShift s → s ≡ On f → z ≡ zeroDate → r ≡ spanned 0 f z → r ≡ spanAnswer (from (M n (daysBefore d)))
+  pub month-first : (f z : Date) (r : Answer) → insideShift s → s ≡ On f → z ≡ zeroDate → r ≡ spanned 0 f z → r ≡ spanAnswer (spanFrom (M n (daysBefore d)))
   month-first f z r h q g k =
       let u : f ≡ dateOf (daysBefore f) = sym (date-index f (valid-is f (rw q at h))) in
       rw (← p, q, ← u, ← g) k
 
-  pub month-gone : (r : Answer) → s ≡ Gone → r ≡ refused leavesCalendar → r ≡ spanAnswer (from (M n (daysBefore d)))
+  pub month-gone : (r : Answer) → s ≡ Gone → r ≡ refused leavesCalendar → r ≡ spanAnswer (spanFrom (M n (daysBefore d)))
   month-gone r q k = rw (← p, q) k
 
 pub ruleset month-span-rules = (month-first, month-gone)
 
 -- vorlauf_span_answer
-pub months-same : (w : ℕ → Bool) (u : VorlaufShape) (n t : ℕ) (r : Answer) → r ≡ spanAnswer (from (M n t)) → u ≡ LatestMonateBefore n → r ≡ spanAnswer (spanOf w u t)
+pub months-same : (w : ℕ → Bool) (u : VorlaufShape) (n t : ℕ) (r : Answer) → r ≡ spanAnswer (spanFrom (M n t)) → u ≡ LatestMonateBefore n → r ≡ spanAnswer (spanOf w u t)
 unfolding spanOf
 months-same w u n t r p e = rw e p
 
@@ -152,8 +154,8 @@ verdict-at w s d e a v r g q p = p ∙ ap verdictAnswer (q ∙ ap (λ (x : ℕ).
 pub case-same : (v u : AbmeldungVorlauf) (k : ℕ) (r : Answer) → v ≡ u → k ≡ caseCode v → r ≡ ofKind k → r ≡ ofKind (caseCode u)
 case-same v u k r e q p = p ∙ ap ofKind (q ∙ ap caseCode e)
 
-pub abmeldung-same : (w : ℕ → Bool) (v u : AbmeldungVorlauf) (t a : ℕ) (x : AbmeldungVerdict) (r : Answer) → v ≡ u → x ≡ abmeldungOf w v t a → r ≡ abmeldungAnswer x → r ≡ abmeldungAnswer (abmeldungOf w u t a)
-abmeldung-same w v u t a x r e q p = p ∙ ap abmeldungAnswer (q ∙ ap (λ (y : AbmeldungVorlauf). abmeldungOf w y t a) e)
+pub abmeldung-same : (w : ℕ → Bool) (v u : AbmeldungVorlauf) (t a : ℕ) (x : AbmeldungVerdict) (r : Answer) → v ≡ u → x ≡ abmeldungCheckOf w v t a → r ≡ abmeldungAnswer x → r ≡ abmeldungAnswer (abmeldungCheckOf w u t a)
+abmeldung-same w v u t a x r e q p = p ∙ ap abmeldungAnswer (q ∙ ap (λ (y : AbmeldungVorlauf). abmeldungCheckOf w y t a) e)
 
 pub announced-same : (x y : Fristgerecht) (r : Answer) → x ≡ y → r ≡ announcedAnswer x → r ≡ announcedAnswer y
 announced-same x y r e p = p ∙ ap announcedAnswer e

@@ -19,11 +19,11 @@ use Rattle.datum.specs.declared.Date.{Date}
 use Rattle.datum.specs.Calendar.{indexOf}
 use Rattle.berlin.specs.declared.Reading.{Reading}
 use Rattle.berlin.specs.declared.Sparte.{Sparte}
-use Rattle.berlin.specs.Berlin.{secondsOf, berlinDay, tagDesBeginns}
+use Rattle.berlin.specs.Berlin.{berlinDate, tagDesBeginns}
 use Rattle.vorlauf.specs.declared.VorlaufShape.{VorlaufShape}
 use Rattle.vorlauf.specs.Verdict.{checkOf}
 use Rattle.vorlauf.specs.Span.{spanOf}
-use Rattle.vorlauf.specs.Abmeldung.{fuerOf, abmeldungOf}
+use Rattle.vorlauf.specs.Abmeldung.{fuerOf, abmeldungCheckOf}
 use Rattle.ankuendigung.specs.Ankuendigung.{eogAnkuendigung}
 use Rattle.antwortsatz.specs.declared.Answer.{Answer}
 use Rattle.antwortsatz.specs.Answers.{ofKind}
@@ -39,7 +39,7 @@ vorlaufCheckAnswer w x n m d e =
 unfoldable pub checkAtInstants : (ℕ → Bool) → VorlaufShape → Sparte → Reading → Reading → Answer
 checkAtInstants w s q k l =
     onInstant k (λ r. onInstant l (λ b. onBeginn (tagDesBeginns b q) (λ a.
-    verdictAnswer (checkOf w s (berlinDay (secondsOf r)) a))))
+    verdictAnswer (checkOf w s (berlinDate r) a))))
 
 unfoldable pub vorlaufCheckAtAnswer : (ℕ → Bool) → ℕ → ℕ → ℕ → ℕ → Reading → Reading → Answer
 vorlaufCheckAtAnswer w x n m p k l =
@@ -55,7 +55,7 @@ abmeldungFuerAnswer b x = onCode eegMarks x (λ g. ofKind (caseCode (fuerOf b g)
 unfoldable pub abmeldungCheckAnswer : (ℕ → Bool) → List ℕ → ℕ → Date → Date → Answer
 abmeldungCheckAnswer w b x d e =
     onCode eegMarks x (λ g. onDate (indexOf d) (λ t. onDate (indexOf e) (λ a.
-    abmeldungAnswer (abmeldungOf w (fuerOf b g) t a))))
+    abmeldungAnswer (abmeldungCheckOf w (fuerOf b g) t a))))
 
 unfoldable pub eogAnkuendigungFristgerechtAnswer : (ℕ → Bool) → Reading → Date → Answer
 eogAnkuendigungFristgerechtAnswer w k d =

@@ -6,10 +6,9 @@ ghost use Prim.Native.Nat.{_<_};
 ghost use lib.ListN.{length, getD};
 ghost use Rattle.datum.specs.Calendar.{isDate, daysBefore};
 ghost use Rattle.werktag.specs.Werktag.{isWerktag};
-ghost use Rattle.vorlauf.specs.Verdict.{insideVerdict};
-ghost use Rattle.vorlauf.specs.Monate.{M};
-ghost use Rattle.vorlauf.specs.Span.{from, insideSpan};
-ghost use Rattle.vorlauf.specs.Abmeldung.{insideAbmeldung};
+ghost use Rattle.datum.specs.Monate.{M};
+ghost use Rattle.vorlauf.specs.Span.{spanFrom};
+ghost use Rattle.vorlauf.specs.Inside.{insideVerdict, insideSpan, insideAbmeldung};
 ghost use Rattle.antworten.specs.Inside.{properReading};
 ghost use Rattle.antworten_vorlauf.specs.VorlaufReading.{vorlaufShapes, eegMarks, verdictAnswer, abmeldungAnswer};
 ghost use Rattle.antworten_vorlauf.specs.VorlaufReading.{spanAnswer, caseCode, announcedAnswer};
@@ -226,9 +225,9 @@ pub fn vorlauf_check_at_answer(
 // The span of `LatestMonateBefore`: M(n, date) is a matter of dates, and needs no index.
 fn month_span_answer(date: Date, n: u32) -> Answer
     requires { ⌜ isDate date ≡ true ⌝ }
-    ensures { λ r. ⌜ r ≡ spanAnswer (from (M n (daysBefore date))) ⌝ }
+    ensures { λ r. ⌜ r ≡ spanAnswer (spanFrom (M n (daysBefore date))) ⌝ }
 {
-    match vorlauf::monate::months_or_first_date(date, n) {
+    match datum::monate::months_or_first_date(date, n) {
         Shifted::On(first) => antwortsatz::spanned(0, first, antwortsatz::zero_date()),
         Shifted::Outside => antwortsatz::refused(LEAVES_CALENDAR),
     }

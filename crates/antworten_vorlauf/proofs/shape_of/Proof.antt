@@ -1,6 +1,6 @@
 -- `antworten_vorlauf::shape_of` meets its contract: each arm gives its entry of the list.
 -- Assumes nothing.
-use Rattle.antworten.proofs.Codes.{entry-rules, past}
+use Rattle.antworten.proofs.Codes.{entry-rules, none-before}
 use borrow.Author.Needs.{needs}
 use Rattle.antworten_vorlauf.proofs.shape_of.Statement.{statement}
 use Rattle.antworten_vorlauf.proofs.shape_of.Tie as tie
@@ -27,7 +27,7 @@ returns-7 : tie.Need-returns-7
 returns-7 c = search (needs, entry-rules)
 
 returns-8 : tie.Need-returns-8
-returns-8 c = search (needs, entry-rules, past _ 7 (c .match .rest))
+returns-8 c = search (needs, entry-rules, none-before _ 7 (c .match .rest))
 
 pub shape-of-spec : {M : Type 1} → statement M
 shape-of-spec =
