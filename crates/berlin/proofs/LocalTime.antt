@@ -20,7 +20,8 @@ use Rattle.datum.specs.Calendar.{yearLen, yearOf}
 use Rattle.datum.proofs.Years.{start-all, start-none}
 use Rattle.berlin.specs.declared.Clock.{Clock}
 use Rattle.berlin.specs.declared.Resolved.the-variants.{At, Absent}
-use Rattle.berlin.specs.Berlin.{dayStart, momentOf, firstSecond, lastSecond, lastSunday, summerFrom, summerTo, yearAt, offsetAt, berlinClock, berlinAt}
+use Rattle.berlin.specs.Berlin.{dayStart, momentOf, firstSecond, lastSecond, lastSunday, summerFrom, summerTo}
+use Rattle.berlin.specs.Berlin.{yearAt, offsetAt, berlinClock, berlinAt}
 use Rattle.berlin.proofs.SummerTime.{sundays, in-year, Near, year-name, year-at, after-summer, summer-in, winter-late, winter-early}
 
 -- the offset is one or two hours

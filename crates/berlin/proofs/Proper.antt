@@ -1,4 +1,5 @@
 -- What the crates above cite: the instants that this crate's functions give are inside the limits.
+--   limits-hold      seconds that pass the test are inside the limits
 --   shown-proper     an instant that shows a time of a day of the calendar is inside the limits
 --   never-absent     a time from 03:00 on is never absent
 --   resolved-is      a time that is not absent: what `resolvedOr` gives is the earliest instant that shows it
@@ -25,26 +26,30 @@ use Rattle.berlin.specs.declared.Sparte.{Sparte}
 use Rattle.berlin.specs.declared.Sparte.the-variants.{Strom, Gas}
 use Rattle.berlin.specs.declared.Beginn.{Beginn}
 use Rattle.berlin.specs.declared.Beginn.the-variants.{Day, NoBeginning}
-use Rattle.berlin.specs.Berlin.{hours, minutes, oClock, momentOf, secondsOf, firstSecond, lastSecond, inLimits, readInstant}
+use Rattle.berlin.specs.Berlin.{hours, minutes, oClock, momentOf, secondsOf, firstSecond, lastSecond, inLimits}
+use Rattle.berlin.specs.Berlin.{readInstant}
 use Rattle.berlin.specs.Berlin.{readClock, berlinDate, berlinAt, resolvedOr, berlinMidnight, endOfDayBerlin}
 use Rattle.berlin.specs.Berlin.{tagesbeginnUtc, sameInstant, tagDesBeginns}
 use Rattle.berlin.specs.Inside.{Proper, ProperClock}
 use Rattle.berlin.proofs.LocalTime.{clock-to, clock-first, clock-final}
 use Rattle.berlin.proofs.Found.{moment-seconds, Earliest, is-earliest, absent-when}
 
+pub limits-hold : (s : ℕ) → inLimits s ≡ true → (firstSecond ≤ s) × (s ≤ lastSecond)
+unfolding inLimits
+limits-hold s h = (
+  leb-true firstSecond s (and-left (leb firstSecond s) _ h),
+  leb-true s lastSecond (and-right (leb firstSecond s) _ h),
+)
+
 -- read_instant, read_clock: what was read passed the tests
 read-passed : (s x : ℕ) (m : Moment) → readInstant (pos s) x ≡ At m → (m ≡ momentOf s x) × (firstSecond ≤ s) × (s ≤ lastSecond) × (x ≤ 999999999)
-unfolding readInstant inLimits
+unfolding readInstant
 read-passed s x m e = go (inLimits s && leb x 999999999) refl e
   where
     go : (b : Bool) → (inLimits s && leb x 999999999) ≡ b → cond b (At (momentOf s x)) NoInstant ≡ At m → (m ≡ momentOf s x) × (firstSecond ≤ s) × (s ≤ lastSecond) × (x ≤ 999999999)
     go true t q =
-        let u = and-left (inLimits s) _ t in (
-          (cc),
-          leb-true firstSecond s (and-left (leb firstSecond s) _ u),
-          leb-true s lastSecond (and-right (leb firstSecond s) _ u),
-          leb-true x 999999999 (and-right (inLimits s) _ t),
-        )
+        let u = limits-hold s (and-left (inLimits s) _ t) in
+        ((cc), u .0, u .1, leb-true x 999999999 (and-right (inLimits s) _ t))
     go false t q = let z : _≡_ {A = ℕ} 0 1 = cc in absurd (omega arith)
 
 pub read-proper : (s : ℤ) (x : ℕ) (r : Reading) (m : Moment) → r ≡ readInstant s x → r ≡ At m → Proper m
@@ -87,6 +92,10 @@ shown-proper i c m h u e =
 
 pub at-proper : (i : ℕ) (c : Clock) (r : Resolved) (m : Moment) → i ≤ last → ProperClock c → r ≡ berlinAt i c → r ≡ ResolvedAt m → Proper m
 at-proper i c r m h u e p = shown-proper i c m h u (is-earliest i c h u m (sym e ∙ p))
+
+-- what `is_before` asks
+pub shown-second : (i : ℕ) (c : Clock) (r : Resolved) (m : Moment) → i ≤ last → ProperClock c → r ≡ berlinAt i c → r ≡ ResolvedAt m → m .second < 86400
+shown-second i c r m h u e p = at-proper i c r m h u e p .second-lt
 
 -- a time that is not from 02:00 to before 03:00 is never absent
 pub not-absent : (i : ℕ) (c : Clock) (r : Resolved) → i ≤ last → ProperClock c → (7200 ≤ c .second → c .second < 10800 → ⊥) → r ≡ berlinAt i c → r ≡ Absent → ⊥
@@ -131,6 +140,9 @@ module _ (i : ℕ) (h : i ≤ last) where
 
   pub midnight-proper : (m : Moment) → m ≡ berlinMidnight i → Proper m
   midnight-proper m e = rw e (shown-proper i midnight (berlinMidnight i) h (proper-clock _ (omega arith) (omega arith)) midnight-earliest)
+
+  pub midnight-second : (m : Moment) → m ≡ berlinMidnight i → m .second < 86400
+  midnight-second m e = midnight-proper m e .second-lt
 
   pub end-proper : (m : Moment) → m ≡ endOfDayBerlin i → Proper m
   end-proper m e = rw e (shown-proper i last-second (endOfDayBerlin i) h (proper-clock _ (omega arith) (omega arith)) end-earliest)

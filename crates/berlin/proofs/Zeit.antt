@@ -20,8 +20,9 @@ use Rattle.datum.specs.Calendar.{dateOf, weekday}
 use Rattle.berlin.specs.declared.Moment.{Moment}
 use Rattle.berlin.specs.declared.Clock.{Clock}
 use Rattle.berlin.specs.declared.Resolved.the-variants.{At, Absent}
-use Rattle.berlin.specs.Berlin.{calendarStart, daySeconds, hours, dayStart, secondsOf, firstSecond, lastSecond, lastSunday}
-use Rattle.berlin.specs.Berlin.{berlinClock, berlinDay, berlinAt, berlinMidnight, endOfDayBerlin}
+use Rattle.berlin.specs.Berlin.{calendarStart, daySeconds, hours, dayStart, secondsOf, firstSecond, lastSecond}
+use Rattle.berlin.specs.Berlin.{lastSunday}
+use Rattle.berlin.specs.Berlin.{berlinClock, localOf, berlinDay, berlinAt, berlinMidnight, endOfDayBerlin}
 use Rattle.berlin.specs.Inside.{ProperClock}
 use Rattle.berlin.proofs.SummerTime.{sundays}
 use Rattle.berlin.proofs.LocalTime.{clock-from, clock-to, clock-first, clock-final}
@@ -30,7 +31,9 @@ use Rattle.berlin.proofs.Found.{absent-when, when-absent, repeated-when
 use Rattle.berlin.proofs.Proper.{end-earliest}
 use Rattle.berlin.proofs.Tiling.{midnight-begins, end-last}
 
-pub limits : (s : ℕ) → ((firstSecond ≤ s) × (s ≤ lastSecond)) ↔ ((calendarStart ≤ berlinClock s / daySeconds) × (berlinClock s / daySeconds ≤ calendarStart + last))
+pub limits : (s : ℕ) →
+    ((firstSecond ≤ s) × (s ≤ lastSecond))
+    ↔ ((calendarStart ≤ localOf s .berlinday) × (localOf s .berlinday ≤ calendarStart + last))
 limits s = (
   λ h. (omega (arith, clock-from s (h .0)), omega (arith, clock-to s (h .0) (h .1))),
   λ h. (clock-first s (omega (arith, h .0)), clock-final s (omega (arith, h .1))),

@@ -163,8 +163,9 @@ pub fn split_instant(s: i64) -> Split
     let utcday = s / DAY_SIGNED;
     let second = s % DAY_SIGNED;
     if second < 0 {
+        let below = utcday - 1;
         return Split {
-            utcday: utcday - 1,
+            utcday: below,
             second: second + DAY_SIGNED,
         };
     }

@@ -12,16 +12,16 @@ is-shown-before-requires : tie.Need-is-shown-before-requires
 is-shown-before-requires c κs = search needs
 
 returns : tie.Need-returns
-returns c = search (needs, offset-early, offset-summer, offset-late)
+returns c = search (needs, offset-early)
 
 is-shown-before-requires-2 : tie.Need-is-shown-before-requires-2
 is-shown-before-requires-2 c κs = search needs
 
 returns-2 : tie.Need-returns-2
-returns-2 c = search (needs, offset-early, offset-summer, offset-late)
+returns-2 c = search (needs, offset-summer)
 
 returns-3 : tie.Need-returns-3
-returns-3 c = search (needs, offset-early, offset-summer, offset-late)
+returns-3 c = search (needs, offset-late)
 
 pub offset-at-spec : {M : Type 1} → statement M
 offset-at-spec =

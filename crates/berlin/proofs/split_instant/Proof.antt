@@ -12,8 +12,8 @@ div-utcday c = split-asks 86400 by-86400 (c .args .s) (c .fits .s)
 rem-second : tie.Need-rem-second
 rem-second c = split-asks 86400 by-86400 (c .args .s) (c .fits .s)
 
-sub-t5 : tie.Need-sub-t5
-sub-t5 c = split-day-fits 86400 by-86400 (c .before .args .s) (c .before .fits .s) (c .if1 .taken)
+sub-below : tie.Need-sub-below
+sub-below c = split-day-fits 86400 by-86400 (c .before .args .s) (c .before .fits .s) (c .if1 .taken)
 
 add-t6 : tie.Need-add-t6
 add-t6 c = split-second-fits 86400 by-86400 (c .before .args .s) (c .before .fits .s) (c .if1 .taken)
@@ -31,4 +31,4 @@ returns-2 c = (
 )
 
 pub split-instant-spec : {M : Type 1} → statement M
-split-instant-spec = tie.close (tie.spec div-utcday rem-second sub-t5 add-t6 returns returns-2)
+split-instant-spec = tie.close (tie.spec div-utcday rem-second sub-below add-t6 returns returns-2)
