@@ -1,5 +1,5 @@
--- What the proofs of the host calls cite, with premises in the form in which they stand there. The same rules serve every call: a date that
--- is none, a date that is taken, a step, a shift.
+-- What the proofs of the host calls cite, with premises in the form in which they stand there. The same rules serve
+-- every call: a date that is none, a date that is taken, a step, a shift.
 -- Assumes nothing.
 use Prim.Native.Nat.{ℕ, suc, _-_, _≤_, _<_}
 use mathlib.Core.Bool.{Bool, true, false, not}
@@ -34,8 +34,10 @@ use Rattle.berlin.specs.declared.Beginn.{Beginn}
 use Rattle.berlin.specs.declared.Beginn.the-variants.{Day as Begins, NoBeginning}
 use Rattle.berlin.specs.declared.Sparte.{Sparte}
 use Rattle.berlin.specs.Inside.{Proper, ProperClock}
-use Rattle.berlin.specs.Berlin.{secondsOf, readInstant, readClock, berlinAt, berlinMidnight, endOfDayBerlin, tagesbeginnUtc, tagDesBeginns}
-use Rattle.berlin.proofs.Proper.{read-proper, clock-proper as read-clock-proper, at-proper, midnight-proper, end-proper, begin-proper, beginn-le}
+use Rattle.berlin.specs.Berlin.{secondsOf, readInstant, readClock, berlinAt, berlinMidnight, endOfDayBerlin}
+use Rattle.berlin.specs.Berlin.{tagesbeginnUtc, tagDesBeginns}
+use Rattle.berlin.proofs.Proper.{read-proper, clock-proper as read-clock-proper, at-proper, midnight-proper, end-proper}
+use Rattle.berlin.proofs.Proper.{begin-proper, beginn-le}
 use Rattle.datum.proofs.Signed.{back, back-pos}
 use Rattle.werktag.specs.declared.HolidayCalendar.{HolidayCalendar}
 use Rattle.werktag.specs.Werktag.{isWerktag}
@@ -126,7 +128,19 @@ shift-out s r e q = rw e q
 
 pub ruleset step-rules = (day-reached, step-day, step-out, shift-on, shift-out)
 
-pub ruleset answer-rules = (date-refused, date-taken, day-inside, open-kind, shut-kind, add-in, sub-in, next-in, step-made, shift-made, count-made)
+pub ruleset answer-rules = (
+  date-refused,
+  date-taken,
+  day-inside,
+  open-kind,
+  shut-kind,
+  add-in,
+  sub-in,
+  next-in,
+  step-made,
+  shift-made,
+  count-made,
+)
 
 pub ruleset month-rules = (date-none, date-given, date-month, shift-made)
 
@@ -177,7 +191,8 @@ beginn-none s r q p = rw q p
 pub beginn-inside : (s : Beginn) (i : ℕ) → insideBeginn s → s ≡ Begins i → i ≤ last
 beginn-inside s i h q = rw q at h
 
-pub ruleset moment-rules = (moment-made, resolved-at, resolved-never, resolved-proper, beginn-day, beginn-none, beginn-inside)
+pub ruleset moment-rules =
+    (moment-made, resolved-at, resolved-never, resolved-proper, beginn-day, beginn-none, beginn-inside)
 
 -- what berlin returns is inside the calendar
 pub read-in : (z : ℤ) (x : ℕ) (k : Reading) → k ≡ readInstant z x → properReading k
@@ -224,4 +239,25 @@ beginn-same s t r e p = p ∙ ap beginnAnswer e
 pub date-same : (i j : ℕ) (d : Date) (r : Answer) → i ≡ j → d ≡ dateOf i → r ≡ dated d → r ≡ dated (dateOf j)
 date-same i j d r e q p = p ∙ ap dated (q ∙ ap dateOf e)
 
-pub ruleset uhrzeit-rules = (date-refused, date-taken, day-inside, instant-refused, instant-taken, instant-proper, clock-refused, clock-taken, clock-proper, code-refused, code-taken, moment-same, resolved-same, beginn-same, date-same, resolved-in, beginn-in, midnight-in, end-in, tagesbeginn-in)
+pub ruleset uhrzeit-rules = (
+  date-refused,
+  date-taken,
+  day-inside,
+  instant-refused,
+  instant-taken,
+  instant-proper,
+  clock-refused,
+  clock-taken,
+  clock-proper,
+  code-refused,
+  code-taken,
+  moment-same,
+  resolved-same,
+  beginn-same,
+  date-same,
+  resolved-in,
+  beginn-in,
+  midnight-in,
+  end-in,
+  tagesbeginn-in,
+)

@@ -1,12 +1,13 @@
--- What the calls of the calendar answer: their refusals in the paper's order, all but 1, and else the fields that they fill. w is the test
--- of a day: a Werktag by some list.
+-- What the calls of the calendar answer: their refusals in the paper's order, all but 1, and else the fields that they
+-- fill. w is the test of a day: a Werktag by some list.
 --   isWerktagAnswer w d         = kind 1 for a Werktag, else 0
 --   nextWerktagAnswer w d       = the first Werktag on or after d
 --   addWerktageAnswer w d n, subWerktageAnswer w d n = the n-th Werktag after d, before d
 --   werktageBetweenAnswer w d e = the Werktage after d up to and including e
 --   addMonthsAnswer d n, subtractMonthsAnswer d n = d shifted by n months
--- Source: document 01, 'Host calls and their refusals': 'Calendar steps and counts: 3, a given date is no date of the range; 8, a result
--- leaves the calendar'; 'A step fills the date, a count the count; a day test has kind 1 for a Werktag, else 0'.
+-- Source: document 01, 'Host calls and their refusals': 'Calendar steps and counts: 3, a given date is no date of the
+-- range; 8, a result leaves the calendar'; 'A step fills the date, a count the count; a day test has kind 1 for a
+-- Werktag, else 0'.
 -- Assumes nothing.
 use Prim.Native.Nat.{ℕ}
 use mathlib.Core.Bool.{Bool}

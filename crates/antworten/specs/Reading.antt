@@ -37,7 +37,8 @@ use Rattle.berlin.specs.declared.Sparte.{Sparte}
 use Rattle.berlin.specs.declared.Sparte.the-variants.{Strom, Gas}
 use Rattle.berlin.specs.Berlin.{secondsOf, onResolved}
 use Rattle.antwortsatz.specs.declared.Answer.{Answer}
-use Rattle.antwortsatz.specs.Refusals.{unknownCode, noDate, instantOutside, noClock, localTimeAbsent, noBeginning, leavesCalendar}
+use Rattle.antwortsatz.specs.Refusals.{unknownCode, noDate, instantOutside, noClock, localTimeAbsent, noBeginning}
+use Rattle.antwortsatz.specs.Refusals.{leavesCalendar}
 use Rattle.antwortsatz.specs.Answers.{refused, dated, atInstant}
 
 abbrev pub dateFrom : ℕ → ℕ → ℕ → Date

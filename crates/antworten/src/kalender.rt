@@ -3,7 +3,8 @@ ghost use mathlib.Core.Path.{_≡_};
 ghost use Rattle.werktag.specs.Werktag.{isWerktag};
 ghost use Rattle.antworten.specs.Inside.{inside};
 ghost use Rattle.antworten.specs.Reading.{stepAnswer, shiftAnswer};
-ghost use Rattle.antworten.specs.Kalender.{isWerktagAnswer, nextWerktagAnswer, addWerktageAnswer, subWerktageAnswer};
+ghost use Rattle.antworten.specs.Kalender.{isWerktagAnswer, nextWerktagAnswer, addWerktageAnswer};
+ghost use Rattle.antworten.specs.Kalender.{subWerktageAnswer};
 ghost use Rattle.antworten.specs.Kalender.{werktageBetweenAnswer, addMonthsAnswer, subtractMonthsAnswer};
 use antwortsatz::Answer;
 use antwortsatz::LEAVES_CALENDAR;
@@ -35,8 +36,8 @@ fn shift_answer(shifted: Shifted) -> Answer
     }
 }
 
-/// "A day test has kind 1 for a Werktag, else 0." Refusal 3 for no date of the range: 2 April 2026, a Thursday, has kind 1,
-/// 3 April, Karfreitag, kind 0, and 31 April is refused.
+/// "A day test has kind 1 for a Werktag, else 0." Refusal 3 for no date of the range: 2 April 2026, a Thursday, has
+/// kind 1, 3 April, Karfreitag, kind 0, and 31 April is refused.
 pub fn is_werktag_answer(date: Date, cal: HolidayCalendar) -> Answer
     ensures { λ r. ⌜ r ≡ isWerktagAnswer (isWerktag cal) date ⌝ }
 {
@@ -60,8 +61,8 @@ pub fn next_werktag_answer(date: Date, cal: HolidayCalendar) -> Answer
     step_answer(schritte::next_werktag(from, cal))
 }
 
-/// The n-th Werktag after a date; "with 0 the date unchanged, Werktag or not": 2 April 2026 plus 1 is 7 April, 4 April, a
-/// Saturday, plus 0 is 4 April.
+/// The n-th Werktag after a date; "with 0 the date unchanged, Werktag or not": 2 April 2026 plus 1 is 7 April, 4 April,
+/// a Saturday, plus 0 is 4 April.
 pub fn add_werktage_answer(date: Date, n: u32, cal: HolidayCalendar) -> Answer
     ensures { λ r. ⌜ r ≡ addWerktageAnswer (isWerktag cal) date n ⌝ }
 {
@@ -81,8 +82,8 @@ pub fn sub_werktage_answer(date: Date, n: u32, cal: HolidayCalendar) -> Answer
     step_answer(schritte::sub_werktage(from, n, cal))
 }
 
-/// "Werktage after `from` up to and including `to`; 0 if `to` isn't later": from 2 to 8 April 2026 there are 2, and from 8 to
-/// 2 April none. Refusal 3 if either is no date.
+/// "Werktage after `from` up to and including `to`; 0 if `to` isn't later": from 2 to 8 April 2026 there are 2, and
+/// from 8 to 2 April none. Refusal 3 if either is no date.
 pub fn werktage_between_answer(first: Date, second: Date, cal: HolidayCalendar) -> Answer
     ensures { λ r. ⌜ r ≡ werktageBetweenAnswer (isWerktag cal) first second ⌝ }
 {
@@ -95,8 +96,8 @@ pub fn werktage_between_answer(first: Date, second: Date, cal: HolidayCalendar) 
     antwortsatz::counted(schritte::werktage_between(from, to, cal))
 }
 
-/// A date n months later; "a day the target month lacks becomes its last": 31 January 2026 plus 1 is 28 February. Refusal 8
-/// past 31 December 2899.
+/// A date n months later; "a day the target month lacks becomes its last": 31 January 2026 plus 1 is 28 February.
+/// Refusal 8 past 31 December 2899.
 pub fn add_months_answer(date: Date, n: u32) -> Answer
     ensures { λ r. ⌜ r ≡ addMonthsAnswer date n ⌝ }
 {

@@ -67,9 +67,9 @@ fn beginn_answer(beginn: Beginn) -> Answer
     }
 }
 
-/// The instant at which the Berlin clock shows a time on a date. "A repeated local time means its earlier instant. An absent
-/// one .. is refusal 6": 25 October 2026 02:30 is 00:30 UTC, 29 March 02:30 is refused. A date that is none goes before a
-/// clock that is none.
+/// The instant at which the Berlin clock shows a time on a date. "A repeated local time means its earlier instant. An
+/// absent one .. is refusal 6": 25 October 2026 02:30 is 00:30 UTC, 29 March 02:30 is refused. A date that is none goes
+/// before a clock that is none.
 pub fn berlin_at_answer(date: Date, clock: ClockReading) -> Answer
     requires { ⌜ properClock clock ⌝ }
     ensures { λ r. ⌜ r ≡ berlinAtAnswer date clock ⌝ }
@@ -129,8 +129,8 @@ pub fn berlin_date_answer(instant: Reading) -> Answer
     antwortsatz::dated(datum::date_of(berlin::berlin_date(at)))
 }
 
-/// The date of the day that begins at an instant in a Sparte, else refusal 7: 29 March 2026 04:00 UTC begins the Gas day
-/// 29 March, and no Strom day.
+/// The date of the day that begins at an instant in a Sparte, else refusal 7: 29 March 2026 04:00 UTC begins the Gas
+/// day 29 March, and no Strom day.
 pub fn tag_des_beginns_answer(instant: Reading, code: u8) -> Answer
     requires { ⌜ properReading instant ⌝ }
     ensures { λ r. ⌜ r ≡ tagDesBeginnsAnswer instant code ⌝ }

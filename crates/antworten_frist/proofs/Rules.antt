@@ -10,7 +10,7 @@ use Rattle.datum.proofs.Signed.{back}
 use Rattle.berlin.specs.declared.Moment.{Moment}
 use Rattle.berlin.specs.declared.Clock.{Clock}
 use Rattle.berlin.specs.declared.ClockReading.{ClockReading}
-use Rattle.berlin.specs.declared.ClockReading.the-variants.{At as Clocked, NoClock}
+use Rattle.berlin.specs.declared.ClockReading.the-variants.{At as Clocked}
 use Rattle.berlin.specs.Inside.{Proper}
 use Rattle.berlin.specs.Berlin.{secondsOf}
 use Rattle.fristen.specs.declared.Due.{Due}
@@ -27,23 +27,18 @@ use Rattle.antworten_frist.specs.declared.ShapeReading.the-variants.{Kno
 use Rattle.antworten_frist.specs.Inside.{properShapeReading}
 use Rattle.antworten_frist.specs.FristReading.{fristShapes, onShape, dueAnswer}
 use Rattle.antworten.proofs.Codes.{entry, entry-last, code-refused, code-taken}
-use Rattle.antworten.proofs.Rules.{instant-refused, instant-taken, instant-proper, clock-refused, clock-taken, clock-proper, moment-made}
+use Rattle.antworten.proofs.Rules.{instant-refused, instant-taken, instant-proper, clock-refused, clock-taken}
+use Rattle.antworten.proofs.Rules.{clock-proper, moment-made}
 
 -- shape_of: the two shapes with a clock
 module _ (x n : ℕ) (k : ClockReading) where
-  pub shape-0-none : x ≡ 0 → k ≡ NoClock → Unclocked ≡ getD (fristShapes n k) x Unclocked
-  shape-0-none z e = rw (z, e)
-
   pub shape-0 : (c : Clock) → x ≡ 0 → k ≡ Clocked c → Shaped (WerktagAt n c) ≡ getD (fristShapes n k) x Unclocked
   shape-0 c z e = rw (z, e)
-
-  pub shape-2-none : x ≡ 2 → k ≡ NoClock → Unclocked ≡ getD (fristShapes n k) x Unclocked
-  shape-2-none z e = rw (z, e)
 
   pub shape-2 : (c : Clock) → x ≡ 2 → k ≡ Clocked c → Shaped (SameDayAt c) ≡ getD (fristShapes n k) x Unclocked
   shape-2 c z e = rw (z, e)
 
-pub ruleset shape-rules = (clock-proper, entry, entry-last, shape-0-none, shape-0, shape-2-none, shape-2)
+pub ruleset shape-rules = (clock-proper, entry, entry-last, shape-0, shape-2)
 
 -- s is what `shape_of` returned
 module _ (s : ShapeReading) where
@@ -79,4 +74,19 @@ gas-initial g h r e t p = rw (← e, t) p
 pub gas-other : (g h : GasDue) (r : Answer) → g ≡ h → g .initial ≡ false → r ≡ dueAnswer 0 (g .due) → r ≡ dueAnswer (bit (h .initial)) (h .due)
 gas-other g h r e t p = rw (← e, t) p
 
-pub ruleset frist-rules = (instant-refused, instant-taken, instant-proper, clock-refused, clock-taken, clock-proper, code-refused, code-taken, shape-refused, shape-taken, shape-proper, due-same, gas-initial, gas-other)
+pub ruleset frist-rules = (
+  instant-refused,
+  instant-taken,
+  instant-proper,
+  clock-refused,
+  clock-taken,
+  clock-proper,
+  code-refused,
+  code-taken,
+  shape-refused,
+  shape-taken,
+  shape-proper,
+  due-same,
+  gas-initial,
+  gas-other,
+)

@@ -1,4 +1,5 @@
--- What the calls answer that give a due instant: the instant i is the receipt, and w is the test of a day, a Werktag by some list.
+-- What the calls answer that give a due instant: the instant i is the receipt, and w is the test of a day, a Werktag by
+-- some list.
 --   contrlDueAtAnswer i x              = when the CONTRL of the occasion with code x is due
 --   aperakStromDueAtAnswer i           = when the Strom APERAK on a UTILMD or ORDERS is due
 --   aperakStromAllgemeinDueAtAnswer w i  = when any other Strom APERAK is due
@@ -6,11 +7,12 @@
 --                                      = when a Gas APERAK is due; kind 1 for the initial process
 --   addHoursAnswer i n                 = n hours later
 --   deadlineAtWerktageAnswer w i n, endOfWerktagAfterAnswer w i n = the end of the n-th Werktag after the receipt day
---   nextWerktagAtAnswer w i c, nthWerktagAtAnswer w i n c = the clock c on the first, the n-th Werktag after the receipt day
+--   nextWerktagAtAnswer w i c, nthWerktagAtAnswer w i n c = the clock c on the first, the n-th Werktag after the
+--       receipt day
 --   fristDueAtAnswer w x n c i         = when an answer of the shape with code x, count n and clock c is due
--- Source: document 01, 'Due instants: 4; 5; 6 (`SameDayAt` only); 8, the due instant's day leaves the calendar'; 'a Gas due instant kind 1 for
--- the initial process, else 0'; 'Codes are always checked. A count, clock, date or instant that the operation or its shape doesn't use is
--- not checked.'
+-- Source: document 01, 'Due instants: 4; 5; 6 (`SameDayAt` only); 8, the due instant's day leaves the calendar'; 'a Gas
+-- due instant kind 1 for the initial process, else 0'; 'Codes are always checked. A count, clock, date or instant that
+-- the operation or its shape doesn't use is not checked.'
 -- Assumes nothing.
 use Prim.Native.Nat.{ℕ}
 use mathlib.Core.Bool.{Bool}
@@ -18,7 +20,8 @@ use Rattle.zaehlung.specs.Walk.{bit}
 use Rattle.berlin.specs.declared.Reading.{Reading}
 use Rattle.berlin.specs.declared.ClockReading.{ClockReading}
 use Rattle.fristen.specs.Fristen.{contrlDueAt, aperakStromDueAt, aperakStromAllgemeinDueAt, aperakGasDueAt}
-use Rattle.fristen.specs.Fristen.{aperakGasFolgeprozessDueAt, aperakGasInitialprozessDueAt, addHours, deadlineAtWerktage}
+use Rattle.fristen.specs.Fristen.{aperakGasFolgeprozessDueAt, aperakGasInitialprozessDueAt, addHours}
+use Rattle.fristen.specs.Fristen.{deadlineAtWerktage}
 use Rattle.fristen.specs.Fristen.{endOfWerktagAfter, nextWerktagAt, nthWerktagAt}
 use Rattle.fristen.specs.FristShape.{dueAtOf}
 use Rattle.antwortsatz.specs.declared.Answer.{Answer}

@@ -4,8 +4,8 @@
 --   withClock k f      = the shape f of that clock
 --   onShape s f        = f of the shape that was read, or refusal 5 where it uses a clock and that is none
 --   dueAnswer k r      = a due instant beside kind k, or refusal 6 or 8
--- Source: document 01, 'Host calls and their refusals': 'Codes count from 0 in the Rust's order of its cases'; 'A count, clock, date or
--- instant that the operation or its shape doesn't use is not checked.'
+-- Source: document 01, 'Host calls and their refusals': 'Codes count from 0 in the Rust's order of its cases'; 'A
+-- count, clock, date or instant that the operation or its shape doesn't use is not checked.'
 -- Assumes nothing.
 use Prim.Native.Nat.{ℕ}
 use mathlib.Core.List.{List, [], _∷_}

@@ -7,8 +7,10 @@ ghost use Rattle.fristen.specs.Inside.{properDue};
 ghost use Rattle.antworten.specs.Inside.{properReading, properClock};
 ghost use Rattle.antworten_frist.specs.Inside.{properShapeReading};
 ghost use Rattle.antworten_frist.specs.FristReading.{anlaesse, fristShapes, dueAnswer};
-ghost use Rattle.antworten_frist.specs.Frist.{contrlDueAtAnswer, aperakStromDueAtAnswer, aperakStromAllgemeinDueAtAnswer};
-ghost use Rattle.antworten_frist.specs.Frist.{aperakGasFolgeprozessDueAtAnswer, aperakGasInitialprozessDueAtAnswer};
+ghost use Rattle.antworten_frist.specs.Frist.{contrlDueAtAnswer, aperakStromDueAtAnswer};
+ghost use Rattle.antworten_frist.specs.Frist.{aperakStromAllgemeinDueAtAnswer};
+ghost use Rattle.antworten_frist.specs.Frist.{aperakGasFolgeprozessDueAtAnswer};
+ghost use Rattle.antworten_frist.specs.Frist.{aperakGasInitialprozessDueAtAnswer};
 ghost use Rattle.antworten_frist.specs.Frist.{aperakGasDueAtAnswer, addHoursAnswer, deadlineAtWerktageAnswer};
 ghost use Rattle.antworten_frist.specs.Frist.{endOfWerktagAfterAnswer, nextWerktagAtAnswer, nthWerktagAtAnswer};
 ghost use Rattle.antworten_frist.specs.Frist.{fristDueAtAnswer};
@@ -54,7 +56,8 @@ fn due_answer(kind: u8, due: Due) -> Answer
     }
 }
 
-/// A shape with its count and clock, or that its clock is none. A count or clock that the shape does not use is not looked at.
+/// A shape with its count and clock, or that its clock is none. A count or clock that the shape does not use is not
+/// looked at.
 pub enum ShapeReading {
     Known(FristShape),
     NoClock,
@@ -79,9 +82,10 @@ fn shape_of(code: u8, werktage: u32, clock: ClockReading) -> ShapeReading
     }
 }
 
-/// When a CONTRL is due: 6 hours after its receipt, 45 minutes for `GasAlocat`; `StromUtilmdOderOrders` 15 minutes, 6 hours if
-/// received on Saturday; a due instant in the tolerance of a change of format becomes its end. Regelfall received 31 March 2026
-/// 11:59:59 Berlin is due 17:59:59; received 12:00:00, 2 April 00:00. An unknown code goes before the instant's limits.
+/// When a CONTRL is due: 6 hours after its receipt, 45 minutes for `GasAlocat`; `StromUtilmdOderOrders` 15 minutes, 6
+/// hours if received on Saturday; a due instant in the tolerance of a change of format becomes its end. Regelfall
+/// received 31 March 2026 11:59:59 Berlin is due 17:59:59; received 12:00:00, 2 April 00:00. An unknown code goes
+/// before the instant's limits.
 pub fn contrl_due_at_answer(instant: Reading, code: u8) -> Answer
     requires { ⌜ properReading instant ⌝ }
     ensures { λ r. ⌜ r ≡ contrlDueAtAnswer instant code ⌝ }
@@ -96,8 +100,8 @@ pub fn contrl_due_at_answer(instant: Reading, code: u8) -> Answer
     due_answer(0, fristen::contrl_due_at(received, anlass))
 }
 
-/// When the Strom APERAK on a UTILMD or ORDERS is due: 45 minutes after its receipt; "Saturday gives Sunday 12:00. Only Saturday
-/// is special": received Saturday, 10 January 2026, it is due on the 11th at 12:00 Berlin.
+/// When the Strom APERAK on a UTILMD or ORDERS is due: 45 minutes after its receipt; "Saturday gives Sunday 12:00. Only
+/// Saturday is special": received Saturday, 10 January 2026, it is due on the 11th at 12:00 Berlin.
 pub fn aperak_strom_due_at_answer(instant: Reading) -> Answer
     requires { ⌜ properReading instant ⌝ }
     ensures { λ r. ⌜ r ≡ aperakStromDueAtAnswer instant ⌝ }
@@ -108,8 +112,8 @@ pub fn aperak_strom_due_at_answer(instant: Reading) -> Answer
     due_answer(0, fristen::aperak_strom_due_at(received))
 }
 
-/// When any other Strom APERAK is due: "12:00 of the first Werktag after the receipt day". Received 2 April 2026, it is due on
-/// 7 April at 12:00 Berlin.
+/// When any other Strom APERAK is due: "12:00 of the first Werktag after the receipt day". Received 2 April 2026, it is
+/// due on 7 April at 12:00 Berlin.
 pub fn aperak_strom_allgemein_due_at_answer(instant: Reading, cal: HolidayCalendar) -> Answer
     requires { ⌜ properReading instant ⌝ }
     ensures { λ r. ⌜ r ≡ aperakStromAllgemeinDueAtAnswer (isWerktag cal) instant ⌝ }
@@ -120,8 +124,8 @@ pub fn aperak_strom_allgemein_due_at_answer(instant: Reading, cal: HolidayCalend
     due_answer(0, fristen::aperak_strom_allgemein_due_at(received, cal))
 }
 
-/// When the Gas APERAK of a follow-up process is due, kind 0: 12:00 of the first Werktag after the receipt day, as received
-/// 2 April 2026 on 7 April.
+/// When the Gas APERAK of a follow-up process is due, kind 0: 12:00 of the first Werktag after the receipt day, as
+/// received 2 April 2026 on 7 April.
 pub fn aperak_gas_folgeprozess_due_at_answer(instant: Reading, cal: HolidayCalendar) -> Answer
     requires { ⌜ properReading instant ⌝ }
     ensures { λ r. ⌜ r ≡ aperakGasFolgeprozessDueAtAnswer (isWerktag cal) instant ⌝ }
@@ -132,8 +136,8 @@ pub fn aperak_gas_folgeprozess_due_at_answer(instant: Reading, cal: HolidayCalen
     due_answer(0, fristen::aperak_gas_folgeprozess_due_at(received, cal))
 }
 
-/// When the Gas APERAK of an initial process is due, kind 1: "end of the third Werktag after the receipt day". Received 2 April
-/// 2026, it is due at the end of 9 April.
+/// When the Gas APERAK of an initial process is due, kind 1: "end of the third Werktag after the receipt day". Received
+/// 2 April 2026, it is due at the end of 9 April.
 pub fn aperak_gas_initialprozess_due_at_answer(instant: Reading, cal: HolidayCalendar) -> Answer
     requires { ⌜ properReading instant ⌝ }
     ensures { λ r. ⌜ r ≡ aperakGasInitialprozessDueAtAnswer (isWerktag cal) instant ⌝ }
@@ -144,9 +148,9 @@ pub fn aperak_gas_initialprozess_due_at_answer(instant: Reading, cal: HolidayCal
     due_answer(1, fristen::aperak_gas_initialprozess_due_at(received, cal))
 }
 
-/// When the Gas APERAK of a Prüfidentifikator is due, "kind 1 for the initial process, else 0": 44001, 44016, 44039 and 44042
-/// are initial, any other number is a follow-up. 44001 received 2 April 2026 is due at the end of 9 April, 44002 on 7 April at
-/// 12:00.
+/// When the Gas APERAK of a Prüfidentifikator is due, "kind 1 for the initial process, else 0": 44001, 44016, 44039 and
+/// 44042 are initial, any other number is a follow-up. 44001 received 2 April 2026 is due at the end of 9 April, 44002
+/// on 7 April at 12:00.
 pub fn aperak_gas_due_at_answer(pid: u32, instant: Reading, cal: HolidayCalendar) -> Answer
     requires { ⌜ properReading instant ⌝ }
     ensures { λ r. ⌜ r ≡ aperakGasDueAtAnswer (isWerktag cal) pid instant ⌝ }
@@ -162,8 +166,8 @@ pub fn aperak_gas_due_at_answer(pid: u32, instant: Reading, cal: HolidayCalendar
     due_answer(0, due)
 }
 
-/// Some hours later, counted on the time line and not on the clock: 28 March 2026 12:00 Berlin and 24 hours is 29 March 13:00.
-/// Refusal 8 past the last day.
+/// Some hours later, counted on the time line and not on the clock: 28 March 2026 12:00 Berlin and 24 hours is 29 March
+/// 13:00. Refusal 8 past the last day.
 pub fn add_hours_answer(instant: Reading, hours: u32) -> Answer
     requires { ⌜ properReading instant ⌝ }
     ensures { λ r. ⌜ r ≡ addHoursAnswer instant hours ⌝ }
@@ -174,8 +178,8 @@ pub fn add_hours_answer(instant: Reading, hours: u32) -> Answer
     due_answer(0, fristen::add_hours(from, hours))
 }
 
-/// The end of the n-th Werktag after the Berlin day of an instant, 23:59:59.999999999; with 0 that day's own end, Werktag or
-/// not. From 2 April 2026 with 1: the end of 7 April.
+/// The end of the n-th Werktag after the Berlin day of an instant, 23:59:59.999999999; with 0 that day's own end,
+/// Werktag or not. From 2 April 2026 with 1: the end of 7 April.
 pub fn deadline_at_werktage_answer(instant: Reading, werktage: u32, cal: HolidayCalendar) -> Answer
     requires { ⌜ properReading instant ⌝ }
     ensures { λ r. ⌜ r ≡ deadlineAtWerktageAnswer (isWerktag cal) instant werktage ⌝ }
@@ -186,8 +190,8 @@ pub fn deadline_at_werktage_answer(instant: Reading, werktage: u32, cal: Holiday
     due_answer(0, fristen::deadline_at_werktage(from, werktage, cal))
 }
 
-/// The end of the n-th Werktag after the receipt day; with 0 that day's own end. Received 2 April 2026, with 3: the end of
-/// 9 April.
+/// The end of the n-th Werktag after the receipt day; with 0 that day's own end. Received 2 April 2026, with 3: the end
+/// of 9 April.
 pub fn end_of_werktag_after_answer(instant: Reading, werktage: u32, cal: HolidayCalendar) -> Answer
     requires { ⌜ properReading instant ⌝ }
     ensures { λ r. ⌜ r ≡ endOfWerktagAfterAnswer (isWerktag cal) instant werktage ⌝ }
@@ -198,8 +202,8 @@ pub fn end_of_werktag_after_answer(instant: Reading, werktage: u32, cal: Holiday
     due_answer(0, fristen::end_of_werktag_after(received, werktage, cal))
 }
 
-/// A clock time on the first Werktag after the receipt day: received 2 April 2026, 12:00 of 7 April. The instant goes before
-/// the clock: 4 before 5.
+/// A clock time on the first Werktag after the receipt day: received 2 April 2026, 12:00 of 7 April. The instant goes
+/// before the clock: 4 before 5.
 pub fn next_werktag_at_answer(instant: Reading, clock: ClockReading, cal: HolidayCalendar) -> Answer
     requires { ⌜ (properReading instant) × (properClock clock) ⌝ }
     ensures { λ r. ⌜ r ≡ nextWerktagAtAnswer (isWerktag cal) instant clock ⌝ }
@@ -214,7 +218,12 @@ pub fn next_werktag_at_answer(instant: Reading, clock: ClockReading, cal: Holida
 }
 
 /// A clock time on the n-th Werktag after the receipt day; "with 0 equals 1". Received 2 April 2026, with 2: 8 April.
-pub fn nth_werktag_at_answer(instant: Reading, n: u32, clock: ClockReading, cal: HolidayCalendar) -> Answer
+pub fn nth_werktag_at_answer(
+    instant: Reading,
+    n: u32,
+    clock: ClockReading,
+    cal: HolidayCalendar,
+) -> Answer
     requires { ⌜ (properReading instant) × (properClock clock) ⌝ }
     ensures { λ r. ⌜ r ≡ nthWerktagAtAnswer (isWerktag cal) instant n clock ⌝ }
 {
@@ -227,9 +236,9 @@ pub fn nth_werktag_at_answer(instant: Reading, n: u32, clock: ClockReading, cal:
     due_answer(0, fristen::nth_werktag_at(received, n, at, cal))
 }
 
-/// When an answer of a shape is due. "`SameDayAt` received exactly at the clock time goes to the next Werktag": 12:00, received
-/// 9 January 2026 12:00, is 12 January 12:00. "An absent clock there is refused" with 6. A clock or count that the shape does not
-/// use is not looked at.
+/// When an answer of a shape is due. "`SameDayAt` received exactly at the clock time goes to the next Werktag": 12:00,
+/// received 9 January 2026 12:00, is 12 January 12:00. "An absent clock there is refused" with 6. A clock or count that
+/// the shape does not use is not looked at.
 pub fn frist_due_at_answer(
     code: u8,
     werktage: u32,

@@ -1,5 +1,5 @@
--- What the proofs of the calls for verdicts, spans, deregistrations and the announcement cite, with premises in the form in which they stand
--- there.
+-- What the proofs of the calls for verdicts, spans, deregistrations and the announcement cite, with premises in the
+-- form in which they stand there.
 -- Assumes nothing.
 use Prim.Native.Nat.{ℕ, _≤_}
 use mathlib.Core.Bool.{Bool}
@@ -32,12 +32,14 @@ use Rattle.vorlauf.specs.Span.{spanFrom, spanOf}
 use Rattle.vorlauf.specs.Abmeldung.{abmeldungCheckOf}
 use Rattle.vorlauf.specs.Inside.{insideVerdict, insideSpan, insideAbmeldung}
 use Rattle.ankuendigung.specs.declared.Fristgerecht.{Fristgerecht}
-use Rattle.ankuendigung.specs.declared.Fristgerecht.the-variants.{Nein as No, Ja as Yes, Weder as Neither, Outside as NoWerktag}
+use Rattle.ankuendigung.specs.declared.Fristgerecht.the-variants.{Nein as No, Ja as Yes, Weder as Neither}
+use Rattle.ankuendigung.specs.declared.Fristgerecht.the-variants.{Outside as NoWerktag}
 use Rattle.antwortsatz.specs.declared.Answer.{Answer}
 use Rattle.antwortsatz.specs.Refusals.{noBeginning, leavesCalendar}
 use Rattle.antwortsatz.specs.Answers.{zeroDate, refused, ofKind, judged, spanned}
 use Rattle.antworten.specs.Reading.{onBeginn}
-use Rattle.antworten_vorlauf.specs.VorlaufReading.{verdictAnswer, abmeldungAnswer, spanAnswer, caseCode, announcedAnswer}
+use Rattle.antworten_vorlauf.specs.VorlaufReading.{verdictAnswer, abmeldungAnswer, spanAnswer, caseCode}
+use Rattle.antworten_vorlauf.specs.VorlaufReading.{announcedAnswer}
 use Rattle.antworten.proofs.Codes.{code-refused, code-taken}
 use Rattle.antworten.proofs.Rules.{date-refused, date-taken, day-inside, date-none, date-given, date-valid}
 use Rattle.antworten.proofs.Rules.{instant-refused, instant-taken, instant-proper}
@@ -164,8 +166,19 @@ pub ruleset vorlauf-rules = (date-refused, date-taken, day-inside, code-refused,
 
 pub ruleset vorlauf-span-rules = (date-none, date-given, date-valid, code-refused, code-taken, days-same, months-same)
 
-pub ruleset check-at-rules = (instant-refused, instant-taken, instant-proper, code-refused, code-taken, beginn-refused, beginn-taken, beginn-le, verdict-at)
+pub ruleset check-at-rules = (
+  instant-refused,
+  instant-taken,
+  instant-proper,
+  code-refused,
+  code-taken,
+  beginn-refused,
+  beginn-taken,
+  beginn-le,
+  verdict-at,
+)
 
 pub ruleset fuer-rules = (date-refused, date-taken, day-inside, code-refused, code-taken, case-same, abmeldung-same)
 
-pub ruleset eog-rules = (date-refused, date-taken, day-inside, instant-refused, instant-taken, instant-proper, announced-same)
+pub ruleset eog-rules =
+    (date-refused, date-taken, day-inside, instant-refused, instant-taken, instant-proper, announced-same)

@@ -1,16 +1,19 @@
--- What the calls answer that give a verdict, a span, a deregistration's case or the announcement's yes or no. w is the test of a day: a
--- Werktag by some list.
---   vorlaufCheckAnswer w x n m d e      = the verdict of the shape with code x and counts n, m on transmission date d and anchor e
---   checkAtInstants w s q k l           = the verdict for a transmission instant k and an anchor l that begins a day in the Sparte q
+-- What the calls answer that give a verdict, a span, a deregistration's case or the announcement's yes or no. w is the
+-- test of a day: a Werktag by some list.
+--   vorlaufCheckAnswer w x n m d e      = the verdict of the shape with code x and counts n, m on transmission date d
+--                                         and anchor e
+--   checkAtInstants w s q k l           = the verdict for a transmission instant k and an anchor l that begins a day in
+--                                         the Sparte q
 --   vorlaufCheckAtAnswer w x n m p k l  = the same with codes
 --   vorlaufSpanAnswer w x n m d         = the span of a shape for transmission date d
 --   abmeldungFuerAnswer b x             = the case of a deregistration with reason b and the EEG mark with code x
 --   abmeldungCheckAnswer w b x d e      = its verdict, or kind 3
 --   eogAnkuendigungFristgerechtAnswer w k d = whether an announcement received at k keeps its Frist for the beginning d
--- Source: document 01, 'Verdicts: 3; 8, a date that the Rust computes for this call leaves the calendar. Kind 0 Ok, 1 TooLate, 2 TooEarly, 3 no
--- shape. With a transmission instant and an anchor given as a day's beginning (added): 4 for either, 7 for the anchor, 8'; 'Span: 3; 8, an end
--- leaves the calendar. Kind 0 no last day, 1 both, 2 empty with both dates zero'; 'The 13:00 announcement: 3; 4; 8 for the last Werktag, only if
--- the instant is before the beginning. Kind 0 no, 1 yes, 2 neither'; 'A deregistration's two dates are checked even where it has no shape.'
+-- Source: document 01, 'Verdicts: 3; 8, a date that the Rust computes for this call leaves the calendar. Kind 0 Ok, 1
+-- TooLate, 2 TooEarly, 3 no shape. With a transmission instant and an anchor given as a day's beginning (added): 4 for
+-- either, 7 for the anchor, 8'; 'Span: 3; 8, an end leaves the calendar. Kind 0 no last day, 1 both, 2 empty with both
+-- dates zero'; 'The 13:00 announcement: 3; 4; 8 for the last Werktag, only if the instant is before the beginning. Kind
+-- 0 no, 1 yes, 2 neither'; 'A deregistration's two dates are checked even where it has no shape.'
 -- Assumes nothing.
 use Prim.Native.Nat.{ℕ}
 use mathlib.Core.Bool.{Bool}
@@ -24,7 +27,7 @@ use Rattle.vorlauf.specs.declared.VorlaufShape.{VorlaufShape}
 use Rattle.vorlauf.specs.Verdict.{checkOf}
 use Rattle.vorlauf.specs.Span.{spanOf}
 use Rattle.vorlauf.specs.Abmeldung.{fuerOf, abmeldungCheckOf}
-use Rattle.ankuendigung.specs.Ankuendigung.{eogAnkuendigung}
+use Rattle.ankuendigung.specs.Ankuendigung.{eogAnkuendigungFristgerecht}
 use Rattle.antwortsatz.specs.declared.Answer.{Answer}
 use Rattle.antwortsatz.specs.Answers.{ofKind}
 use Rattle.antworten.specs.Reading.{onCode, sparten, onDate, onInstant, onBeginn}
@@ -33,7 +36,8 @@ use Rattle.antworten_vorlauf.specs.VorlaufReading.{verdictAnswer, abmeld
 
 unfoldable pub vorlaufCheckAnswer : (ℕ → Bool) → ℕ → ℕ → ℕ → Date → Date → Answer
 vorlaufCheckAnswer w x n m d e =
-    onCode (vorlaufShapes n m) x (λ s. onDate (indexOf d) (λ t. onDate (indexOf e) (λ a. verdictAnswer (checkOf w s t a))))
+    onCode (vorlaufShapes n m) x (λ s. onDate (indexOf d) (λ t. onDate (indexOf e) (λ a.
+    verdictAnswer (checkOf w s t a))))
 
 -- the transmission day is the Berlin day in both Sparten; only the anchor goes by the Sparte
 unfoldable pub checkAtInstants : (ℕ → Bool) → VorlaufShape → Sparte → Reading → Reading → Answer
@@ -59,4 +63,4 @@ abmeldungCheckAnswer w b x d e =
 
 unfoldable pub eogAnkuendigungFristgerechtAnswer : (ℕ → Bool) → Reading → Date → Answer
 eogAnkuendigungFristgerechtAnswer w k d =
-    onDate (indexOf d) (λ i. onInstant k (λ m. announcedAnswer (eogAnkuendigung w m i)))
+    onDate (indexOf d) (λ i. onInstant k (λ m. announcedAnswer (eogAnkuendigungFristgerecht w m i)))

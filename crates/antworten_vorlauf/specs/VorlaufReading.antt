@@ -6,15 +6,17 @@
 --   spanAnswer p        = a span, or refusal 8
 --   caseCode v          = the code of a deregistration's case
 --   announcedAnswer x   = yes, no or neither, or refusal 8
--- Source: document 01, 'Host calls and their refusals': 'Codes count from 0 in the Rust's order of its cases; an EEG mark is 0 no, 1 yes, 2
--- unknown'.
+-- Source: document 01, 'Host calls and their refusals': 'Codes count from 0 in the Rust's order of its cases; an EEG
+-- mark is 0 no, 1 yes, 2 unknown'.
 -- Assumes nothing.
 use Prim.Native.Nat.{ℕ}
 use mathlib.Core.List.{List, [], _∷_}
 use Rattle.datum.specs.Calendar.{dateOf}
 use Rattle.vorlauf.specs.declared.VorlaufShape.{VorlaufShape}
-use Rattle.vorlauf.specs.declared.VorlaufShape.the-variants.{LatestWerktageBefore, WindowWerktageBefore, LatestWerktageAfter}
-use Rattle.vorlauf.specs.declared.VorlaufShape.the-variants.{EarliestWerktageAfter, Korridor, TagVorDemLetztenWerktagVor}
+use Rattle.vorlauf.specs.declared.VorlaufShape.the-variants.{LatestWerktageBefore, WindowWerktageBefore}
+use Rattle.vorlauf.specs.declared.VorlaufShape.the-variants.{LatestWerktageAfter}
+use Rattle.vorlauf.specs.declared.VorlaufShape.the-variants.{EarliestWerktageAfter, Korridor}
+use Rattle.vorlauf.specs.declared.VorlaufShape.the-variants.{TagVorDemLetztenWerktagVor}
 use Rattle.vorlauf.specs.declared.VorlaufShape.the-variants.{LatestMonateBefore, LatestMonateUndWerktageBefore}
 use Rattle.vorlauf.specs.declared.VorlaufVerdict.{VorlaufVerdict}
 use Rattle.vorlauf.specs.declared.VorlaufVerdict.the-variants.{Ok, TooLate, TooEarly, Outside as Refused}
@@ -28,7 +30,8 @@ use Rattle.vorlauf.specs.declared.abmeldung.AbmeldungVorlauf.the-variants.{Unbe
 use Rattle.vorlauf.specs.declared.abmeldung.AbmeldungVerdict.{AbmeldungVerdict}
 use Rattle.vorlauf.specs.declared.abmeldung.AbmeldungVerdict.the-variants.{Verdict, NoShape}
 use Rattle.ankuendigung.specs.declared.Fristgerecht.{Fristgerecht}
-use Rattle.ankuendigung.specs.declared.Fristgerecht.the-variants.{Nein as No, Ja as Yes, Weder as Neither, Outside as NoWerktag}
+use Rattle.ankuendigung.specs.declared.Fristgerecht.the-variants.{Nein as No, Ja as Yes, Weder as Neither}
+use Rattle.ankuendigung.specs.declared.Fristgerecht.the-variants.{Outside as NoWerktag}
 use Rattle.antwortsatz.specs.declared.Answer.{Answer}
 use Rattle.antwortsatz.specs.Refusals.{leavesCalendar}
 use Rattle.antwortsatz.specs.Answers.{zeroDate, refused, ofKind, judged, spanned}

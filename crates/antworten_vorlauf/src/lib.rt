@@ -1,5 +1,5 @@
-// What the calls answer that give verdicts, spans, deregistrations and the 13:00 announcement: document 01, refusals 2, 3, 4, 7
-// and 8.
+// What the calls answer that give verdicts, spans, deregistrations and the 13:00 announcement: document 01, refusals 2,
+// 3, 4, 7 and 8.
 ghost use mathlib.Core.Bool.{true};
 ghost use mathlib.Core.Path.{_≡_};
 ghost use Prim.Native.Nat.{_<_};
@@ -146,9 +146,9 @@ fn announced_answer(found: Fristgerecht) -> Answer
     }
 }
 
-/// The verdict of a shape on a transmission date and an anchor: "Kind 0 Ok, 1 TooLate, 2 TooEarly", with its Werktage and its
-/// earliest date. `LatestWerktageBefore(1)` for 10 January 2026, a Saturday, against Monday, the 12th: TooLate, 0, and the very
-/// Monday. A code goes before the dates; a count that the shape does not use is not looked at.
+/// The verdict of a shape on a transmission date and an anchor: "Kind 0 Ok, 1 TooLate, 2 TooEarly", with its Werktage
+/// and its earliest date. `LatestWerktageBefore(1)` for 10 January 2026, a Saturday, against Monday, the 12th: TooLate,
+/// 0, and the very Monday. A code goes before the dates; a count that the shape does not use is not looked at.
 pub fn vorlauf_check_answer(
     code: u8,
     count: u32,
@@ -196,9 +196,9 @@ fn check_at_instants(
     verdict_answer(shape.check(uebertragungstag, anchor, cal))
 }
 
-/// The same with a transmission instant and an anchor given as a day's beginning: "4 for either, 7 for the anchor, 8". The
-/// transmission day is the Berlin day in both Sparten, and only the anchor goes by the Sparte: in Gas, 12 January 2026 05:00 UTC
-/// is the anchor of 12 January, and in Strom it begins no day.
+/// The same with a transmission instant and an anchor given as a day's beginning: "4 for either, 7 for the anchor, 8".
+/// The transmission day is the Berlin day in both Sparten, and only the anchor goes by the Sparte: in Gas, 12 January
+/// 2026 05:00 UTC is the anchor of 12 January, and in Strom it begins no day.
 pub fn vorlauf_check_at_answer(
     code: u8,
     count: u32,
@@ -258,8 +258,8 @@ pub fn vorlauf_span_answer(
     month_span_answer(date, n)
 }
 
-/// The case of a deregistration by its reason and EEG mark: "only the three bytes "ZQ7" are the deactivation reason; "zq7",
-/// "ZQ7 " and an empty reason are ordinary". "ZQ7" has kind 3, `AnPruefschritt120`, with any known mark.
+/// The case of a deregistration by its reason and EEG mark: "only the three bytes "ZQ7" are the deactivation reason;
+/// "zq7", "ZQ7 " and an empty reason are ordinary". "ZQ7" has kind 3, `AnPruefschritt120`, with any known mark.
 pub fn abmeldung_fuer_answer(reason: &[u8], code: u8) -> Answer
     ensures { λ r. ⌜ r ≡ abmeldungFuerAnswer (now (reason .entry)) code ⌝ }
 {
@@ -270,9 +270,9 @@ pub fn abmeldung_fuer_answer(reason: &[u8], code: u8) -> Answer
     antwortsatz::of_kind(case_code(AbmeldungVorlauf::fuer(reason, eeg)))
 }
 
-/// The verdict of a deregistration, kind 3 where its case has no shape: "ZQ7, or an unknown EEG mark". "A deregistration's two
-/// dates are checked even where it has no shape." An ordinary one, without EEG, on 8 January 2026 for the 9th: TooLate, 1,
-/// 10 January.
+/// The verdict of a deregistration, kind 3 where its case has no shape: "ZQ7, or an unknown EEG mark". "A
+/// deregistration's two dates are checked even where it has no shape." An ordinary one, without EEG, on 8 January 2026
+/// for the 9th: TooLate, 1, 10 January.
 pub fn abmeldung_check_answer(
     reason: &[u8],
     code: u8,
@@ -297,8 +297,9 @@ pub fn abmeldung_check_answer(
 }
 
 /// Whether an announcement keeps its Frist, 13:00 of the last Werktag before the beginning: "13:00 exactly is yes. From
-/// midnight of the beginning on the answer is neither yes nor no." For 12 January 2026: 9 January 13:00 yes, a nanosecond later
-/// no, 12 January 00:00 neither. "3; 4; 8 for the last Werktag, only if the instant is before the beginning."
+/// midnight of the beginning on the answer is neither yes nor no." For 12 January 2026: 9 January 13:00 yes, a
+/// nanosecond later no, 12 January 00:00 neither. "3; 4; 8 for the last Werktag, only if the instant is before the
+/// beginning."
 pub fn eog_ankuendigung_fristgerecht_answer(
     instant: Reading,
     date: Date,

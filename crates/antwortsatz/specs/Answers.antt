@@ -1,4 +1,5 @@
--- The answers of the host calls by name: those that fill one field, an instant, a verdict or a span, and those that refuse.
+-- The answers of the host calls by name: those that fill one field, an instant, a verdict or a span, and those that
+-- refuse.
 --   filled r k n s x u v w = the answer of all its fields, in the order of their bytes
 --   zeroDate          = the date of a field that is not used
 --   dateWord d        = the date d as a word: year, month, day from the lowest byte up
@@ -6,8 +7,10 @@
 --   ofKind k          = kind k alone: 'a day test has kind 1 for a Werktag, else 0'
 --   counted n         = count n alone: 'a count [fills] the count'
 --   dated d           = date d alone: 'A step fills the date'
---   atInstant k s x   = seconds s and nanoseconds x beside kind k: 'a Gas due instant [has] kind 1 for the initial process, else 0'
---   judged k n d      = kind k, count n and date d: 'A verdict has its Werktage in the count and its earliest date in the date'
+--   atInstant k s x = seconds s and nanoseconds x beside kind k: 'a Gas due instant [has] kind 1 for the initial
+--       process, else 0'
+--   judged k n d = kind k, count n and date d: 'A verdict has its Werktage in the count and its earliest date in the
+--       date'
 --   spanned k d e     = kind k, date d and last date e: '24 to 27 the span's last date'
 -- Source: document 01, 'Host calls and their refusals'; 'Unused fields are zero'.
 -- Assumes nothing.

@@ -27,8 +27,9 @@ pub const LEAVES_CALENDAR: u8 = 8;
 /// The answer's length in bytes.
 const ANSWER_BYTES: usize = 32;
 
-/// The fields of an answer, in the order of their bytes. A field that a call does not use is 0. Bytes 20 to 31 are three
-/// words, named by their first byte: a date is one, and a number, a signed one's bits or an instant have room there too.
+/// The fields of an answer, in the order of their bytes. A field that a call does not use is 0. Bytes 20 to 31 are
+/// three words, named by their first byte: a date is one, and a number, a signed one's bits or an instant have room
+/// there too.
 pub struct Answer {
     pub refusal: u8,
     pub kind: u8,
@@ -76,7 +77,8 @@ pub fn zero_date() -> Date
     }
 }
 
-/// A date as a word: "year 2 bytes, month, day", from the lowest byte up. 7 April 2026 is 0x070407ea: bytes ea 07 04 07.
+/// A date as a word: "year 2 bytes, month, day", from the lowest byte up. 7 April 2026 is 0x070407ea: bytes ea 07 04
+/// 07.
 pub fn date_word(date: Date) -> u32
     ensures { λ r. ⌜ r ≡ dateWord date ⌝ }
 {

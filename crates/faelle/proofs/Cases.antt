@@ -1,5 +1,5 @@
--- The cases A to L of document 01 as one tabled statement about the definitions that the host calls are proved to compute: Easter Sunday, then
--- the answers in the order of the letters, each beside what the paper says.
+-- The cases A to L of document 01 as one tabled statement about the definitions that the host calls are proved to
+-- compute: Easter Sunday, then the answers in the order of the letters, each beside what the paper says.
 -- Assumes nothing.
 use Prim.Native.Nat.{ℕ}
 use mathlib.Core.List.{List, [], _∷_}
@@ -12,8 +12,10 @@ use Rattle.datum.specs.Calendar.{isLeap, daysInMonth, yearLen, isDate, indexOf,
 use Rattle.datum.specs.MonthShift.{inMonth, onMonth, addMonths, subtractMonths}
 use Rattle.werktag.specs.Easter.{easterSunday, easterIndex}
 use Rattle.werktag.specs.Werktag.{any, isFixed, isBussUndBettag, isEasterFeast, isBdewMakoHoliday, isWerktag}
-use Rattle.berlin.specs.Berlin.{readInstant, readClock, lastSunday, yearAt, offset, berlinAt, berlinMidnight, endOfDayBerlin, tagesbeginnUtc}
-use Rattle.fristen.specs.Fristen.{before, later, contrlSeconds, inWindow, toleratedIn, tolerated, contrlDueAt, nthWerktagAt}
+use Rattle.berlin.specs.Berlin.{readInstant, readClock, lastSunday, yearAt, offset, berlinAt, berlinMidnight}
+use Rattle.berlin.specs.Berlin.{endOfDayBerlin, tagesbeginnUtc}
+use Rattle.fristen.specs.Fristen.{before, later, contrlSeconds, inWindow, toleratedIn, tolerated, contrlDueAt}
+use Rattle.fristen.specs.Fristen.{nthWerktagAt}
 use Rattle.fristen.specs.Antwort.{sameDayAt, dueAt}
 use Rattle.vorlauf.specs.Monate.{monthsLater, monthsEarlier, M}
 use Rattle.vorlauf.specs.Verdict.{dayAfter, dayAfterNext, checkOf}

@@ -1,4 +1,5 @@
-// The cases A to M of document 01, worked out by calling the library: a line for each, the letter, a space, `ok` or `no`.
+// The cases A to M of document 01, worked out by calling the library: a line for each, the letter, a space, `ok` or
+// `no`.
 use antwortsatz::Answer;
 use datum::Date;
 use libc::STDOUT_FILENO;

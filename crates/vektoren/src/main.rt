@@ -1,11 +1,11 @@
-// Replays stored answers: reads questions with the answers that are expected, asks the host calls, and prints the number of
-// each line whose answer differs, then how many answers there were and how many were equal.
+// Replays stored answers: reads questions with the answers that are expected, asks the host calls, and prints the
+// number of each line whose answer differs, then how many answers there were and how many were equal.
 //
-// A line is 128 lower-case hexadecimal digits of a question, a space, 64 of its answer, and a line end. A question has 64
-// bytes, its numbers little-endian: 0 the call; 1 a code; 2 and 3 zero; 4 to 7 a date (year 2 bytes, month, day); 8 to 11 a
-// second date, or a clock's nanoseconds; 12 to 15 a count; 16 to 23 seconds, signed; 24 to 27 nanoseconds; 28 to 30 hour,
-// minute and second of a clock; 31 zero; 32 to 35 a second count; 36 to 43 and 44 to 47 a second instant; 48 a second code;
-// 49 the length of a reason and 50 to 63 its bytes. A line of another form counts as different.
+// A line is 128 lower-case hexadecimal digits of a question, a space, 64 of its answer, and a line end. A question has
+// 64 bytes, its numbers little-endian: 0 the call; 1 a code; 2 and 3 zero; 4 to 7 a date (year 2 bytes, month, day); 8
+// to 11 a second date, or a clock's nanoseconds; 12 to 15 a count; 16 to 23 seconds, signed; 24 to 27 nanoseconds; 28
+// to 30 hour, minute and second of a clock; 31 zero; 32 to 35 a second count; 36 to 43 and 44 to 47 a second instant;
+// 48 a second code; 49 the length of a reason and 50 to 63 its bytes. A line of another form counts as different.
 ghost use mathlib.Core.Bool.{true};
 ghost use mathlib.Core.Path.{_≡_};
 ghost use Prim.Native.Nat.{_+_, _*_, _≤_};
@@ -27,7 +27,8 @@ const ANSWER_AT: usize = 129;
 // The bytes of a question that a reason can take.
 const REASON_BYTES: u8 = 14;
 
-// What `ask` returns where no call has the question's number. The answer, which no call has written, begins with another.
+// What `ask` returns where no call has the question's number. The answer, which no call has written, begins with
+// another.
 const NO_CALL: u8 = 255;
 
 // What each byte of an answer is before the call, so that one that the call leaves out is seen.
@@ -448,8 +449,8 @@ fn take_block(line: &mut [u8; 193], r: Replay) -> Replay {
     take_bytes(&block[..n], line, r)
 }
 
-// A proved loop has to end, and nothing says that the input does. So the turns are counted down, from a number that no run
-// uses up.
+// A proved loop has to end, and nothing says that the input does. So the turns are counted down, from a number that no
+// run uses up.
 fn take_all(line: &mut [u8; 193]) -> Replay {
     let mut r = Replay {
         ended: false,

@@ -1,6 +1,6 @@
--- What the proofs of `bits_of` and `signed_of` cite: the bits of a signed number, as they compute them. A signed local holds bits, so a goal shows `toZ w64 (ofZ w64 z)` around
--- each value z: `back z`. `toZ-ofZ` takes that off where z fits, and a case split on `pos n` and `negsuc n`, which is -(n + 1),
--- leaves facts about natural numbers.
+-- What the proofs of `bits_of` and `signed_of` cite: the bits of a signed number, as they compute them. A signed local
+-- holds bits, so a goal shows `toZ w64 (ofZ w64 z)` around each value z: `back z`. `toZ-ofZ` takes that off where z
+-- fits, and a case split on `pos n` and `negsuc n`, which is -(n + 1), leaves facts about natural numbers.
 -- Assumes nothing.
 use Prim.Native.Nat.{ℕ, zero, suc, _-_, _^_, _≤_, _<_}
 use mathlib.Core.Bool.{true, false}
@@ -84,7 +84,8 @@ module _ (x : ℤ) (f : SFits w64 x) where
   unfolding bitsIn
   bits-natural = natural (λ z. natAbs (back z) ≡ bitsOf z) (λ n k. rw (toZ-ofZ k))
 
-pub ruleset bits-rules = (add-asks, sub-asks, cast-sign, cast-fits, top-asks, bits-negative, natural-sign, natural-fits, bits-natural)
+pub ruleset bits-rules =
+    (add-asks, sub-asks, cast-sign, cast-fits, top-asks, bits-negative, natural-sign, natural-fits, bits-natural)
 
 -- signed_of: x is the bits of a number below zero, y how far that is below -1
 module _ (x : ℕ) where

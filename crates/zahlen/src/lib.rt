@@ -24,8 +24,8 @@ pub fn u64_from(low: u32, high: u32) -> u64
     (low as u64) + 4294967296 * (high as u64)
 }
 
-/// The 64 bits of a signed number, two's complement: what its eight bytes are made of. `bits_of(-1)` is 2^64 - 1, of which
-/// every bit is set. Only a cast that loses nothing is allowed, so a negative number -(y + 1) goes through y.
+/// The 64 bits of a signed number, two's complement: what its eight bytes are made of. `bits_of(-1)` is 2^64 - 1, of
+/// which every bit is set. Only a cast that loses nothing is allowed, so a negative number -(y + 1) goes through y.
 pub fn bits_of(x: i64) -> u64
     ensures { λ r. ⌜ r ≡ bitsOf x ⌝ }
 {

@@ -1,4 +1,5 @@
--- `antworten_vorlauf::vorlauf_check_at_answer` meets its contract: what is refused is refused in order, and the rest goes to the layer below.
+-- `antworten_vorlauf::vorlauf_check_at_answer` meets its contract: what is refused is refused in order, and the rest
+-- goes to the layer below.
 -- Assumes nothing.
 use Rattle.antworten_vorlauf.proofs.Rules.{check-at-rules}
 use Rattle.antworten_vorlauf.specs.Vorlauf.{vorlaufCheckAtAnswer}

@@ -1,5 +1,5 @@
--- `antwortsatz::record_bytes` meets its contract: the array is the definition, element by element, by computation, and `bits_of`
--- gives the bits of the seconds.
+-- `antwortsatz::record_bytes` meets its contract: the array is the definition, element by element, by computation, and
+-- `bits_of` gives the bits of the seconds.
 -- Assumes nothing.
 use Rattle.antwortsatz.proofs.Rules.{bytes-are}
 use borrow.Author.Needs.{needs}

@@ -1,4 +1,5 @@
--- `zahlen::bits_of` meets its contract. A negative number is -(y + 1), and 2^64 - 1 - y are its bits; any other is its own bits.
+-- `zahlen::bits_of` meets its contract. A negative number is -(y + 1), and 2^64 - 1 - y are its bits; any other is its
+-- own bits.
 -- Assumes nothing.
 use borrow.Author.Needs.{needs}
 use Rattle.zahlen.proofs.Bits.{bits-rules}

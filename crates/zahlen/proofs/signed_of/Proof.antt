@@ -1,4 +1,5 @@
--- `zahlen::signed_of` meets its contract: below 2^63 the number itself, else one below zero, through its distance from -1.
+-- `zahlen::signed_of` meets its contract: below 2^63 the number itself, else one below zero, through its distance from
+-- -1.
 -- Assumes nothing.
 use Rattle.zahlen.proofs.Bits.{signed-rules}
 use borrow.Author.Needs.{needs}
