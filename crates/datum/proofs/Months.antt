@@ -1,6 +1,7 @@
 -- Laws of shifts by months, on dates and on indexes.
 --   dayOf t x            = day x of the month numbered t, cut to the month's last
---   on-in on-out         onMonth gives that day inside the calendar's years, and none past them
+--   on-in on-out         onMonth gives that day inside the calendar's years, and none past them; on-before none before them
+--   on-valid             inside them it is a date of the range
 --   shift-date           a shift to a day from 1 on reaches a date of the range, or none
 --   add-on               addMonths d n is day d .day of the month numbered ordinalOf d + n
 --   added-date taken-date   so a shift of a date with a day from 1 on reaches a date of the range, or none
@@ -16,25 +17,18 @@ use native.Mathlib.Omega.{arith}
 use native.Mathlib.Decide.{decLe}
 use lib.Dec.{leb}
 use lib.IntN.{ℤ, pos, negsuc, _+ℤ_, _-ℤ_, pos-+ℤ-pos}
-use borrow.Author.Tests.{leb-true, le-leb, lt-leb}
+use borrow.Author.Tests.{le-leb, lt-leb}
 use Rattle.zaehlung.specs.declared.Step.{Step}
 use Rattle.zaehlung.specs.declared.Step.the-variants.{Day, Outside}
 use Rattle.zaehlung.specs.Walk.{last}
-use Rattle.zaehlung.proofs.Every.{run, run-at}
 use Rattle.datum.specs.declared.Date.{Date}
 use Rattle.datum.specs.declared.Shifted.{Shifted}
 use Rattle.datum.specs.declared.Shifted.the-variants.{On, Outside as Left}
-use Rattle.datum.specs.Calendar.{isLeap, daysInMonth, isDate, daysBefore, dateOf}
+use Rattle.datum.specs.Calendar.{isLeap, daysInMonth, daysBefore, dateOf}
 use Rattle.datum.specs.MonthShift.{ordinalOf, inMonth, onMonth, addMonths, subtractMonths}
-use Rattle.datum.proofs.Dates.{valid-is, is-valid, index-below, index-date}
+use Rattle.datum.proofs.Dates.{Valid, valid-is, is-valid, len-ge, index-below, index-date}
 use Rattle.datum.specs.Inside.{insideShift}
 use Rattle.datum.specs.Monate.{toStep, monthsLater, monthsEarlier, M}
-
--- every month has a day
-len-some : (l : Bool) (m : ℕ) → 1 ≤ m → m ≤ 12 → 1 ≤ daysInMonth l m
-unfolding run daysInMonth
-len-some true m a b = leb-true 1 (daysInMonth true m) (run-at (λ x. leb 1 (daysInMonth true x)) 12 1 refl m a (omega arith))
-len-some false m a b = leb-true 1 (daysInMonth false m) (run-at (λ x. leb 1 (daysInMonth false x)) 12 1 refl m a (omega arith))
 
 -- day x of the month numbered t, cut to the month's last
 abbrev pub dayOf : ℕ → ℕ → Date
@@ -48,15 +42,14 @@ pub on-out : (t x : ℕ) → 2899 < t / 12 → onMonth (pos t) x ≡ Left
 unfolding onMonth inMonth
 on-out t x b = rw (le-leb 1996 (t / 12) (omega arith), lt-leb (t / 12) 2899 b)
 
-on-before : (t x : ℕ) → t / 12 < 1996 → onMonth (pos t) x ≡ Left
+pub on-before : (t x : ℕ) → t / 12 < 1996 → onMonth (pos t) x ≡ Left
 unfolding onMonth inMonth
 on-before t x b = rw (lt-leb 1996 (t / 12) b)
 
-day-valid : (t x : ℕ) → 1 ≤ x → 1996 ≤ t / 12 → t / 12 ≤ 2899 → isDate (dayOf t x) ≡ true
-day-valid t x h a b =
-    let n = len-some (isLeap (t / 12)) (t % 12 + 1) (omega arith) (omega arith) in
-    is-valid (dayOf t x)
-    (record { from = a; to = b; month-from = omega arith; month-to = omega arith; day-from = omega arith; day-to = omega arith })
+pub on-valid : (t x : ℕ) → 1 ≤ x → 1996 ≤ t / 12 → t / 12 ≤ 2899 → Valid (dayOf t x)
+on-valid t x h a b =
+    let n = len-ge (isLeap (t / 12)) (t % 12 + 1) (omega arith) (omega arith) in
+    record { from = a; to = b; month-from = omega arith; month-to = omega arith; day-from = omega arith; day-to = omega arith }
 
 pub shift-date : (z : ℤ) (x : ℕ) → 1 ≤ x → insideShift (onMonth z x)
 unfolding onMonth
@@ -67,7 +60,7 @@ shift-date (pos t) x h =
       | yes a ↦
           elim (decLe (t / 12) 2899) [
             | no b ↦ rw (on-out t x (omega arith)) tt
-            | yes b ↦ rw (on-in t x a b) (day-valid t x h a b)
+            | yes b ↦ rw (on-in t x a b) (is-valid (dayOf t x) (on-valid t x h a b))
           ]
     ]
 

@@ -7,10 +7,10 @@ use mathlib.Core.List.{[], _∷_}
 use mathlib.Core.Path.{_≡_, refl}
 use Rattle.zaehlung.specs.Blocks.{start, at}
 use Rattle.datum.specs.declared.Date.{Date}
-use Rattle.datum.specs.Calendar.{isLeap, yearLen, daysInMonth, dateIn, dateOf, daysBefore}
+use Rattle.datum.specs.Calendar.{isLeap, yearLen, daysInMonth, dateIn, daysBefore}
 use Rattle.werktag.specs.declared.HolidayCalendar.the-variants.{BdewMaKo}
 use Rattle.werktag.specs.Easter.{easterSunday, easterIndex}
-use Rattle.werktag.specs.Werktag.{any, isFixed, isBussUndBettag, isEasterFeast, isBdewMakoHoliday, isWerktag}
+use Rattle.werktag.specs.Werktag.{any, isFixed, isBussUndBettag, isEasterFeast, isWerktagIn, isWerktag}
 
 abbrev on : ℕ → ℕ → ℕ → Date
 on y m d = record { year = y; month = m; day = d }
@@ -33,5 +33,5 @@ pub year-2026 :
     ∷ w (on 2026 4 7) ∷ w (on 2026 11 11) ∷ w (on 2026 11 25) ∷ w (on 2026 4 4) ∷ []
     ≡ false ∷ false ∷ false ∷ false ∷ false ∷ false
     ∷ true ∷ true ∷ true ∷ false ∷ []
-unfolding isWerktag isBdewMakoHoliday isFixed isBussUndBettag isEasterFeast any easterIndex easterSunday dateOf dateIn at start yearLen daysInMonth isLeap
+unfolding isWerktag isWerktagIn isFixed isBussUndBettag isEasterFeast any easterIndex easterSunday dateIn at start yearLen daysInMonth isLeap
 year-2026 = refl

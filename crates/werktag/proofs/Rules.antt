@@ -14,14 +14,16 @@ use mir.Val.{SFits, toZ, ofZ}
 use mir.Facts.{toZ-ofZ}
 use Rattle.zaehlung.specs.Walk.{last}
 use Rattle.datum.specs.declared.Date.{Date}
-use Rattle.datum.specs.Calendar.{dateOf, daysBefore, weekday}
+use Rattle.datum.specs.Calendar.{yearLen, yearStart, yearOf, dateOf, daysBefore, weekday}
+use Rattle.zaehlung.proofs.BlockLaws.{at-sum}
+use Rattle.datum.proofs.Years.{start-none}
 use Rattle.zaehlung.proofs.Every.{run, run-at}
 use Rattle.datum.proofs.Dates.{and-left, and-right, and-no, index-date}
 use Rattle.datum.proofs.Signed.{back, pos-fits, neg-fits, back-pos, sub-fits, same-bits}
 use Rattle.werktag.specs.declared.HolidayCalendar.{HolidayCalendar}
 use Rattle.werktag.specs.declared.HolidayCalendar.the-variants.{BdewMaKo}
 use Rattle.werktag.specs.Easter.{easterSunday, easterIndex}
-use Rattle.werktag.specs.Werktag.{any, eqZ, fixedDays, isFixed, isBussUndBettag, easterOffsets, isEasterFeast, isBdewMakoHoliday, isWerktag}
+use Rattle.werktag.specs.Werktag.{any, eqZ, fixedDays, isFixed, isBussUndBettag, easterOffsets, isEasterFeast, isBdewMakoHoliday, isWerktagIn, isWerktag}
 use Rattle.werktag.proofs.Search.{search-hit, search-miss, search-none}
 use Rattle.werktag.proofs.Signed.{eq-eqZ, ne-eqZ, from-distance}
 
@@ -171,13 +173,18 @@ module _ (i : ℕ) (d : Date) (e : d ≡ dateOf i) where
 
 pub ruleset holiday-rules = (by-table, by-wednesday, by-easter, year-from, year-to)
 
--- is_werktag
+-- is_werktag: a day's year and the day in it make its index
+pub parts : (i : ℕ) → yearStart (yearOf i .0) + yearOf i .1 ≡ i
+parts i = omega (arith, at-sum yearLen 903 0 i, start-none)
+
+pub werktag-is : (i : ℕ) → isWerktag BdewMaKo i ≡ (not (leb 5 (weekday i)) && not (isBdewMakoHoliday i))
+unfolding isWerktag isWerktagIn isBdewMakoHoliday dateOf
+werktag-is i = rw (parts i)
+
 pub weekend : (cal : HolidayCalendar) (i w : ℕ) → w ≡ weekday i → 5 ≤ w → false ≡ isWerktag cal i
-unfolding isWerktag
-weekend BdewMaKo i w e h = rw (← e, le-leb 5 w h)
+weekend BdewMaKo i w e h = rw (werktag-is i, ← e, le-leb 5 w h)
 
 pub no-weekend : (cal : HolidayCalendar) (i w : ℕ) (r : Bool) → w ≡ weekday i → w < 5 → r ≡ isBdewMakoHoliday i → not r ≡ isWerktag cal i
-unfolding isWerktag
-no-weekend BdewMaKo i w r e h p = rw (← e, lt-leb 5 w h, p)
+no-weekend BdewMaKo i w r e h p = rw (werktag-is i, ← e, lt-leb 5 w h, p)
 
 pub ruleset werktag-rules = (weekend, no-weekend)
