@@ -8,7 +8,7 @@
 // 48 a second code; 49 the length of a reason and 50 to 63 its bytes. A line of another form counts as different.
 ghost use mathlib.Core.Bool.{true};
 ghost use mathlib.Core.Path.{_≡_};
-ghost use Prim.Native.Nat.{_+_, _*_, _≤_};
+ghost use Prim.Native.Nat.{_≤_};
 ghost use lib.ListN.{length, getD};
 ghost use Rattle.vektoren.specs.Hex.{digitOf, bytesAt};
 use libc::STDIN_FILENO;
@@ -85,24 +85,6 @@ fn read_hex(line: &[u8; 193], from: usize, out: &mut [u8]) -> bool
     true
 }
 
-fn join2(a: u8, b: u8) -> u16
-    ensures { λ r. ⌜ r ≡ a + 256 * b ⌝ }
-{
-    (a as u16) + 256 * (b as u16)
-}
-
-fn join4(a: u8, b: u8, c: u8, d: u8) -> u32
-    ensures { λ r. ⌜ r ≡ a + 256 * b + 65536 * c + 16777216 * d ⌝ }
-{
-    (a as u32) + 256 * (b as u32) + 65536 * (c as u32) + 16777216 * (d as u32)
-}
-
-fn join8(low: u32, high: u32) -> u64
-    ensures { λ r. ⌜ r ≡ low + 4294967296 * high ⌝ }
-{
-    (low as u64) + 4294967296 * (high as u64)
-}
-
 // Whether the bytes of a question that no call reads are zero.
 fn is_spare_zero(q: &[u8; 32]) -> bool {
     if q[2] != 0 {
@@ -139,29 +121,29 @@ struct Question {
 }
 
 fn question_of(q: &[u8; 32], p: &[u8; 32]) -> Question {
-    let low = join4(q[16], q[17], q[18], q[19]);
-    let high = join4(q[20], q[21], q[22], q[23]);
-    let low2 = join4(p[4], p[5], p[6], p[7]);
-    let high2 = join4(p[8], p[9], p[10], p[11]);
+    let low = zahlen::u32_from(q[16], q[17], q[18], q[19]);
+    let high = zahlen::u32_from(q[20], q[21], q[22], q[23]);
+    let low2 = zahlen::u32_from(p[4], p[5], p[6], p[7]);
+    let high2 = zahlen::u32_from(p[8], p[9], p[10], p[11]);
     Question {
         call: q[0],
         code: q[1],
-        year: join2(q[4], q[5]),
+        year: zahlen::u16_from(q[4], q[5]),
         month: q[6],
         day: q[7],
-        year2: join2(q[8], q[9]),
+        year2: zahlen::u16_from(q[8], q[9]),
         month2: q[10],
         day2: q[11],
-        nanos_of_second: join4(q[8], q[9], q[10], q[11]),
-        n: join4(q[12], q[13], q[14], q[15]),
-        seconds: antwortsatz::signed_of(join8(low, high)),
-        nanos: join4(q[24], q[25], q[26], q[27]),
+        nanos_of_second: zahlen::u32_from(q[8], q[9], q[10], q[11]),
+        n: zahlen::u32_from(q[12], q[13], q[14], q[15]),
+        seconds: zahlen::signed_of(zahlen::u64_from(low, high)),
+        nanos: zahlen::u32_from(q[24], q[25], q[26], q[27]),
         hour: q[28],
         minute: q[29],
         second: q[30],
-        n2: join4(p[0], p[1], p[2], p[3]),
-        seconds2: antwortsatz::signed_of(join8(low2, high2)),
-        nanos2: join4(p[12], p[13], p[14], p[15]),
+        n2: zahlen::u32_from(p[0], p[1], p[2], p[3]),
+        seconds2: zahlen::signed_of(zahlen::u64_from(low2, high2)),
+        nanos2: zahlen::u32_from(p[12], p[13], p[14], p[15]),
         code2: p[16],
         reason: p[17],
     }
@@ -346,7 +328,10 @@ fn ask(q: Question, p: &[u8; 32], answer: &mut [u8]) -> u8 {
 
 // Whether an answer is the one that is expected, all 32 bytes, and the number that was returned is its first.
 fn is_expected(number: u8, answer: &[u8; 32], expected: &[u8; 32]) -> bool
-    ensures { λ r. ⌜ (r ≡ true → now (answer .entry) ≡ now (expected .entry)) × (r ≡ true → number ≡ getD (now (expected .entry)) 0 0) ⌝ }
+    ensures { λ r. ⌜
+        (r ≡ true → now (answer .entry) ≡ now (expected .entry)) ×
+        (r ≡ true → number ≡ getD (now (expected .entry)) 0 0)
+        ⌝ }
 {
     if number != expected[0] {
         return false;
