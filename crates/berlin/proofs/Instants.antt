@@ -1,6 +1,7 @@
 -- A host's signed seconds, taken apart: what the proofs of `split_instant`, `in_limits`, `read_instant` and
 -- `seconds_of` cite.
 --   by-86400     the facts of the divisor 86,400, for floor division
+--   not-below    from 1970 on the machine's remainder is not negative
 --   limit-rules  inside the first and the last day of the limits the second decides
 --   Natural      seconds from the first day on: they are a natural number, and day and second are those of unsigned division
 --   read-rules   a lemma for each return of `read_instant`
@@ -12,7 +13,7 @@ use native.Mathlib.Omega.{arith}
 use native.Mathlib.Decide.{decLe, decLt}
 use lib.Dec.{T, leb, ltb}
 use lib.IntN.{ℤ, pos, negsuc, natAbs}
-use lib.Signed.{ltZ, nonNeg}
+use lib.Signed.{ltZ, leZ, remZ, mag-rem, nonNeg}
 use borrow.Author.Tests.{ltb-true, ltb-false, lt-ltb, le-ltb, le-leb, lt-leb, not-true, not-false}
 use mir.Syntax.{w32, w64}
 use mir.Val.{Fits, SFits, toZ}
@@ -28,6 +29,15 @@ use Rattle.berlin.specs.Inside.{Proper}
 
 pub by-86400 : Steps 86400
 by-86400 = record { some = omega arith; fits = omega arith; full = λ a h. omega arith; part = λ a y h. omega arith; less = λ a. omega arith; down = λ a. omega arith; rest = λ a. omega arith }
+
+-- split_instant: from 1970 on the machine's remainder is not negative
+rest-at : (z : ℤ) → leZ (pos 0) z ≡ true → ltZ (remZ z (pos 86400)) (pos 0) ≡ false
+rest-at (pos a) h = le-ltb (a % 86400) 0 (omega arith)
+rest-at (negsuc a) h = clash false h refl
+
+pub not-below : (s : ℤ) → SFits w64 s → leZ (pos 0) (back s) ≡ true → ltZ (back (remZ (back s) (pos 86400))) (pos 0) ≡ false
+not-below s f h =
+    rw (toZ-ofZ f, toZ-ofZ (sfits-le (mag-rem s (pos 86400)) f)) (rest-at s (rw (toZ-ofZ f) at h))
 
 -- in_limits: inside the first and the last day the second decides
 module _ (d t : ℕ) (h : t < 86400) where

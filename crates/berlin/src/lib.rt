@@ -154,12 +154,19 @@ pub struct Split {
     pub second: i64,
 }
 
-/// Division that rounds down, of any seconds: one second before 1970 is the last second of day -1.
+/// Division that rounds down, of any seconds: one second before 1970 is the last second of day -1. From 1970 on the
+/// machine's division rounds down as it is, and is cheaper for a number that is known not to be negative.
 ///
 /// 820,450,800, the first instant of the calendar, is second 82,800 of day 9,495.
 pub fn split_instant(s: i64) -> Split
     ensures { λ r. ⌜ (r .utcday ≡ floorDiv s daySeconds) × (r .second ≡ floorMod s daySeconds) ⌝ }
 {
+    if 0 <= s {
+        return Split {
+            utcday: s / DAY_SIGNED,
+            second: s % DAY_SIGNED,
+        };
+    }
     let utcday = s / DAY_SIGNED;
     let second = s % DAY_SIGNED;
     if second < 0 {
