@@ -2,7 +2,7 @@
 --   day-less day-more second-less second-more second-same   the order of two instants is that of the first part in which
 --                                                           they differ
 -- Assumes nothing.
-use Prim.Native.Nat.{_*_, _+_, _≤_, _<_}
+use Prim.Native.Nat.{_≤_, _<_}
 use mathlib.Core.Bool.{true, false}
 use mathlib.Core.Path.{_≡_}
 use native.Mathlib.Omega.{arith}

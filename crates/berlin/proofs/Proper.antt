@@ -5,7 +5,7 @@
 --   resolved-is      a time that is not absent: what `resolvedOr` gives is the earliest instant that shows it
 --   proper-rules     `Proper` of what each function gives, from its contract and the case that was found
 -- Assumes nothing.
-use Prim.Native.Nat.{ℕ, _+_, _-_, _*_, _≤_, _<_}
+use Prim.Native.Nat.{ℕ, _+_, _≤_, _<_}
 use mathlib.Core.Bool.{Bool, true, false, _&&_, cond}
 use mathlib.Core.Path.{_≡_, refl, sym, ap, _∙_}
 use native.Mathlib.Omega.{arith}

@@ -7,7 +7,7 @@
 --   tiling       'Consecutive days tile the timeline without gap or overlap' (lib.rs); end-of-day 'the last moment of `date`'
 --   switch-days  the clock changes on Sundays
 -- Assumes nothing.
-use Prim.Native.Nat.{ℕ, suc, _+_, _-_, _/_, _%_, _≤_, _<_}
+use Prim.Native.Nat.{ℕ, suc, _+_, _-_, _≤_, _<_}
 use mathlib.Core.Bool.{cond}
 use mathlib.Core.Logic.{_↔_}
 use mathlib.Core.Path.{_≡_, ap}
@@ -20,8 +20,7 @@ use Rattle.datum.specs.Calendar.{dateOf, weekday}
 use Rattle.berlin.specs.declared.Moment.{Moment}
 use Rattle.berlin.specs.declared.Clock.{Clock}
 use Rattle.berlin.specs.declared.Resolved.the-variants.{At, Absent}
-use Rattle.berlin.specs.Berlin.{calendarStart, daySeconds, hours, dayStart, secondsOf, firstSecond, lastSecond}
-use Rattle.berlin.specs.Berlin.{lastSunday}
+use Rattle.berlin.specs.Berlin.{calendarStart, hours, dayStart, secondsOf, firstSecond, lastSecond, lastSunday}
 use Rattle.berlin.specs.Berlin.{berlinClock, localOf, berlinDay, berlinAt, berlinMidnight, endOfDayBerlin}
 use Rattle.berlin.specs.Inside.{ProperClock}
 use Rattle.berlin.proofs.SummerTime.{sundays}

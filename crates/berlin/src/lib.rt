@@ -5,7 +5,7 @@
 // calendar is its index from 1 January 1996: the two differ by `CALENDAR_START`, which stands where the clock meets the
 // calendar.
 ghost use mathlib.Core.Path.{_≡_};
-ghost use Prim.Native.Nat.{_+_, _-_, _*_, _/_, _%_, _≤_, _<_};
+ghost use Prim.Native.Nat.{_+_, _-_, _*_, _%_, _≤_, _<_};
 ghost use lib.Dec.{ltb};
 ghost use lib.IntN.{pos};
 ghost use Rattle.zaehlung.specs.Walk.{last};
