@@ -49,11 +49,11 @@ module _ (w : ℕ → Bool) (t a : ℕ) where
   before-out-2 n x r u p q h k l = rw (sym p ∙ q, lt-leb t x h, sym k ∙ l)
 
   pub before-late :
-      (n x y b : ℕ) (r u : Step) →
-      r ≡ sub w a n → r ≡ Day x → x < t → u ≡ add w t n → u ≡ Day y → b ≡ between w x t →
-      TooLate b y ≡ checkOf w (LatestWerktageBefore n) t a
+      (n x y : ℕ) (r u : Step) (e : VorlaufVerdict) →
+      r ≡ sub w a n → r ≡ Day x → x < t → u ≡ add w t n → u ≡ Day y → e ≡ TooLate (between w x t) y →
+      e ≡ checkOf w (LatestWerktageBefore n) t a
   unfolding checkOf closes reaches
-  before-late n x y b r u p q h k l m = rw (sym p ∙ q, lt-leb t x h, sym k ∙ l, m)
+  before-late n x y r u e p q h k l m = rw (sym p ∙ q, lt-leb t x h, sym k ∙ l) m
 
   -- WindowWerktageBefore
   pub window-out : (n m : ℕ) (r : Step) → r ≡ sub w a n → r ≡ Left → Outside ≡ checkOf w (WindowWerktageBefore n m) t a
@@ -87,12 +87,12 @@ module _ (w : ℕ → Bool) (t a : ℕ) where
   window-out-3 n m o x r v u p q i j g h k l = rw (sym i ∙ j, sym p ∙ q, le-ltb t o g, lt-leb t x h, sym k ∙ l)
 
   pub window-late :
-      (n m o x y b : ℕ) (r v u : Step) →
+      (n m o x y : ℕ) (r v u : Step) (e : VorlaufVerdict) →
       r ≡ sub w a n → r ≡ Day o → v ≡ sub w a m → v ≡ Day x → o ≤ t → x < t → u ≡ add w t m → u ≡ Day y →
-      b ≡ between w x t → TooLate b y ≡ checkOf w (WindowWerktageBefore n m) t a
+      e ≡ TooLate (between w x t) y → e ≡ checkOf w (WindowWerktageBefore n m) t a
   unfolding checkOf closes reaches
-  window-late n m o x y b r v u p q i j g h k l z =
-      rw (sym i ∙ j, sym p ∙ q, le-ltb t o g, lt-leb t x h, sym k ∙ l, z)
+  window-late n m o x y r v u e p q i j g h k l z =
+      rw (sym i ∙ j, sym p ∙ q, le-ltb t o g, lt-leb t x h, sym k ∙ l) z
 
   -- LatestWerktageAfter
   pub after-out : (n : ℕ) (r : Step) → r ≡ add w a n → r ≡ Left → Outside ≡ checkOf w (LatestWerktageAfter n) t a
@@ -104,10 +104,10 @@ module _ (w : ℕ → Bool) (t a : ℕ) where
   after-ok n x r p q h = rw (sym p ∙ q, le-leb t x h)
 
   pub after-late :
-      (n x b : ℕ) (r : Step) →
-      r ≡ add w a n → r ≡ Day x → x < t → b ≡ between w x t → TooLate b a ≡ checkOf w (LatestWerktageAfter n) t a
+      (n x : ℕ) (r : Step) (e : VorlaufVerdict) →
+      r ≡ add w a n → r ≡ Day x → x < t → e ≡ TooLate (between w x t) a → e ≡ checkOf w (LatestWerktageAfter n) t a
   unfolding checkOf closes reaches
-  after-late n x b r p q h m = rw (sym p ∙ q, lt-leb t x h, m)
+  after-late n x r e p q h m = rw (sym p ∙ q, lt-leb t x h) m
 
   -- EarliestWerktageAfter
   pub earliest-out : (n : ℕ) (r : Step) → r ≡ add w t n → r ≡ Left → Outside ≡ checkOf w (EarliestWerktageAfter n) t a
@@ -119,10 +119,10 @@ module _ (w : ℕ → Bool) (t a : ℕ) where
   earliest-ok n x r p q h = rw (sym p ∙ q, le-leb x a h)
 
   pub earliest-late :
-      (n x b : ℕ) (r : Step) →
-      r ≡ add w t n → r ≡ Day x → a < x → b ≡ between w a x → TooLate b x ≡ checkOf w (EarliestWerktageAfter n) t a
+      (n x : ℕ) (r : Step) (e : VorlaufVerdict) →
+      r ≡ add w t n → r ≡ Day x → a < x → e ≡ TooLate (between w a x) x → e ≡ checkOf w (EarliestWerktageAfter n) t a
   unfolding checkOf closes reaches
-  earliest-late n x b r p q h m = rw (sym p ∙ q, lt-leb x a h, m)
+  earliest-late n x r e p q h m = rw (sym p ∙ q, lt-leb x a h) m
 
   -- Korridor
   pub korridor-out : (n : ℕ) (r : Step) → r ≡ sub w a n → r ≡ Left → Outside ≡ checkOf w (Korridor n) t a
@@ -147,11 +147,11 @@ module _ (w : ℕ → Bool) (t a : ℕ) where
   korridor-ok n o x r v p q i j g h = rw (sym i ∙ j, sym p ∙ q, le-ltb t o g, le-leb t x h)
 
   pub korridor-late :
-      (n o x b : ℕ) (r v : Step) →
-      r ≡ sub w a n → r ≡ Day o → v ≡ add w a n → v ≡ Day x → o ≤ t → x < t → b ≡ between w x t →
-      TooLate b o ≡ checkOf w (Korridor n) t a
+      (n o x : ℕ) (r v : Step) (e : VorlaufVerdict) →
+      r ≡ sub w a n → r ≡ Day o → v ≡ add w a n → v ≡ Day x → o ≤ t → x < t → e ≡ TooLate (between w x t) o →
+      e ≡ checkOf w (Korridor n) t a
   unfolding checkOf closes reaches
-  korridor-late n o x b r v p q i j g h z = rw (sym i ∙ j, sym p ∙ q, le-ltb t o g, lt-leb t x h, z)
+  korridor-late n o x r v e p q i j g h z = rw (sym i ∙ j, sym p ∙ q, le-ltb t o g, lt-leb t x h) z
 
   -- TagVorDemLetztenWerktagVor
   pub tag-out : (r : Step) → r ≡ sub w a 1 → r ≡ Left → Outside ≡ checkOf w TagVorDemLetztenWerktagVor t a
@@ -178,11 +178,12 @@ module _ (w : ℕ → Bool) (t a : ℕ) where
   tag-out-3 d x r v u p q i j h k l = rw (sym p ∙ q, sym i ∙ j, lt-leb t x h, sym k ∙ l)
 
   pub tag-late :
-      (d x y b : ℕ) (r v u : Step) →
-      r ≡ sub w a 1 → r ≡ Day d → v ≡ dayBefore d → v ≡ Day x → x < t → u ≡ fruehesterTerminNachTagVorDemLetztenWerktag w t → u ≡ Day y →
-      b ≡ between w x t → TooLate b y ≡ checkOf w TagVorDemLetztenWerktagVor t a
+      (d x y : ℕ) (r v u : Step) (e : VorlaufVerdict) →
+      r ≡ sub w a 1 → r ≡ Day d → v ≡ dayBefore d → v ≡ Day x → x < t →
+      u ≡ fruehesterTerminNachTagVorDemLetztenWerktag w t → u ≡ Day y → e ≡ TooLate (between w x t) y →
+      e ≡ checkOf w TagVorDemLetztenWerktagVor t a
   unfolding checkOf closes reaches
-  tag-late d x y b r v u p q i j h k l m = rw (sym p ∙ q, sym i ∙ j, lt-leb t x h, sym k ∙ l, m)
+  tag-late d x y r v u e p q i j h k l m = rw (sym p ∙ q, sym i ∙ j, lt-leb t x h, sym k ∙ l) m
 
   -- LatestMonateBefore
   pub monate-out : (n : ℕ) (r : Step) → r ≡ monthsEarlier a n → r ≡ Left → Outside ≡ checkOf w (LatestMonateBefore n) t a
@@ -238,8 +239,8 @@ module _ (w : ℕ → Bool) (t a : ℕ) where
   pub not-after-ok : (x y : ℕ) → t ≤ x → Ok ≡ notAfter w t x (Day y)
   not-after-ok x y h = rw (le-leb t x h)
 
-  pub not-after-late : (x y b : ℕ) → x < t → b ≡ between w x t → TooLate b y ≡ notAfter w t x (Day y)
-  not-after-late x y b h m = rw (lt-leb t x h, m)
+  pub not-after-late : (x y : ℕ) (e : VorlaufVerdict) → x < t → e ≡ TooLate (between w x t) y → e ≡ notAfter w t x (Day y)
+  not-after-late x y e h m = rw (lt-leb t x h) m
 
   -- the dispatch on the shape
   pub verdict-is : (s z : VorlaufShape) (r : VorlaufVerdict) → s ≡ z → r ≡ checkOf w z t a → r ≡ checkOf w s t a

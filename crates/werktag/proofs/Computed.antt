@@ -198,7 +198,7 @@ in-order false false true z = refl
 in-order false false false z = refl
 
 pub open-is : (k r : ℕ) → r < yearLen k → isWerktagIn BdewMaKo k r ≡ openIn (yearAt k) r
-unfolding isWerktagIn openIn yearAt dateIn any
+unfolding openIn yearAt dateIn any
 open-is k r h =
     let l : Bool = isLeap (1996 + k) in
     let f : ℕ = firstOf k in

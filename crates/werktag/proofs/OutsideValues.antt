@@ -36,14 +36,14 @@ pub year-2026 :
     ∷ w (on 2026 4 7) ∷ w (on 2026 11 11) ∷ w (on 2026 11 25) ∷ w (on 2026 4 4) ∷ []
     ≡ false ∷ false ∷ false ∷ false ∷ false ∷ false
     ∷ true ∷ true ∷ true ∷ false ∷ []
-unfolding isWerktag isWerktagIn isFixed isBussUndBettag isEasterFeast any easterIndex easterSunday dateIn at start yearLen daysInMonth isLeap
+unfolding isWerktag isFixed isBussUndBettag isEasterFeast any easterIndex easterSunday dateIn at start yearLen daysInMonth isLeap
 year-2026 = refl
 
 -- the calendar's first Werktag is 2 January 1996, its last 30 December 2899
 pub edges :
     isWerktagIn BdewMaKo 0 0 ∷ isWerktagIn BdewMaKo 0 1 ∷ isWerktagIn BdewMaKo 903 363 ∷ isWerktagIn BdewMaKo 903 364 ∷ []
     ≡ false ∷ true ∷ true ∷ false ∷ []
-unfolding isWerktagIn isFixed isBussUndBettag isEasterFeast any easterIndex easterSunday dateIn at start yearLen daysInMonth isLeap
+unfolding isFixed isBussUndBettag isEasterFeast any easterIndex easterSunday dateIn at start yearLen daysInMonth isLeap
 edges = refl
 
 -- the Werktage of 1996 to 2095

@@ -23,7 +23,7 @@ use Rattle.datum.proofs.Signed.{back, pos-fits, neg-fits, back-pos, sub-fits, s
 use Rattle.werktag.specs.declared.HolidayCalendar.{HolidayCalendar}
 use Rattle.werktag.specs.declared.HolidayCalendar.the-variants.{BdewMaKo}
 use Rattle.werktag.specs.Easter.{easterSunday, easterIndex}
-use Rattle.werktag.specs.Werktag.{any, eqZ, fixedDays, isFixed, isBussUndBettag, easterOffsets, isEasterFeast, isBdewMakoHoliday, isWerktagIn, isWerktag}
+use Rattle.werktag.specs.Werktag.{any, eqZ, fixedDays, isFixed, isBussUndBettag, easterOffsets, isEasterFeast, isBdewMakoHoliday, isWerktag}
 use Rattle.werktag.proofs.Search.{search-hit, search-miss, search-none}
 use Rattle.werktag.proofs.Signed.{eq-eqZ, ne-eqZ, from-distance}
 
@@ -178,7 +178,7 @@ pub parts : (i : ℕ) → yearStart (yearOf i .0) + yearOf i .1 ≡ i
 parts i = omega (arith, at-sum yearLen 903 0 i, start-none)
 
 pub werktag-is : (i : ℕ) → isWerktag BdewMaKo i ≡ (not (leb 5 (weekday i)) && not (isBdewMakoHoliday i))
-unfolding isWerktag isWerktagIn isBdewMakoHoliday dateOf
+unfolding isWerktag isBdewMakoHoliday dateOf
 werktag-is i = rw (parts i)
 
 pub weekend : (cal : HolidayCalendar) (i w : ℕ) → w ≡ weekday i → 5 ≤ w → false ≡ isWerktag cal i

@@ -66,7 +66,7 @@ unfoldable pub isBdewMakoHoliday : ℕ → Bool
 isBdewMakoHoliday i = isListed i (dateOf i)
 
 -- 'Werktag: not Saturday, Sunday or a holiday (GPKE Teil 1).' The day's index is yearStart k + r.
-unfoldable pub isWerktagIn : HolidayCalendar → ℕ → ℕ → Bool
+abbrev pub isWerktagIn : HolidayCalendar → ℕ → ℕ → Bool
 isWerktagIn BdewMaKo k r =
     let i = yearStart k + r in
     not (leb 5 (weekday i)) && not (isListed i (dateIn k r))

@@ -8,7 +8,7 @@ use Rattle.vorlauf.proofs.latest_monate_und_werktage_before.Statement.{
 use Rattle.vorlauf.proofs.latest_monate_und_werktage_before.Tie as tie
 
 months-earlier-requires : tie.Need-months-earlier-requires
-months-earlier-requires c κs = search needs
+months-earlier-requires c κs = search (needs, inside-rules)
 
 enum-known-back : tie.Need-enum-known-back
 enum-known-back c = search needs
