@@ -1,5 +1,5 @@
 -- A date shifted by months, BGB §188: the day of the same number, or the month's last day where the month lacks it.
---   ordinalOf d           = the number of a date's month, counted from January of year 0
+--   ordinalOf d         = the number of a date's month, counted from January of year 0
 --   onMonth t x         = day x of the month numbered t, as above, or Outside where the calendar lacks that month
 --   addMonths d n       = n months later
 --   subtractMonths d n  = n months earlier

@@ -1,12 +1,14 @@
--- Demand 3 is sharp: three stronger wordings of it are false under the list of document 01. Each falls at an edge of the
--- calendar, by computing the span and the verdicts of one transmission day.
+-- Demand 3 is sharp: three stronger wordings of it are false under the list of document 01. Each falls at an edge of
+-- the calendar, by computing the span and the verdicts of one transmission day.
 --   index y m d      = the day with that date
---   clause-refused   'acceptable exactly if in the span' without 'its verdict isn't refused': the span of Korridor(1) from 3 January
---                    1996 has 2 January for its first day, and the verdict on that anchor is refused with 8
---   clause-empty     'a span that isn't empty has an acceptable anchor': that of Window(1, 0) from 1 January 1996 runs from
---                    1 to 2 January, the verdict on either is refused with 8, and no anchor at all is acceptable
---   clause-inside    the claims on TooLate's date without 'the span isn't refused': Window(5, 0) from 22 December 2899 against
---                    21 December names 22 December, and `latest` is 0; but the span leaves the calendar, so no date is its first day
+--   clause-refused   'acceptable exactly if in the span' without 'its verdict isn't refused': the span of Korridor(1)
+--                    from 3 January 1996 has 2 January for its first day, and the verdict on that anchor is refused
+--                    with 8
+--   clause-empty     'a span that isn't empty has an acceptable anchor': that of Window(1, 0) from 1 January 1996 runs
+--                    from 1 to 2 January, the verdict on either is refused with 8, and no anchor at all is acceptable
+--   clause-inside    the claims on TooLate's date without 'the span isn't refused': Window(5, 0) from 22 December 2899
+--                    against 21 December names 22 December, and `latest` is 0; but the span leaves the calendar, so no
+--                    date is its first day
 -- Source: document 01, 'The span of anchors': the words of demand 3.
 -- Assumes nothing.
 use Prim.Native.Nat.{ℕ, zero, suc, _≤_}
@@ -59,13 +61,15 @@ empty-anchors : (a : ℕ) → a ≤ last → checkOf w (WindowWerktageBefore 1 0
 empty-anchors a h p =
     let inside : spanOf w (WindowWerktageBefore 1 0) 0 ≢ Leaves = λ e.
     let s = empty-span in let z : _≡_ {A = ℕ} 0 1 = cc in omega arith in
-    let answered : checkOf w (WindowWerktageBefore 1 0) 0 a ≢ Refused = λ e. let z : _≡_ {A = ℕ} 0 1 = cc in omega arith in
+    let answered : checkOf w (WindowWerktageBefore 1 0) 0 a ≢ Refused =
+    λ e. let z : _≡_ {A = ℕ} 0 1 = cc in omega arith in
     let lies = rw empty-span at (span-iff w 0 (omega arith) (WindowWerktageBefore 1 0) a h inside answered .0 p) in
     answered (empty-refused a (lies .1))
 
 pub clause-empty :
     (spanOf w (WindowWerktageBefore 1 0) (index 1996 1 1) ≡ Both (index 1996 1 1) (index 1996 1 2))
-    × ((a : ℕ) → liesIn (spanOf w (WindowWerktageBefore 1 0) (index 1996 1 1)) a → checkOf w (WindowWerktageBefore 1 0) (index 1996 1 1) a ≡ Refused)
+    × ((a : ℕ) → liesIn (spanOf w (WindowWerktageBefore 1 0) (index 1996 1 1)) a →
+    checkOf w (WindowWerktageBefore 1 0) (index 1996 1 1) a ≡ Refused)
     × ((a : ℕ) → a ≤ last → checkOf w (WindowWerktageBefore 1 0) (index 1996 1 1) a ≢ Ok)
 unfolding start yearLen daysInMonth isLeap
 clause-empty = (empty-span, λ a i. empty-refused a ((rw empty-span at i) .1), empty-anchors)

@@ -61,11 +61,11 @@ fn same_bytes(a: &[u8], b: &[u8]) -> bool
 }
 
 impl AbmeldungVorlauf {
-    /// The window for a reason and an EEG mark: 1 month for EEG-Marktlokationen and their Tranchen, else the day before the last
-    /// Werktag before.
+    /// The window for a reason and an EEG mark: 1 month for EEG-Marktlokationen and their Tranchen, else the day before
+    /// the last Werktag before.
     ///
-    /// Only the three bytes `ZQ7` are the BKV's deactivation; "zq7", "ZQ7 " and an empty reason are ordinary. An unknown mark has
-    /// no window.
+    /// Only the three bytes `ZQ7` are the BKV's deactivation; "zq7", "ZQ7 " and an empty reason are ordinary. An
+    /// unknown mark has no window.
     ///
     /// "ZQ7" with any mark: `AnPruefschritt120`. "zq7" with `Ja`: `EinMonat`.
     pub fn fuer(reason: &[u8], eeg: Eeg) -> AbmeldungVorlauf
@@ -111,7 +111,8 @@ impl AbmeldungVorlauf {
         cal: HolidayCalendar,
     ) -> AbmeldungVerdict
         requires { ⌜ (uebertragungstag ≤ last) × (zuordnungsende ≤ last) ⌝ }
-        ensures { λ r. ⌜ (r ≡ abmeldungCheckOf (isWerktag cal) self uebertragungstag zuordnungsende) × insideAbmeldung r ⌝ }
+        ensures { λ r. ⌜ r ≡ abmeldungCheckOf (isWerktag cal) self uebertragungstag zuordnungsende ⌝ }
+        ensures { λ r. ⌜ insideAbmeldung r ⌝ }
     {
         let AbmeldungShape::Some(shape) = self.shape() else {
             return AbmeldungVerdict::NoShape;

@@ -76,8 +76,8 @@ fn too_late(t: u32, closes: u32, first: u32, cal: HolidayCalendar) -> VorlaufVer
     }
 }
 
-/// t is the `n`-th Werktag before the anchor at the latest. `LatestWerktageBefore(1)` from Saturday 10 January 2026 against
-/// Monday 12 January: TooLate by 0 Werktage, and the date named is that Monday.
+/// t is the `n`-th Werktag before the anchor at the latest. `LatestWerktageBefore(1)` from Saturday 10 January 2026
+/// against Monday 12 January: TooLate by 0 Werktage, and the date named is that Monday.
 fn latest_werktage_before(n: u32, t: u32, a: u32, cal: HolidayCalendar) -> VorlaufVerdict
     requires { ⌜ (t ≤ last) × (a ≤ last) ⌝ }
     ensures { λ r. ⌜ r ≡ checkOf (isWerktag cal) (VorlaufShape.LatestWerktageBefore n) t a ⌝ }
@@ -175,8 +175,8 @@ fn korridor(n: u32, t: u32, a: u32, cal: HolidayCalendar) -> VorlaufVerdict
     too_late(t, closes, opens, cal)
 }
 
-/// The day after the first Werktag strictly after t: a full Werktag has to lie between t and the date. From a Monday that
-/// is Wednesday.
+/// The day after the first Werktag strictly after t: a full Werktag has to lie between t and the date. From a Monday
+/// that is Wednesday.
 fn fruehester_termin_nach_tag_vor_dem_letzten_werktag(t: u32, cal: HolidayCalendar) -> Step
     requires { ⌜ t ≤ last ⌝ }
     ensures { λ r. ⌜ r ≡ fruehesterTerminNachTagVorDemLetztenWerktag (isWerktag cal) t ⌝ }
@@ -190,8 +190,8 @@ fn fruehester_termin_nach_tag_vor_dem_letzten_werktag(t: u32, cal: HolidayCalend
     schritte::day_after(werktag)
 }
 
-/// t is the day before the last Werktag before the anchor at the latest. From Thursday 8 January 2026: Friday 9 January is
-/// TooLate by 1 Werktag, Saturday 10 January Ok.
+/// t is the day before the last Werktag before the anchor at the latest. From Thursday 8 January 2026: Friday 9 January
+/// is TooLate by 1 Werktag, Saturday 10 January Ok.
 fn tag_vor_dem_letzten_werktag_vor(t: u32, a: u32, cal: HolidayCalendar) -> VorlaufVerdict
     requires { ⌜ (t ≤ last) × (a ≤ last) ⌝ }
     ensures { λ r. ⌜ r ≡ checkOf (isWerktag cal) VorlaufShape.TagVorDemLetztenWerktagVor t a ⌝ }
@@ -236,8 +236,8 @@ fn latest_monate_before(n: u32, t: u32, a: u32, cal: HolidayCalendar) -> Vorlauf
     not_after(t, closes, first, cal)
 }
 
-/// t lies `monate` months and `werktage` Werktage before the anchor at the latest: the months first, then the Werktage back
-/// from the day on which they land. The earliest date is computed even when the verdict is Ok.
+/// t lies `monate` months and `werktage` Werktage before the anchor at the latest: the months first, then the Werktage
+/// back from the day on which they land. The earliest date is computed even when the verdict is Ok.
 fn latest_monate_und_werktage_before(
     monate: u32,
     werktage: u32,
@@ -312,13 +312,14 @@ fn months_after_werktage(t: u32, monate: u32, werktage: u32, cal: HolidayCalenda
 }
 
 impl VorlaufShape {
-    /// The verdict on a transmission day and an anchor: Ok up to the last permitted transmission day, TooLate after it, and for
-    /// the window and the Korridor TooEarly before the day on which they open.
+    /// The verdict on a transmission day and an anchor: Ok up to the last permitted transmission day, TooLate after it,
+    /// and for the window and the Korridor TooEarly before the day on which they open.
     ///
-    /// `Outside` where a date that the Rust computes leaves the calendar; the two month shapes compute their earliest date even
-    /// when the verdict is Ok. A date that is named lies in the calendar, and may be none that is acceptable.
+    /// `Outside` where a date that the Rust computes leaves the calendar; the two month shapes compute their earliest
+    /// date even when the verdict is Ok. A date that is named lies in the calendar, and may be none that is acceptable.
     ///
-    /// `LatestWerktageBefore(1)` from Saturday 10 January 2026 against Monday 12 January: TooLate by 0 Werktage, with that Monday.
+    /// `LatestWerktageBefore(1)` from Saturday 10 January 2026 against Monday 12 January: TooLate by 0 Werktage, with
+    /// that Monday.
     pub fn check(self, uebertragungstag: u32, anchor: u32, cal: HolidayCalendar) -> VorlaufVerdict
         requires { ⌜ (uebertragungstag ≤ last) × (anchor ≤ last) ⌝ }
         ensures { λ r. ⌜ (r ≡ checkOf (isWerktag cal) self uebertragungstag anchor) × insideVerdict r ⌝ }

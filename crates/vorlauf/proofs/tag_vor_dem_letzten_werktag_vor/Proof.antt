@@ -1,5 +1,5 @@
--- `vorlauf::tag_vor_dem_letzten_werktag_vor` meets its contract. Each return is a rule of VerdictRules, by the clause of
--- `checkOf` for this shape.
+-- `vorlauf::tag_vor_dem_letzten_werktag_vor` meets its contract. Each return is a rule of VerdictRules, by the clause
+-- of `checkOf` for this shape.
 -- Assumes nothing.
 use borrow.Author.Needs.{needs}
 use Rattle.vorlauf.proofs.VerdictRules.{verdict-rules}
