@@ -45,7 +45,9 @@ yearStart k = start yearLen k
 
 unfoldable pub isDate : Date → Bool
 isDate d =
-    leb 1996 (d .year) && (leb (d .year) 2899 && (leb 1 (d .month) && (leb (d .month) 12 && (leb 1 (d .day) && leb (d .day) (daysInMonth (isLeap (d .year)) (d .month))))))
+    leb 1996 (d .year) && (leb (d .year) 2899
+    && (leb 1 (d .month) && (leb (d .month) 12
+    && (leb 1 (d .day) && leb (d .day) (daysInMonth (isLeap (d .year)) (d .month))))))
 
 -- the days of the years, of the months and of the month before a date
 abbrev pub daysBefore : Date → ℕ

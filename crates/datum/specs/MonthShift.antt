@@ -19,7 +19,9 @@ ordinalOf d = d .year * 12 + (d .month - 1)
 -- the day in month m of year y
 unfoldable pub inMonth : ℕ → ℕ → ℕ → Shifted
 inMonth y m x =
-    cond (leb 1996 y && leb y 2899) (On (record { year = y; month = m; day = min x (daysInMonth (isLeap y) m) })) Outside
+    cond (leb 1996 y && leb y 2899)
+    (On (record { year = y; month = m; day = min x (daysInMonth (isLeap y) m) }))
+    Outside
 
 unfoldable pub onMonth : ℤ → ℕ → Shifted
 onMonth (pos t) x = inMonth (t / 12) (t % 12 + 1) x

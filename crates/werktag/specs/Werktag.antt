@@ -40,7 +40,8 @@ eqZ (negsuc a) (negsuc b) = eqb a b
 -- 31.12.'
 abbrev pub fixedDays : List (ℕ × ℕ)
 fixedDays =
-    (1, 1) ∷ (6, 1) ∷ (8, 3) ∷ (1, 5) ∷ (15, 8) ∷ (20, 9) ∷ (3, 10) ∷ (31, 10) ∷ (1, 11) ∷ (24, 12) ∷ (25, 12) ∷ (26, 12) ∷ (31, 12) ∷ []
+    (1, 1) ∷ (6, 1) ∷ (8, 3) ∷ (1, 5) ∷ (15, 8) ∷ (20, 9) ∷ (3, 10) ∷ (31, 10) ∷ (1, 11)
+    ∷ (24, 12) ∷ (25, 12) ∷ (26, 12) ∷ (31, 12) ∷ []
 
 unfoldable pub isFixed : ℕ → ℕ → Bool
 isFixed m d = any (λ x. eqb (x .0) d && eqb (x .1) m) fixedDays

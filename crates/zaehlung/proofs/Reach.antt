@@ -64,8 +64,8 @@ later-out : (s : Step) → later s ≡ Outside → s ≡ Outside
 later-out (Day f) p = never (Day (suc f)) (suc f) refl p
 later-out Outside p = refl
 
--- Where each outcome of a step brings a fact, P e of Day e and Q of Outside, and no two of these facts hold together, an
--- outcome is there exactly if its fact is.
+-- Where each outcome of a step brings a fact, P e of Day e and Q of Outside, and no two of these facts hold together,
+-- an outcome is there exactly if its fact is.
 module _ {s : Step} {P : ℕ → Type 0} {Q : Type 0} (day : (e : ℕ) → s ≡ Day e → P e) (out : s ≡ Outside → Q) where
   exactly-day : ((e f : ℕ) → P e → P f → e ≡ f) → ((e : ℕ) → P e → Q → ⊥) → (e : ℕ) → (s ≡ Day e) ↔ P e
   exactly-day one not e = (day e, λ p. go s refl p)
