@@ -1,10 +1,11 @@
--- What the proofs of the shifts by months ask, with the premises in the form in which a proof has them: d is what `date_of`
--- returned, s and v are what shifts returned, r and u steps.
+-- What the proofs of the shifts by months ask, with the premises in the form in which a proof has them: d is what
+-- `date_of` returned, s and v are what shifts returned, r and u steps.
 --   month-some date-month      the month of a date is one: what a shift asks
 --   *-dated first-dated        a shift reaches a date of the range: what `to_step` asks
 --   date-valid                 so that date is one of the range: what `days_before` asks
 --   toStep-* later-is earlier-is   the returns of `to_step`, `months_later`, `months_earlier`
---   date-gone date-kept date-first   the three returns of `months_or_first_date`; date-reached is what the second promises
+--   date-gone date-kept date-first   the three returns of `months_or_first_date`; date-reached is what the second
+--                                    promises
 --   M-dated                    the return of `months_or_first`
 --   month-rules                = these, for `search (needs, ..)`
 -- Source: the definitions of Monate.
@@ -33,7 +34,8 @@ month-some i d h e = rw e (index-date i h .0 .month-from)
 pub later-dated : (i n : ℕ) (d : Date) (s : Shifted) → i ≤ last → d ≡ dateOf i → s ≡ addMonths d n → insideShift s
 later-dated i n d s h e p = rw (p, e) (added-date (dateOf i) n (index-date i h .0 .day-from))
 
-pub earlier-dated : (i n : ℕ) (d : Date) (s : Shifted) → i ≤ last → d ≡ dateOf i → s ≡ subtractMonths d n → insideShift s
+pub earlier-dated :
+    (i n : ℕ) (d : Date) (s : Shifted) → i ≤ last → d ≡ dateOf i → s ≡ subtractMonths d n → insideShift s
 earlier-dated i n d s h e p = rw (p, e) (taken-date (dateOf i) n (index-date i h .0 .day-from))
 
 pub date-valid : (s : Shifted) (e : Date) → insideShift s → s ≡ On e → isDate e ≡ true
@@ -45,11 +47,15 @@ toStep-on s e k p q = rw (p, q)
 pub toStep-gone : (s : Shifted) → s ≡ Gone → Left ≡ toStep s
 toStep-gone s p = rw p
 
-pub later-is : (i n : ℕ) (d : Date) (s : Shifted) (r : Step) → d ≡ dateOf i → s ≡ addMonths d n → r ≡ toStep s → r ≡ monthsLater i n
+pub later-is :
+    (i n : ℕ) (d : Date) (s : Shifted) (r : Step) → d ≡ dateOf i → s ≡ addMonths d n → r ≡ toStep s →
+    r ≡ monthsLater i n
 unfolding monthsLater
 later-is i n d s r e p q = rw (q, p, e)
 
-pub earlier-is : (i n : ℕ) (d : Date) (s : Shifted) (r : Step) → d ≡ dateOf i → s ≡ subtractMonths d n → r ≡ toStep s → r ≡ monthsEarlier i n
+pub earlier-is :
+    (i n : ℕ) (d : Date) (s : Shifted) (r : Step) → d ≡ dateOf i → s ≡ subtractMonths d n → r ≡ toStep s →
+    r ≡ monthsEarlier i n
 unfolding monthsEarlier
 earlier-is i n d s r e p q = rw (q, p, e)
 
@@ -90,7 +96,9 @@ pub ruleset date-shift-rules = (date-month, date-gone, date-reached, reached-mon
 pub day-valid : (i : ℕ) (d : Date) → i ≤ last → d ≡ dateOf i → isDate d ≡ true
 day-valid i d h e = rw e (is-valid (dateOf i) (index-date i h .0))
 
-pub M-dated : (n i : ℕ) (d : Date) (s : Shifted) (u : Step) → i ≤ last → d ≡ dateOf i → toStep s ≡ M n (daysBefore d) → u ≡ toStep s → u ≡ M n i
+pub M-dated :
+    (n i : ℕ) (d : Date) (s : Shifted) (u : Step) → i ≤ last → d ≡ dateOf i → toStep s ≡ M n (daysBefore d) →
+    u ≡ toStep s → u ≡ M n i
 M-dated n i d s u h e p q =
     let k : daysBefore d ≡ i = rw e (index-date i h .1) in
     q ∙ p ∙ ap (M n) k

@@ -1,6 +1,7 @@
 -- Laws of shifts by months, on dates and on indexes.
 --   dayOf t x            = day x of the month numbered t, cut to the month's last
---   on-in on-out         onMonth gives that day inside the calendar's years, and none past them; on-before none before them
+--   on-in on-out         onMonth gives that day inside the calendar's years, and none past them; on-before none before
+--                        them
 --   on-valid             inside them it is a date of the range
 --   shift-date           a shift to a day from 1 on reaches a date of the range, or none
 --   add-on               addMonths d n is day d .day of the month numbered ordinalOf d + n
@@ -49,7 +50,14 @@ on-before t x b = rw (lt-leb 1996 (t / 12) b)
 pub on-valid : (t x : ℕ) → 1 ≤ x → 1996 ≤ t / 12 → t / 12 ≤ 2899 → Valid (dayOf t x)
 on-valid t x h a b =
     let n = len-ge (isLeap (t / 12)) (t % 12 + 1) (omega arith) (omega arith) in
-    record { from = a; to = b; month-from = omega arith; month-to = omega arith; day-from = omega arith; day-to = omega arith }
+    record {
+      from = a;
+      to = b;
+      month-from = omega arith;
+      month-to = omega arith;
+      day-from = omega arith;
+      day-to = omega arith;
+    }
 
 pub shift-date : (z : ℤ) (x : ℕ) → 1 ≤ x → insideShift (onMonth z x)
 unfolding onMonth
@@ -95,7 +103,8 @@ unfolding monthsEarlier
 earlier-inside i n e h p = toStep-inside (subtractMonths (dateOf i) n) e (earlier-date i n h) p
 
 -- both ends of M are days of a month
-either-inside : (b : Bool) (s u : Shifted) (e : ℕ) → insideShift s → insideShift u → cond b (toStep s) (toStep u) ≡ Day e → e ≤ last
+either-inside :
+    (b : Bool) (s u : Shifted) (e : ℕ) → insideShift s → insideShift u → cond b (toStep s) (toStep u) ≡ Day e → e ≤ last
 either-inside true s u e v w p = toStep-inside s e v p
 either-inside false s u e v w p = toStep-inside u e w p
 
@@ -120,7 +129,9 @@ module _ (n i : ℕ) (d : Date) (s : Shifted) (g : d ≡ dateOf i) (p : s ≡ ad
   len : ℕ
   len = daysInMonth (isLeap (t / 12)) (t % 12 + 1)
 
-  M-is : (b : Bool) → leb (d .day) len ≡ b → M n i ≡ cond b (toStep (onMonth (pos t) (d .day))) (toStep (onMonth (pos (suc t)) 1))
+  M-is :
+      (b : Bool) → leb (d .day) len ≡ b →
+      M n i ≡ cond b (toStep (onMonth (pos t) (d .day))) (toStep (onMonth (pos (suc t)) 1))
   unfolding M t len
   M-is b q = rw (← g, q)
 

@@ -1,5 +1,6 @@
--- The calendar's definitions against values from outside: weekdays of known days, month lengths, and month shifts by BGB §188 as commentaries
--- work them out (Palandt/Ellenberger, §188: a Frist of a month from 31 January ends with the last day of February).
+-- The calendar's definitions against values from outside: weekdays of known days, month lengths, and month shifts by
+-- BGB §188 as commentaries work them out (Palandt/Ellenberger, §188: a Frist of a month from 31 January ends with the
+-- last day of February).
 -- Assumes nothing.
 use Prim.Native.Nat.{ℕ}
 use mathlib.Core.List.{[], _∷_}

@@ -2,8 +2,8 @@
 --   toStep s           = the index of the date that a shift by months reached, or Outside
 --   monthsLater i n    = day i and n months: `add_months`
 --   monthsEarlier i n  = day i less n months: `subtract_months`
---   M n i              = day i and n months, or, where the day was cut to the month's last, the first of the next month:
---                        `months_or_first`
+--   M n i              = day i and n months, or, where the day was cut to the month's last, the first of the next
+--                        month: `months_or_first`
 -- Source: BGB §188 Abs. 2 and 3; document 01, lib.rs and 'The span of anchors'.
 use Prim.Native.Nat.{ℕ, suc, _+_, _/_, _%_}
 use mathlib.Core.Bool.{cond}

@@ -45,8 +45,8 @@ pub fn months_earlier(day: u32, n: u32) -> Step
     to_step(super::subtract_months(super::date_of(day), n))
 }
 
-/// M(n, d) of document 01 for a date of the range: 'd plus n months, or, if the day was cut to the month's last, the first of
-/// the next month'.
+/// M(n, d) of document 01 for a date of the range: 'd plus n months, or, if the day was cut to the month's last, the
+/// first of the next month'.
 ///
 /// `Outside` past the calendar's last day, which the first of the next month may be where n months later is not.
 ///

@@ -1,6 +1,6 @@
 -- A turn and a return of each loop, for any test w of a day: what a loop's proof asks, with the premises in the form in
--- which it has them. x is what the walk has to give, and the invariant says that the walk from here on gives it; r is what
--- the day test returned.
+-- which it has them. x is what the walk has to give, and the invariant says that the walk from here on gives it; r is
+-- what the day test returned.
 --   add-edge  sub-edge  W-edge  next-edge                  no day is left: Outside is what the walk gives
 --   add-open  sub-open  W-open              between-open   the day tested is a Werktag
 --   add-shut  sub-shut  W-shut  next-shut   between-shut   it is none

@@ -1,11 +1,11 @@
--- A verdict is TooLate exactly if the day held against the last permitted transmission day comes after it, for every test w
--- of a day, every shape s, and t and a of the calendar.
+-- A verdict is TooLate exactly if the day held against the last permitted transmission day comes after it, for every
+-- test w of a day, every shape s, and t and a of the calendar.
 --   isLate v     v is TooLate, with some shortfall and some date
 --   ordered s    s is no `WindowWerktageBefore` with `earliest` below `latest`
 --   late-after   closes < reaches, if the verdict is TooLate: of any shape
 --   late-iff     the verdict is TooLate exactly if closes < reaches, if it isn't refused and the shape is ordered
--- Source: document 02, F-6: the margin 'is negative exactly if the verdict is TooLate, apart from `WindowWerktageBefore` with
--- `earliest` below `latest`, where TooEarly may stand beside a negative margin'.
+-- Source: document 02, F-6: the margin 'is negative exactly if the verdict is TooLate, apart from
+-- `WindowWerktageBefore` with `earliest` below `latest`, where TooEarly may stand beside a negative margin'.
 -- Assumes nothing.
 use Prim.Native.Nat.{ℕ, _≤_, _<_}
 use mathlib.Core.Bool.{Bool, cond}
@@ -78,7 +78,8 @@ module _ (w : ℕ → Bool) (t a : ℕ) (ha : a ≤ last) where
       step-lates (sub w a n) _ (λ o u.
       let g : o ≤ c = omega (arith, sub-day w a n o .0 u .before, add-day w a n c ha .0 p .after) in
       window-lates o c r (between w t o) (Day o) g (cc) h)
-  verdict-lates TagVorDemLetztenWerktagVor c r i p q h = upto-lates r c (fruehesterTerminNachTagVorDemLetztenWerktag w t) h
+  verdict-lates TagVorDemLetztenWerktagVor c r i p q h =
+      upto-lates r c (fruehesterTerminNachTagVorDemLetztenWerktag w t) h
   verdict-lates (LatestMonateBefore n) c r i p q h = step-lates (monthsLater t n) _ (λ y _. upto-lates r c (Day y) h)
   verdict-lates (LatestMonateUndWerktageBefore monate werktage) c r i p q h =
       step-lates (add w t werktage) _ (λ d _. step-lates (monthsLater d monate) _ (λ y _. upto-lates r c (Day y) h))

@@ -8,4 +8,5 @@ pub mod SpansFirst
 pub mod SpansLate
 pub mod SpansNamed
 pub mod Demand3
+pub mod Sharp
 pub mod Closes

@@ -79,18 +79,22 @@ day-run i h =
     (omega (arith, date-run d (v .0 .from) (v .0 .month-from) (v .0 .month-to)), v .0 .day-from, omega (arith, v .0 .day-to))
 
 -- day x of the month numbered t
-on-date : (t x e : ℕ) → toStep (onMonth (pos t) x) ≡ Day e → (1996 ≤ t / 12) × (t / 12 ≤ 2899) × (e ≡ daysBefore (dayOf t x))
+on-date :
+    (t x e : ℕ) → toStep (onMonth (pos t) x) ≡ Day e → (1996 ≤ t / 12) × (t / 12 ≤ 2899) × (e ≡ daysBefore (dayOf t x))
 on-date t x e p =
     elim (decLe 1996 (t / 12)) [
       | yes h ↦
           elim (decLe (t / 12) 2899) [
             | yes g ↦ let q = ap toStep (on-in t x h g) in (h, g, (cc))
-            | no g ↦ let q = ap toStep (on-out t x (omega arith)) in let z : _≡_ {A = ℕ} 0 1 = cc in absurd (omega arith)
+            | no g ↦
+                let q = ap toStep (on-out t x (omega arith)) in
+                let z : _≡_ {A = ℕ} 0 1 = cc in absurd (omega arith)
           ]
       | no h ↦ let q = ap toStep (on-before t x (omega arith)) in let z : _≡_ {A = ℕ} 0 1 = cc in absurd (omega arith)
     ]
 
-pub on-run : (t x e : ℕ) → toStep (onMonth (pos t) x) ≡ Day e → e + origin ≡ start monthDays t + (min x (monthDays t) - 1)
+pub on-run :
+    (t x e : ℕ) → toStep (onMonth (pos t) x) ≡ Day e → e + origin ≡ start monthDays t + (min x (monthDays t) - 1)
 on-run t x e p =
     let r = on-date t x e p in
     let q : t / 12 * 12 + (t % 12 + 1 - 1) ≡ t = omega arith in

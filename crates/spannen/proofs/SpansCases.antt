@@ -9,7 +9,8 @@
 --   window-ok      'too early before a day, then `notAfter`' is Ok  exactly if  it is neither before nor after
 --   Spans p v a    unless p leaves the calendar, v accepts the anchor a as p does
 --   from-spans     so for the span from a step's day on; both-spans for that between the days of two
---   from-begins    the span from a step's day on begins there, and nowhere else; both-begins that between two at the first's
+--   from-begins    the span from a step's day on begins there, and nowhere else; both-begins that between two at the
+--                  first's
 --   late-day       a TooLate on a step's day is that of a day
 --   late-upto      `notAfter` is TooLate: it is after that day, and names the step's; late-window the same of a window
 -- Source: document 01, 'The span of anchors': the words of demand 3.
@@ -83,7 +84,8 @@ module _ {A : Type 0} where
   neither : (v : VorlaufVerdict) → v ≢ Ok → (A → ⊥) → (v ≡ Ok) ↔ A
   neither v n f = (λ p. absurd (n p), λ x. absurd (f x))
 
-  pub day-accepts : (s : Step) (f : ℕ → VorlaufVerdict) → ((d : ℕ) → s ≡ Day d → Accepts (f d) A) → Accepts (onStep Outside s f) A
+  pub day-accepts :
+      (s : Step) (f : ℕ → VorlaufVerdict) → ((d : ℕ) → s ≡ Day d → Accepts (f d) A) → Accepts (onStep Outside s f) A
   day-accepts s f g = day-cases (λ v. Accepts v A) s f (λ _ h. absurd (h refl)) g
 
   pub upto-ok : (w : ℕ → Bool) (t c : ℕ) (f : Step) → (t ≤ c) ↔ A → (notAfter w t c f ≡ Ok) ↔ A
@@ -103,7 +105,8 @@ window-ok {A} {B} w t o c b f i j =
 abbrev pub Spans : Span → VorlaufVerdict → ℕ → Type 0
 Spans p v a = p ≢ NoSpan → Accepts v (liesIn p a)
 
-pub from-spans : (s : Step) (v : VorlaufVerdict) (a : ℕ) → ((f : ℕ) → s ≡ Day f → Accepts v (f ≤ a)) → Spans (spanFrom s) v a
+pub from-spans :
+    (s : Step) (v : VorlaufVerdict) (a : ℕ) → ((f : ℕ) → s ≡ Day f → Accepts v (f ≤ a)) → Spans (spanFrom s) v a
 from-spans s v a g = from-cases (λ p. Spans p v a) s (λ h. absurd (h refl)) (λ f q _. g f q)
 
 pub both-spans :
@@ -131,7 +134,8 @@ module _ {R : Type 0} (b y : ℕ) where
   late-day s f = day-cases (λ v. v ≡ TooLate b y → R) s f (λ _ e. let z : _≡_ {A = ℕ} 0 1 = cc in absurd (omega arith))
 
   pub late-upto :
-      (w : ℕ → Bool) (t c : ℕ) (f : Step) → (c < t → f ≡ Day y → between w c t ≡ b → R) → notAfter w t c f ≡ TooLate b y → R
+      (w : ℕ → Bool) (t c : ℕ) (f : Step) → (c < t → f ≡ Day y → between w c t ≡ b → R) →
+      notAfter w t c f ≡ TooLate b y → R
   late-upto w t c f g =
       upto-cases (λ v. v ≡ TooLate b y → R) t c Ok _
       (λ _ e. let z : _≡_ {A = ℕ} 0 1 = cc in absurd (omega arith))

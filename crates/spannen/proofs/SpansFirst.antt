@@ -48,7 +48,8 @@ from-first s f g =
     from-cases (λ p. begins p f → liesIn p f × (f ≤ last)) s (λ b. absurd b) (λ d q b. (omega arith, omega (arith, g d q)))
 
 both-first :
-    (s u : Step) (f : ℕ) → ((d : ℕ) → s ≡ Day d → d ≤ last) → begins (spanBetween s u) f → liesIn (spanBetween s u) f × (f ≤ last)
+    (s u : Step) (f : ℕ) → ((d : ℕ) → s ≡ Day d → d ≤ last) → begins (spanBetween s u) f →
+    liesIn (spanBetween s u) f × (f ≤ last)
 both-first s u f g =
     both-cases (λ p. begins p f → liesIn p f × (f ≤ last)) s u
     (λ b. absurd b)
@@ -75,13 +76,15 @@ module _ (w : ℕ → Bool) (t : ℕ) (ht : t ≤ last) where
       M-inside monate (x .0) d (W-inside w t werktage (x .0) ht (x .1)) (x .2))
 
   -- an acceptable anchor lies in a span that stays inside the calendar
-  accepted-lies : (s : VorlaufShape) (a : ℕ) → a ≤ last → spanOf w s t ≢ Outside → checkOf w s t a ≡ Ok → liesIn (spanOf w s t) a
+  accepted-lies :
+      (s : VorlaufShape) (a : ℕ) → a ≤ last → spanOf w s t ≢ Outside → checkOf w s t a ≡ Ok → liesIn (spanOf w s t) a
   accepted-lies s a ha h p = shape-spans w t ht a ha s h (λ q. let z : _≡_ {A = ℕ} 0 1 = cc in omega arith) .0 p
 
   pub accepted-least : (s : VorlaufShape) (f a : ℕ) → a ≤ last → begins (spanOf w s t) f → checkOf w s t a ≡ Ok → f ≤ a
   accepted-least s f a ha b p = first-least (spanOf w s t) f a b (accepted-lies s a ha (begins-inside (spanOf w s t) f b) p)
 
-  pub first-accepted : (s : VorlaufShape) (f : ℕ) → begins (spanOf w s t) f → checkOf w s t f ≢ Refused → checkOf w s t f ≡ Ok
+  pub first-accepted :
+      (s : VorlaufShape) (f : ℕ) → begins (spanOf w s t) f → checkOf w s t f ≢ Refused → checkOf w s t f ≡ Ok
   first-accepted s f b h =
       let i = first-lies f s b in
       shape-spans w t ht f (i .1) s (begins-inside (spanOf w s t) f b) h .1 (i .0)

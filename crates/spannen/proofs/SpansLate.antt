@@ -1,6 +1,7 @@
 -- What a TooLate says, for every shape and any test w of a day.
 --   names w s t a     = the date that a TooLate of the shape names, as a step: `earliest_possible`
---   Late w s t a b y  the window closes on a day, the day held against it comes later, b Werktage later, and y is that date
+--   Late w s t a b y  the window closes on a day, the day held against it comes later, b Werktage later, and y is that
+--                     date
 --   late-says         so if the verdict is TooLate b y
 -- Source: document 01, vorlauf.rs.
 -- Assumes nothing.
@@ -49,10 +50,12 @@ module _ (w : ℕ → Bool) (t a b y : ℕ) where
       (s : VorlaufShape) (c r : ℕ) → closes w s a ≡ Day c → reaches w s t ≡ Day r →
       verdictOn w s t a c r ≡ TooLate b y → Late w s t a b y
   unfolding reaches
-  verdict-says (LatestWerktageBefore n) c r p q = late-upto b y w r c (add w t n) (is-late (LatestWerktageBefore n) c r p q)
+  verdict-says (LatestWerktageBefore n) c r p q =
+      late-upto b y w r c (add w t n) (is-late (LatestWerktageBefore n) c r p q)
   verdict-says (WindowWerktageBefore earliest latest) c r p q =
       late-day b y (sub w a earliest) _ (λ o _.
-      late-window b y w t r o c (between w t o) (add w t latest) (is-late (WindowWerktageBefore earliest latest) c r p q))
+      late-window b y w t r o c (between w t o) (add w t latest)
+      (is-late (WindowWerktageBefore earliest latest) c r p q))
   verdict-says (LatestWerktageAfter n) c r p q = late-upto b y w r c (Day a) (is-late (LatestWerktageAfter n) c r p q)
   verdict-says (EarliestWerktageAfter n) c r p q =
       late-upto b y w r c (Day r) (λ h e. is-late (EarliestWerktageAfter n) c r p q h (q ∙ e))

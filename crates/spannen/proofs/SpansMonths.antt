@@ -75,7 +75,9 @@ unfolding M
 M-cut n i h = rw (lt-leb (dateOf i .day) (monthDays (monthAt i + n)) h)
 
 -- the first of the month after
-cut-run : (n i f : ℕ) → monthDays (monthAt i + n) < dateOf i .day → M n i ≡ Day f → f + origin ≡ start monthDays (suc (monthAt i + n))
+cut-run :
+    (n i f : ℕ) → monthDays (monthAt i + n) < dateOf i .day → M n i ≡ Day f →
+    f + origin ≡ start monthDays (suc (monthAt i + n))
 cut-run n i f h p =
     let o : ℕ = suc (monthAt i + n) in
     omega (arith, on-run o 1 f (sym (M-cut n i h) ∙ p), month-has o)

@@ -2,7 +2,8 @@
 --   next-after      the day after the first open day after t, as the verdict computes it, is as the span does
 --   earliest-named  EarliestWerktageAfter names the first day; tag-named TagVorDemLetztenWerktagVor does
 --   month-named     LatestMonateBefore does exactly if no day was cut
---   before-named    LatestWerktageBefore(n) does exactly if n is 0, or t and the first day are open; window-named the window
+--   before-named    LatestWerktageBefore(n) does exactly if n is 0, or t and the first day are open; window-named the
+--                   window
 --   after-named     LatestWerktageAfter never does; korridor-named Korridor never does
 --   after-not       the date that LatestWerktageAfter names is not acceptable; korridor-not that of Korridor
 --   before-ok       the date that LatestWerktageBefore(n) names is acceptable exactly if t is open, n at least 1
@@ -34,7 +35,8 @@ use Rattle.vorlauf.specs.Verdict.{closes, reaches, fruehesterTerminNachTagVorDe
 use Rattle.vorlauf.specs.Span.{spanFrom, spanBetween, spanOf, begins}
 use Rattle.spannen.proofs.SpansSteps.{after-iff, add-mono, W-add-iff, back-iff, back-out}
 use Rattle.spannen.proofs.SpansMonths.{M-kept, M-later-iff, later-day-iff}
-use Rattle.spannen.proofs.SpansCases.{day-cases, late-not, refused-not, upto-ok, window-ok, from-begins, both-begins}
+use Rattle.spannen.proofs.SpansCases.{day-cases, late-not, refused-not, upto-ok, window-ok, from-begins}
+use Rattle.spannen.proofs.SpansCases.{both-begins}
 use Rattle.spannen.proofs.SpansLate.{late-says}
 
 module _ (w : ℕ → Bool) where
@@ -47,7 +49,8 @@ module _ (w : ℕ → Bool) where
           next-iff w (suc t) e h .1 (r .0, omega (arith, count-open w e (r .0)), r .2) ∙ sym p
       go Left p = next-out-iff w (suc t) h .1 (add-out-iff w t 1 (omega arith) .0 p) ∙ sym p
 
-  pub next-after : (t : ℕ) → t ≤ last → fruehesterTerminNachTagVorDemLetztenWerktag w t ≡ onStep Left (add w t 1) dayAfter
+  pub next-after :
+      (t : ℕ) → t ≤ last → fruehesterTerminNachTagVorDemLetztenWerktag w t ≡ onStep Left (add w t 1) dayAfter
   unfolding fruehesterTerminNachTagVorDemLetztenWerktag dayAfter
   next-after t h =
       elim (decLt t last) [
@@ -67,11 +70,13 @@ begins-one Empty f y g = absurd g
 begins-one Outside f y g = absurd g
 
 module _ (w : ℕ → Bool) (t : ℕ) (ht : t ≤ last) (a : ℕ) (ha : a ≤ last) (b y : ℕ) where
-  pub earliest-named : (n : ℕ) → checkOf w (EarliestWerktageAfter n) t a ≡ TooLate b y → begins (spanOf w (EarliestWerktageAfter n) t) y
+  pub earliest-named :
+      (n : ℕ) → checkOf w (EarliestWerktageAfter n) t a ≡ TooLate b y → begins (spanOf w (EarliestWerktageAfter n) t) y
   unfolding spanOf
   earliest-named n e = from-begins (add w t n) y .1 (late-says w t a b y (EarliestWerktageAfter n) e .named)
 
-  pub tag-named : checkOf w TagVorDemLetztenWerktagVor t a ≡ TooLate b y → begins (spanOf w TagVorDemLetztenWerktagVor t) y
+  pub tag-named :
+      checkOf w TagVorDemLetztenWerktagVor t a ≡ TooLate b y → begins (spanOf w TagVorDemLetztenWerktagVor t) y
   unfolding spanOf
   tag-named e =
       from-begins (onStep Left (add w t 1) dayAfter) y .1
@@ -89,7 +94,8 @@ module _ (w : ℕ → Bool) (t : ℕ) (ht : t ≤ last) (a : ℕ) (ha : a ≤ la
       )
 
   pub before-named :
-      (n f : ℕ) → begins (spanOf w (LatestWerktageBefore n) t) f → checkOf w (LatestWerktageBefore n) t a ≡ TooLate b y →
+      (n f : ℕ) → begins (spanOf w (LatestWerktageBefore n) t) f →
+      checkOf w (LatestWerktageBefore n) t a ≡ TooLate b y →
       begins (spanOf w (LatestWerktageBefore n) t) y ↔ ((n ≡ 0) ⊎ ((w t ≡ true) × (w f ≡ true)))
   unfolding spanOf
   before-named n f g e =
@@ -97,33 +103,38 @@ module _ (w : ℕ → Bool) (t : ℕ) (ht : t ≤ last) (a : ℕ) (ha : a ≤ la
       (W-add-iff w t n f y ht (from-begins (W w t n) f .0 g) (late-says w t a b y (LatestWerktageBefore n) e .named))
 
   pub window-named :
-      (n m f : ℕ) → begins (spanOf w (WindowWerktageBefore n m) t) f → checkOf w (WindowWerktageBefore n m) t a ≡ TooLate b y →
+      (n m f : ℕ) → begins (spanOf w (WindowWerktageBefore n m) t) f →
+      checkOf w (WindowWerktageBefore n m) t a ≡ TooLate b y →
       begins (spanOf w (WindowWerktageBefore n m) t) y ↔ ((m ≡ 0) ⊎ ((w t ≡ true) × (w f ≡ true)))
   unfolding spanOf
   window-named n m f g e =
       Iff·trans (begins-one (spanBetween (W w t m) (add w t n)) f y g)
-      (W-add-iff w t m f y ht (both-begins (W w t m) (add w t n) f g) (late-says w t a b y (WindowWerktageBefore n m) e .named))
+      (W-add-iff w t m f y ht (both-begins (W w t m) (add w t n) f g)
+      (late-says w t a b y (WindowWerktageBefore n m) e .named))
 
   -- a date by an anchor whose n-th open day after it is before t is no first day, and is not acceptable
   by-anchor : (n c : ℕ) → add w a n ≡ Day c → c < t → y ≤ a → sub w t n ≡ Day y → ⊥
   by-anchor n c p h g q = omega (arith, after-iff w t a n c y ha p q .1 g)
 
   -- LatestWerktageAfter names the anchor, whose n-th open day after it is before t
-  after-late : (n : ℕ) → checkOf w (LatestWerktageAfter n) t a ≡ TooLate b y → (c : ℕ) × (y ≡ a) × (add w a n ≡ Day c) × (c < t)
+  after-late :
+      (n : ℕ) → checkOf w (LatestWerktageAfter n) t a ≡ TooLate b y → (c : ℕ) × (y ≡ a) × (add w a n ≡ Day c) × (c < t)
   unfolding closes reaches
   after-late n e =
       let r = late-says w t a b y (LatestWerktageAfter n) e in
       let q : t ≡ r .held = cc (r .reached) in
       (r .last-day, cc (r .named), r .closed, omega (arith, r .after))
 
-  pub after-named : (n : ℕ) → checkOf w (LatestWerktageAfter n) t a ≡ TooLate b y → begins (spanOf w (LatestWerktageAfter n) t) y → ⊥
+  pub after-named :
+      (n : ℕ) → checkOf w (LatestWerktageAfter n) t a ≡ TooLate b y → begins (spanOf w (LatestWerktageAfter n) t) y → ⊥
   unfolding spanOf
   after-named n e g =
       let r = after-late n e in
       by-anchor n (r .0) (r .2) (r .3) (omega (arith, r .1)) (from-begins (sub w t n) y .0 g)
 
   -- its verdict on that very anchor is the TooLate
-  pub after-not : (n : ℕ) → checkOf w (LatestWerktageAfter n) t a ≡ TooLate b y → checkOf w (LatestWerktageAfter n) t y ≢ Ok
+  pub after-not :
+      (n : ℕ) → checkOf w (LatestWerktageAfter n) t a ≡ TooLate b y → checkOf w (LatestWerktageAfter n) t y ≢ Ok
   after-not n e = let q = after-late n e .1 in rw q (λ o. late-not (sym e ∙ o))
 
   -- Korridor names its opening day, by the anchor
@@ -152,7 +163,9 @@ module _ (w : ℕ → Bool) (t : ℕ) (ht : t ≤ last) (a : ℕ) (ha : a ≤ la
       let m = add-mono w y a n c (r .0) ha (r .1) p (r .2) in
       day-cases (λ v. v ≢ Ok) (sub w y n) _
       (λ _. refused-not)
-      (λ o _ k. omega (arith, r .3, window-ok {A = t ≤ c} {B = o ≤ t} w t o c (between w t o) (Day o) (λ z. z, λ z. z) (λ z. z, λ z. z) .0 k .0)))
+      (λ o _ k.
+      let i = window-ok {A = t ≤ c} {B = o ≤ t} w t o c (between w t o) (Day o) (λ z. z, λ z. z) (λ z. z, λ z. z) in
+      omega (arith, r .3, i .0 k .0)))
 
   pub before-ok :
       (n : ℕ) → 1 ≤ n → checkOf w (LatestWerktageBefore n) t a ≡ TooLate b y →

@@ -65,7 +65,8 @@ module _ (w : ℕ → Bool) (t : ℕ) (ht : t ≤ last) (a : ℕ) (ha : a ≤ la
       both-spans (sub w t n) (add w t n) _ a (λ f l q r.
       day-accepts (add w a n) _ (λ c s.
       day-accepts (sub w a n) _ (λ o p _.
-      window-ok w t o c (between w t o) (Day o) (after-iff w t a n c f ha s q) (Iff·symm (after-iff w a t n l o ht r p)))))
+      window-ok w t o c (between w t o) (Day o) (after-iff w t a n c f ha s q)
+      (Iff·symm (after-iff w a t n l o ht r p)))))
 
   tag-spans : Spans (spanOf w TagVorDemLetztenWerktagVor t) (checkOf w TagVorDemLetztenWerktagVor t a) a
   unfolding spanOf checkOf closes reaches

@@ -79,7 +79,8 @@ module _ (w : ℕ → Bool) where
       let u = add-day w e n y h .0 q in
       order x y (λ z. z) (λ z.
       let o = count-open w x (r .is-open (omega (arith, u .after))) in
-      absurd (omega (arith, r .counted, u .counted, count-mono w (suc d) (suc e) (omega arith), count-mono w (suc y) x z)))
+      let m = count-mono w (suc d) (suc e) (omega arith) in
+      absurd (omega (arith, r .counted, u .counted, count-mono w (suc y) x z)))
 
   pub sub-fewer : (a m n x y : ℕ) → m ≤ n → sub w a m ≡ Day x → sub w a n ≡ Day y → y ≤ x
   sub-fewer a m n x y h p q =

@@ -1,6 +1,6 @@
 -- What the proofs of the deregistrations ask, with the premises in the form in which a proof has them.
---   bytes-*          a turn and the returns of `same_bytes`: x is the answer for the whole strings, and the invariant says that
---                    the bytes from i on give it
+--   bytes-*          a turn and the returns of `same_bytes`: x is the answer for the whole strings, and the invariant
+--                    says that the bytes from i on give it
 --   fuer-* shape-*   the returns of `fuer`, `shape` and `check`
 --   bytes-rules abmeldung-rules   = these, for `search (needs, ..)`
 -- Source: the definitions of Abmeldung.
@@ -57,10 +57,13 @@ bytes-differ x a b i p e h n = let q = same-at a b i false e h (ne-eqb (getD a i
 
 pub bytes-more :
     (x : Bool) (a b : List ℕ) (i : ℕ) →
-    x ≡ sameBytes (drop i a) (drop i b) → length a ≡ length b → i < length b → getD a i 0 ≡ getD b i 0 → x ≡ sameBytes (drop (i + 1) a) (drop (i + 1) b)
+    x ≡ sameBytes (drop i a) (drop i b) → length a ≡ length b → i < length b → getD a i 0 ≡ getD b i 0 →
+    x ≡ sameBytes (drop (i + 1) a) (drop (i + 1) b)
 bytes-more x a b i p e h n = let q = same-at a b i true e h (eq-eqb (getD a i 0) (getD b i 0) n) in cc
 
-pub bytes-done : (x : Bool) (a b : List ℕ) (i : ℕ) → x ≡ sameBytes (drop i a) (drop i b) → length a ≡ length b → length b ≤ i → true ≡ x
+pub bytes-done :
+    (x : Bool) (a b : List ℕ) (i : ℕ) → x ≡ sameBytes (drop i a) (drop i b) → length a ≡ length b → length b ≤ i →
+    true ≡ x
 unfolding sameBytes
 bytes-done x a b i p e h =
     let g : length a ≤ i = omega arith in
@@ -71,7 +74,9 @@ pub fuer-zq7 : (l : List ℕ) (m : Eeg) (r : Bool) → r ≡ sameBytes l zq7 →
 unfolding fuerOf
 fuer-zq7 l m r p q = rw (sym p ∙ q)
 
-pub fuer-nein : (l : List ℕ) (m : Eeg) (r : Bool) → r ≡ sameBytes l zq7 → r ≡ false → m ≡ Nein → TagVorDemLetztenWerktag ≡ fuerOf l m
+pub fuer-nein :
+    (l : List ℕ) (m : Eeg) (r : Bool) → r ≡ sameBytes l zq7 → r ≡ false → m ≡ Nein →
+    TagVorDemLetztenWerktag ≡ fuerOf l m
 unfolding fuerOf
 fuer-nein l m r p q e = rw (sym p ∙ q, e)
 
@@ -79,7 +84,8 @@ pub fuer-ja : (l : List ℕ) (m : Eeg) (r : Bool) → r ≡ sameBytes l zq7 → 
 unfolding fuerOf
 fuer-ja l m r p q e = rw (sym p ∙ q, e)
 
-pub fuer-unbekannt : (l : List ℕ) (m : Eeg) (r : Bool) → r ≡ sameBytes l zq7 → r ≡ false → m ≡ Unbekannt → Unbestimmt ≡ fuerOf l m
+pub fuer-unbekannt :
+    (l : List ℕ) (m : Eeg) (r : Bool) → r ≡ sameBytes l zq7 → r ≡ false → m ≡ Unbekannt → Unbestimmt ≡ fuerOf l m
 unfolding fuerOf
 fuer-unbekannt l m r p q e = rw (sym p ∙ q, e)
 

@@ -37,7 +37,8 @@ day-ends : (e : ℕ) → e ≤ last → Ends (Day e)
 day-ends e h d p = let q : e ≡ d = cc in omega arith
 
 step-inside :
-    (s : Step) (f : ℕ → VorlaufVerdict) → ((d : ℕ) → s ≡ Day d → insideVerdict (f d)) → insideVerdict (onStep Outside s f)
+    (s : Step) (f : ℕ → VorlaufVerdict) → ((d : ℕ) → s ≡ Day d → insideVerdict (f d)) →
+    insideVerdict (onStep Outside s f)
 step-inside (Day d) f k = k d refl
 step-inside Left f k = tt
 
@@ -77,12 +78,14 @@ module _ (w : ℕ → Bool) where
     verdict-inside (LatestWerktageBefore n) c r p = not-after-inside r c (add w t n) (λ d. add-inside w t n d h)
     verdict-inside (WindowWerktageBefore n m) c r p =
         step-inside (sub w a n) _ (λ o _.
-        cond-inside (ltb t o) (TooEarly (between w t o)) _ tt (not-after-inside r c (add w t m) (λ d. add-inside w t m d h)))
+        cond-inside (ltb t o) (TooEarly (between w t o)) _ tt
+        (not-after-inside r c (add w t m) (λ d. add-inside w t m d h)))
     verdict-inside (LatestWerktageAfter n) c r p = not-after-inside r c (Day a) (day-ends a g)
     verdict-inside (EarliestWerktageAfter n) c r p = not-after-inside r c (Day r) (day-ends r (add-inside w t n r h p))
     verdict-inside (Korridor n) c r p =
         step-inside (sub w a n) _ (λ o q.
-        cond-inside (ltb t o) (TooEarly (between w t o)) _ tt (not-after-inside r c (Day o) (day-ends o (sub-inside w a n o g q))))
+        cond-inside (ltb t o) (TooEarly (between w t o)) _ tt
+        (not-after-inside r c (Day o) (day-ends o (sub-inside w a n o g q))))
     verdict-inside TagVorDemLetztenWerktagVor c r p =
         not-after-inside r c (fruehesterTerminNachTagVorDemLetztenWerktag w t) (termin-inside t)
     verdict-inside (LatestMonateBefore n) c r p =

@@ -50,7 +50,9 @@ pub both-empty : (s u : Step) (f l : ℕ) → s ≡ Day f → u ≡ Day l → l 
 both-empty s u f l p q h = rw (p, q, lt-leb f l h)
 
 module _ (w : ℕ → Bool) (t : ℕ) where
-  pub span-before : (s : VorlaufShape) (n : ℕ) (r : Step) (v : Span) → s ≡ LatestWerktageBefore n → r ≡ W w t n → v ≡ spanFrom r → v ≡ spanOf w s t
+  pub span-before :
+      (s : VorlaufShape) (n : ℕ) (r : Step) (v : Span) → s ≡ LatestWerktageBefore n → r ≡ W w t n → v ≡ spanFrom r →
+      v ≡ spanOf w s t
   unfolding spanOf
   span-before s n r v e p q = rw (e, ← p) q
 
@@ -60,11 +62,15 @@ module _ (w : ℕ → Bool) (t : ℕ) where
   unfolding spanOf
   span-window s n m r u v e p k q = rw (e, ← p, ← k) q
 
-  pub span-after : (s : VorlaufShape) (n : ℕ) (r : Step) (v : Span) → s ≡ LatestWerktageAfter n → r ≡ sub w t n → v ≡ spanFrom r → v ≡ spanOf w s t
+  pub span-after :
+      (s : VorlaufShape) (n : ℕ) (r : Step) (v : Span) → s ≡ LatestWerktageAfter n → r ≡ sub w t n → v ≡ spanFrom r →
+      v ≡ spanOf w s t
   unfolding spanOf
   span-after s n r v e p q = rw (e, ← p) q
 
-  pub span-earliest : (s : VorlaufShape) (n : ℕ) (r : Step) (v : Span) → s ≡ EarliestWerktageAfter n → r ≡ add w t n → v ≡ spanFrom r → v ≡ spanOf w s t
+  pub span-earliest :
+      (s : VorlaufShape) (n : ℕ) (r : Step) (v : Span) → s ≡ EarliestWerktageAfter n → r ≡ add w t n → v ≡ spanFrom r →
+      v ≡ spanOf w s t
   unfolding spanOf
   span-earliest s n r v e p q = rw (e, ← p) q
 
@@ -80,7 +86,9 @@ module _ (w : ℕ → Bool) (t : ℕ) where
   unfolding spanOf
   span-tag s r v e p q = rw (e, ← p) q
 
-  pub span-monate : (s : VorlaufShape) (n : ℕ) (r : Step) (v : Span) → s ≡ LatestMonateBefore n → r ≡ M n t → v ≡ spanFrom r → v ≡ spanOf w s t
+  pub span-monate :
+      (s : VorlaufShape) (n : ℕ) (r : Step) (v : Span) → s ≡ LatestMonateBefore n → r ≡ M n t → v ≡ spanFrom r →
+      v ≡ spanOf w s t
   unfolding spanOf
   span-monate s n r v e p q = rw (e, ← p) q
 

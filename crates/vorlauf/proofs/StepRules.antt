@@ -1,5 +1,6 @@
 -- What the proofs of the steps ask, with the premises in the form in which a proof has them: r, u and v are what calls
--- returned, `r ≡ add ..` is what a callee promises, and `r ≡ Day x` what the match on its result found. For any test w of a day.
+-- returned, `r ≡ add ..` is what a callee promises, and `r ≡ Day x` what the match on its result found. For any test w
+-- of a day.
 --   next-*                   the returns of `fruehester_termin_nach_tag_vor_dem_letzten_werktag`
 --   after-first-*            those of `after_first_werktag`
 --   months-after-*           those of `months_after_werktage`
@@ -39,7 +40,8 @@ module _ (w : ℕ → Bool) where
   W-in d n x r h p q = W-inside w d n x h (sym p ∙ q)
 
   -- the day on which the month-and-Werktag window closes
-  pub closes-in : (a n m d x : ℕ) (r s : Step) → a ≤ last → r ≡ monthsEarlier a n → r ≡ Day d → s ≡ sub w d m → s ≡ Day x → x ≤ last
+  pub closes-in :
+      (a n m d x : ℕ) (r s : Step) → a ≤ last → r ≡ monthsEarlier a n → r ≡ Day d → s ≡ sub w d m → s ≡ Day x → x ≤ last
   closes-in a n m d x r s h p q i j = sub-in d m x s (earlier-in a n d r h p q) i j
 
   -- `fruehester_termin_nach_tag_vor_dem_letzten_werktag`
@@ -47,23 +49,28 @@ module _ (w : ℕ → Bool) where
   unfolding fruehesterTerminNachTagVorDemLetztenWerktag
   next-out t r p q = rw (sym p ∙ q)
 
-  pub next-out-2 : (t d : ℕ) (r u : Step) → r ≡ dayAfter t → r ≡ Day d → u ≡ next w d → u ≡ Left → Left ≡ fruehesterTerminNachTagVorDemLetztenWerktag w t
+  pub next-out-2 :
+      (t d : ℕ) (r u : Step) → r ≡ dayAfter t → r ≡ Day d → u ≡ next w d → u ≡ Left →
+      Left ≡ fruehesterTerminNachTagVorDemLetztenWerktag w t
   unfolding fruehesterTerminNachTagVorDemLetztenWerktag
   next-out-2 t d r u p q k l = rw (sym p ∙ q, sym k ∙ l)
 
   pub next-is :
       (t d e : ℕ) (r u v : Step) →
-      r ≡ dayAfter t → r ≡ Day d → u ≡ next w d → u ≡ Day e → v ≡ dayAfter e → v ≡ fruehesterTerminNachTagVorDemLetztenWerktag w t
+      r ≡ dayAfter t → r ≡ Day d → u ≡ next w d → u ≡ Day e → v ≡ dayAfter e →
+      v ≡ fruehesterTerminNachTagVorDemLetztenWerktag w t
   unfolding fruehesterTerminNachTagVorDemLetztenWerktag
   next-is t d e r u v p q k l m = rw (sym p ∙ q, sym k ∙ l) m
 
-  pub after-first-is : (t d : ℕ) (r v : Step) → r ≡ add w t 1 → r ≡ Day d → v ≡ dayAfter d → v ≡ onStep Left (add w t 1) dayAfter
+  pub after-first-is :
+      (t d : ℕ) (r v : Step) → r ≡ add w t 1 → r ≡ Day d → v ≡ dayAfter d → v ≡ onStep Left (add w t 1) dayAfter
   after-first-is t d r v p q m = rw (sym p ∙ q) m
 
   pub after-first-out : (t : ℕ) (r : Step) → r ≡ add w t 1 → r ≡ Left → Left ≡ onStep Left (add w t 1) dayAfter
   after-first-out t r p q = rw (sym p ∙ q)
 
-  pub months-after-is : (t n m d : ℕ) (r v : Step) → r ≡ W w t m → r ≡ Day d → v ≡ M n d → v ≡ onStep Left (W w t m) (M n)
+  pub months-after-is :
+      (t n m d : ℕ) (r v : Step) → r ≡ W w t m → r ≡ Day d → v ≡ M n d → v ≡ onStep Left (W w t m) (M n)
   months-after-is t n m d r v p q k = rw (sym p ∙ q) k
 
   pub months-after-out : (t n m : ℕ) (r : Step) → r ≡ W w t m → r ≡ Left → Left ≡ onStep Left (W w t m) (M n)

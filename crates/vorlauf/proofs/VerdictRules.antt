@@ -1,7 +1,8 @@
--- What the proofs of the verdicts ask, with the premises in the form in which a proof has them: r, s, u and z are what calls
--- returned, `r ≡ sub ..` is what a callee promises, and `r ≡ Day x` what the match on its result found. For any test w of a day,
--- transmission day t and anchor a, one rule for each return:
---   before-* window-* after-* earliest-* korridor-* tag-* monate-* beides-*   of each shape's function, in the order of the shapes
+-- What the proofs of the verdicts ask, with the premises in the form in which a proof has them: r, s, u and z are what
+-- calls returned, `r ≡ sub ..` is what a callee promises, and `r ≡ Day x` what the match on its result found. For any
+-- test w of a day, transmission day t and anchor a, one rule for each return:
+--   before-* window-* after-* earliest-* korridor-* tag-* monate-* beides-*   of each shape's function, in the order of
+--                                                                             the shapes
 --   not-after-*                of `not_after`
 --   verdict-is verdict-in      of `check`: the clause of the shape, and a date that is named
 --   verdict-rules check-rules  = these, for `search (needs, ..)`
@@ -49,11 +50,11 @@ module _ (w : ℕ → Bool) (t a : ℕ) where
   before-out-2 n x r u p q h k l = rw (sym p ∙ q, lt-leb t x h, sym k ∙ l)
 
   pub before-late :
-      (n x y b : ℕ) (r u : Step) →
-      r ≡ sub w a n → r ≡ Day x → x < t → u ≡ add w t n → u ≡ Day y → b ≡ between w x t →
-      TooLate b y ≡ checkOf w (LatestWerktageBefore n) t a
+      (n x y : ℕ) (r u : Step) (e : VorlaufVerdict) →
+      r ≡ sub w a n → r ≡ Day x → x < t → u ≡ add w t n → u ≡ Day y → e ≡ TooLate (between w x t) y →
+      e ≡ checkOf w (LatestWerktageBefore n) t a
   unfolding checkOf closes reaches
-  before-late n x y b r u p q h k l m = rw (sym p ∙ q, lt-leb t x h, sym k ∙ l, m)
+  before-late n x y r u e p q h k l m = rw (sym p ∙ q, lt-leb t x h, sym k ∙ l) m
 
   -- WindowWerktageBefore
   pub window-out : (n m : ℕ) (r : Step) → r ≡ sub w a n → r ≡ Left → Outside ≡ checkOf w (WindowWerktageBefore n m) t a
@@ -75,7 +76,8 @@ module _ (w : ℕ → Bool) (t a : ℕ) where
 
   pub window-ok :
       (n m o x : ℕ) (r v : Step) →
-      r ≡ sub w a n → r ≡ Day o → v ≡ sub w a m → v ≡ Day x → o ≤ t → t ≤ x → Ok ≡ checkOf w (WindowWerktageBefore n m) t a
+      r ≡ sub w a n → r ≡ Day o → v ≡ sub w a m → v ≡ Day x → o ≤ t → t ≤ x →
+      Ok ≡ checkOf w (WindowWerktageBefore n m) t a
   unfolding checkOf closes reaches
   window-ok n m o x r v p q i j g h = rw (sym i ∙ j, sym p ∙ q, le-ltb t o g, le-leb t x h)
 
@@ -87,12 +89,12 @@ module _ (w : ℕ → Bool) (t a : ℕ) where
   window-out-3 n m o x r v u p q i j g h k l = rw (sym i ∙ j, sym p ∙ q, le-ltb t o g, lt-leb t x h, sym k ∙ l)
 
   pub window-late :
-      (n m o x y b : ℕ) (r v u : Step) →
+      (n m o x y : ℕ) (r v u : Step) (e : VorlaufVerdict) →
       r ≡ sub w a n → r ≡ Day o → v ≡ sub w a m → v ≡ Day x → o ≤ t → x < t → u ≡ add w t m → u ≡ Day y →
-      b ≡ between w x t → TooLate b y ≡ checkOf w (WindowWerktageBefore n m) t a
+      e ≡ TooLate (between w x t) y → e ≡ checkOf w (WindowWerktageBefore n m) t a
   unfolding checkOf closes reaches
-  window-late n m o x y b r v u p q i j g h k l z =
-      rw (sym i ∙ j, sym p ∙ q, le-ltb t o g, lt-leb t x h, sym k ∙ l, z)
+  window-late n m o x y r v u e p q i j g h k l z =
+      rw (sym i ∙ j, sym p ∙ q, le-ltb t o g, lt-leb t x h, sym k ∙ l) z
 
   -- LatestWerktageAfter
   pub after-out : (n : ℕ) (r : Step) → r ≡ add w a n → r ≡ Left → Outside ≡ checkOf w (LatestWerktageAfter n) t a
@@ -104,25 +106,26 @@ module _ (w : ℕ → Bool) (t a : ℕ) where
   after-ok n x r p q h = rw (sym p ∙ q, le-leb t x h)
 
   pub after-late :
-      (n x b : ℕ) (r : Step) →
-      r ≡ add w a n → r ≡ Day x → x < t → b ≡ between w x t → TooLate b a ≡ checkOf w (LatestWerktageAfter n) t a
+      (n x : ℕ) (r : Step) (e : VorlaufVerdict) →
+      r ≡ add w a n → r ≡ Day x → x < t → e ≡ TooLate (between w x t) a → e ≡ checkOf w (LatestWerktageAfter n) t a
   unfolding checkOf closes reaches
-  after-late n x b r p q h m = rw (sym p ∙ q, lt-leb t x h, m)
+  after-late n x r e p q h m = rw (sym p ∙ q, lt-leb t x h) m
 
   -- EarliestWerktageAfter
   pub earliest-out : (n : ℕ) (r : Step) → r ≡ add w t n → r ≡ Left → Outside ≡ checkOf w (EarliestWerktageAfter n) t a
   unfolding checkOf closes reaches
   earliest-out n r p q = rw (sym p ∙ q)
 
-  pub earliest-ok : (n x : ℕ) (r : Step) → r ≡ add w t n → r ≡ Day x → x ≤ a → Ok ≡ checkOf w (EarliestWerktageAfter n) t a
+  pub earliest-ok :
+      (n x : ℕ) (r : Step) → r ≡ add w t n → r ≡ Day x → x ≤ a → Ok ≡ checkOf w (EarliestWerktageAfter n) t a
   unfolding checkOf closes reaches
   earliest-ok n x r p q h = rw (sym p ∙ q, le-leb x a h)
 
   pub earliest-late :
-      (n x b : ℕ) (r : Step) →
-      r ≡ add w t n → r ≡ Day x → a < x → b ≡ between w a x → TooLate b x ≡ checkOf w (EarliestWerktageAfter n) t a
+      (n x : ℕ) (r : Step) (e : VorlaufVerdict) →
+      r ≡ add w t n → r ≡ Day x → a < x → e ≡ TooLate (between w a x) x → e ≡ checkOf w (EarliestWerktageAfter n) t a
   unfolding checkOf closes reaches
-  earliest-late n x b r p q h m = rw (sym p ∙ q, lt-leb x a h, m)
+  earliest-late n x r e p q h m = rw (sym p ∙ q, lt-leb x a h) m
 
   -- Korridor
   pub korridor-out : (n : ℕ) (r : Step) → r ≡ sub w a n → r ≡ Left → Outside ≡ checkOf w (Korridor n) t a
@@ -130,13 +133,15 @@ module _ (w : ℕ → Bool) (t a : ℕ) where
   korridor-out n r p q = simp (sym p ∙ q) (out-too (add w a n))
 
   pub korridor-out-2 :
-      (n o : ℕ) (r v : Step) → r ≡ sub w a n → r ≡ Day o → v ≡ add w a n → v ≡ Left → Outside ≡ checkOf w (Korridor n) t a
+      (n o : ℕ) (r v : Step) → r ≡ sub w a n → r ≡ Day o → v ≡ add w a n → v ≡ Left →
+      Outside ≡ checkOf w (Korridor n) t a
   unfolding checkOf closes reaches
   korridor-out-2 n o r v p q i j = rw (sym i ∙ j)
 
   pub korridor-early :
       (n o x b : ℕ) (r v : Step) →
-      r ≡ sub w a n → r ≡ Day o → v ≡ add w a n → v ≡ Day x → t < o → b ≡ between w t o → TooEarly b ≡ checkOf w (Korridor n) t a
+      r ≡ sub w a n → r ≡ Day o → v ≡ add w a n → v ≡ Day x → t < o → b ≡ between w t o →
+      TooEarly b ≡ checkOf w (Korridor n) t a
   unfolding checkOf closes reaches
   korridor-early n o x b r v p q i j h k = rw (sym i ∙ j, sym p ∙ q, lt-ltb t o h, k)
 
@@ -147,11 +152,11 @@ module _ (w : ℕ → Bool) (t a : ℕ) where
   korridor-ok n o x r v p q i j g h = rw (sym i ∙ j, sym p ∙ q, le-ltb t o g, le-leb t x h)
 
   pub korridor-late :
-      (n o x b : ℕ) (r v : Step) →
-      r ≡ sub w a n → r ≡ Day o → v ≡ add w a n → v ≡ Day x → o ≤ t → x < t → b ≡ between w x t →
-      TooLate b o ≡ checkOf w (Korridor n) t a
+      (n o x : ℕ) (r v : Step) (e : VorlaufVerdict) →
+      r ≡ sub w a n → r ≡ Day o → v ≡ add w a n → v ≡ Day x → o ≤ t → x < t → e ≡ TooLate (between w x t) o →
+      e ≡ checkOf w (Korridor n) t a
   unfolding checkOf closes reaches
-  korridor-late n o x b r v p q i j g h z = rw (sym i ∙ j, sym p ∙ q, le-ltb t o g, lt-leb t x h, z)
+  korridor-late n o x r v e p q i j g h z = rw (sym i ∙ j, sym p ∙ q, le-ltb t o g, lt-leb t x h) z
 
   -- TagVorDemLetztenWerktagVor
   pub tag-out : (r : Step) → r ≡ sub w a 1 → r ≡ Left → Outside ≡ checkOf w TagVorDemLetztenWerktagVor t a
@@ -172,26 +177,30 @@ module _ (w : ℕ → Bool) (t a : ℕ) where
 
   pub tag-out-3 :
       (d x : ℕ) (r v u : Step) →
-      r ≡ sub w a 1 → r ≡ Day d → v ≡ dayBefore d → v ≡ Day x → x < t → u ≡ fruehesterTerminNachTagVorDemLetztenWerktag w t → u ≡ Left →
+      r ≡ sub w a 1 → r ≡ Day d → v ≡ dayBefore d → v ≡ Day x → x < t →
+      u ≡ fruehesterTerminNachTagVorDemLetztenWerktag w t → u ≡ Left →
       Outside ≡ checkOf w TagVorDemLetztenWerktagVor t a
   unfolding checkOf closes reaches
   tag-out-3 d x r v u p q i j h k l = rw (sym p ∙ q, sym i ∙ j, lt-leb t x h, sym k ∙ l)
 
   pub tag-late :
-      (d x y b : ℕ) (r v u : Step) →
-      r ≡ sub w a 1 → r ≡ Day d → v ≡ dayBefore d → v ≡ Day x → x < t → u ≡ fruehesterTerminNachTagVorDemLetztenWerktag w t → u ≡ Day y →
-      b ≡ between w x t → TooLate b y ≡ checkOf w TagVorDemLetztenWerktagVor t a
+      (d x y : ℕ) (r v u : Step) (e : VorlaufVerdict) →
+      r ≡ sub w a 1 → r ≡ Day d → v ≡ dayBefore d → v ≡ Day x → x < t →
+      u ≡ fruehesterTerminNachTagVorDemLetztenWerktag w t → u ≡ Day y → e ≡ TooLate (between w x t) y →
+      e ≡ checkOf w TagVorDemLetztenWerktagVor t a
   unfolding checkOf closes reaches
-  tag-late d x y b r v u p q i j h k l m = rw (sym p ∙ q, sym i ∙ j, lt-leb t x h, sym k ∙ l, m)
+  tag-late d x y r v u e p q i j h k l m = rw (sym p ∙ q, sym i ∙ j, lt-leb t x h, sym k ∙ l) m
 
   -- LatestMonateBefore
-  pub monate-out : (n : ℕ) (r : Step) → r ≡ monthsEarlier a n → r ≡ Left → Outside ≡ checkOf w (LatestMonateBefore n) t a
+  pub monate-out :
+      (n : ℕ) (r : Step) → r ≡ monthsEarlier a n → r ≡ Left → Outside ≡ checkOf w (LatestMonateBefore n) t a
   unfolding checkOf closes reaches
   monate-out n r p q = rw (sym p ∙ q)
 
   pub monate-out-2 :
       (n x : ℕ) (r u : Step) →
-      r ≡ monthsEarlier a n → r ≡ Day x → u ≡ monthsLater t n → u ≡ Left → Outside ≡ checkOf w (LatestMonateBefore n) t a
+      r ≡ monthsEarlier a n → r ≡ Day x → u ≡ monthsLater t n → u ≡ Left →
+      Outside ≡ checkOf w (LatestMonateBefore n) t a
   unfolding checkOf closes reaches
   monate-out-2 n x r u p q k l = rw (sym p ∙ q, sym k ∙ l)
 
@@ -203,13 +212,16 @@ module _ (w : ℕ → Bool) (t a : ℕ) where
   monate-is n x y r u v p q k l m = rw (sym p ∙ q, sym k ∙ l) m
 
   -- LatestMonateUndWerktageBefore
-  pub beides-out : (n m : ℕ) (r : Step) → r ≡ monthsEarlier a n → r ≡ Left → Outside ≡ checkOf w (LatestMonateUndWerktageBefore n m) t a
+  pub beides-out :
+      (n m : ℕ) (r : Step) → r ≡ monthsEarlier a n → r ≡ Left →
+      Outside ≡ checkOf w (LatestMonateUndWerktageBefore n m) t a
   unfolding checkOf closes reaches
   beides-out n m r p q = rw (sym p ∙ q)
 
   pub beides-out-2 :
       (n m d : ℕ) (r s : Step) →
-      r ≡ monthsEarlier a n → r ≡ Day d → s ≡ sub w d m → s ≡ Left → Outside ≡ checkOf w (LatestMonateUndWerktageBefore n m) t a
+      r ≡ monthsEarlier a n → r ≡ Day d → s ≡ sub w d m → s ≡ Left →
+      Outside ≡ checkOf w (LatestMonateUndWerktageBefore n m) t a
   unfolding checkOf closes reaches
   beides-out-2 n m d r s p q i j = rw (sym p ∙ q, sym i ∙ j)
 
@@ -222,14 +234,16 @@ module _ (w : ℕ → Bool) (t a : ℕ) where
 
   pub beides-out-4 :
       (n m d x e : ℕ) (r s u z : Step) →
-      r ≡ monthsEarlier a n → r ≡ Day d → s ≡ sub w d m → s ≡ Day x → u ≡ add w t m → u ≡ Day e → z ≡ monthsLater e n → z ≡ Left →
+      r ≡ monthsEarlier a n → r ≡ Day d → s ≡ sub w d m → s ≡ Day x → u ≡ add w t m → u ≡ Day e → z ≡ monthsLater e n →
+      z ≡ Left →
       Outside ≡ checkOf w (LatestMonateUndWerktageBefore n m) t a
   unfolding checkOf closes reaches
   beides-out-4 n m d x e r s u z p q i j k l f g = rw (sym p ∙ q, sym i ∙ j, sym k ∙ l, sym f ∙ g)
 
   pub beides-is :
       (n m d x e y : ℕ) (r s u z : Step) (v : VorlaufVerdict) →
-      r ≡ monthsEarlier a n → r ≡ Day d → s ≡ sub w d m → s ≡ Day x → u ≡ add w t m → u ≡ Day e → z ≡ monthsLater e n → z ≡ Day y →
+      r ≡ monthsEarlier a n → r ≡ Day d → s ≡ sub w d m → s ≡ Day x → u ≡ add w t m → u ≡ Day e → z ≡ monthsLater e n →
+      z ≡ Day y →
       v ≡ notAfter w t x (Day y) → v ≡ checkOf w (LatestMonateUndWerktageBefore n m) t a
   unfolding checkOf closes reaches
   beides-is n m d x e y r s u z v p q i j k l f g o = rw (sym p ∙ q, sym i ∙ j, sym k ∙ l, sym f ∙ g) o
@@ -238,8 +252,9 @@ module _ (w : ℕ → Bool) (t a : ℕ) where
   pub not-after-ok : (x y : ℕ) → t ≤ x → Ok ≡ notAfter w t x (Day y)
   not-after-ok x y h = rw (le-leb t x h)
 
-  pub not-after-late : (x y b : ℕ) → x < t → b ≡ between w x t → TooLate b y ≡ notAfter w t x (Day y)
-  not-after-late x y b h m = rw (lt-leb t x h, m)
+  pub not-after-late :
+      (x y : ℕ) (e : VorlaufVerdict) → x < t → e ≡ TooLate (between w x t) y → e ≡ notAfter w t x (Day y)
+  not-after-late x y e h m = rw (lt-leb t x h) m
 
   -- the dispatch on the shape
   pub verdict-is : (s z : VorlaufShape) (r : VorlaufVerdict) → s ≡ z → r ≡ checkOf w z t a → r ≡ checkOf w s t a

@@ -34,8 +34,8 @@ sameBytes (x ∷ xs) (y ∷ ys) = eqb x y && sameBytes xs ys
 abbrev pub zq7 : List ℕ
 zq7 = 90 ∷ 81 ∷ 55 ∷ []
 
--- abmeldung.rs, 'The windows': EEG-Marktlokationen und Tranchen von EEG-Marktlokationen '1 Monat vor dem Zuordnungsende', every
--- other 'Tag vor dem letzten WT vor dem Zuordnungsende'
+-- abmeldung.rs, 'The windows': EEG-Marktlokationen und Tranchen von EEG-Marktlokationen '1 Monat vor dem
+-- Zuordnungsende', every other 'Tag vor dem letzten WT vor dem Zuordnungsende'
 abbrev pub byMark : Eeg → AbmeldungVorlauf
 byMark Nein = TagVorDemLetztenWerktag
 byMark Ja = EinMonat

@@ -45,8 +45,8 @@ spanOf w (LatestMonateBefore n) t = spanFrom (M n t)
 -- 'from M(monate, W(werktage))'
 spanOf w (LatestMonateUndWerktageBefore monate werktage) t = spanFrom (onStep Left (W w t werktage) (M monate))
 
--- 'An anchor lies in the span if it is neither before the first day nor, where there is a last day, after that. In an empty
--- span no anchor lies'
+-- 'An anchor lies in the span if it is neither before the first day nor, where there is a last day, after that. In an
+-- empty span no anchor lies'
 abbrev pub liesIn : Span → ℕ → Type 0
 liesIn (From f) a = f ≤ a
 liesIn (Both f l) a = (f ≤ a) × (a ≤ l)

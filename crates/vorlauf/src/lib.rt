@@ -3,8 +3,8 @@
 // Document 01, vorlauf.rs and 'The span of anchors'. A day is its index from 1 January 1996, 0 to LAST. t is the
 // transmission day (Übertragungstag, ÜT), a the anchor, the date that the message carries.
 ghost use mathlib.Core.Path.{_≡_};
-ghost use Prim.Native.Nat.{_≤_};
-ghost use Rattle.zaehlung.specs.Walk.{last, onStep, dayAfter, add, W};
+ghost use Prim.Native.Nat.{_≤_, _<_};
+ghost use Rattle.zaehlung.specs.Walk.{last, onStep, dayAfter, add, W, between};
 ghost use Rattle.datum.specs.Monate.{M};
 ghost use Rattle.werktag.specs.Werktag.{isWerktag};
 ghost use Rattle.vorlauf.specs.Verdict.{fruehesterTerminNachTagVorDemLetztenWerktag, notAfter, checkOf};
@@ -65,8 +65,19 @@ pub enum Span {
     Outside,
 }
 
-/// t is the `n`-th Werktag before the anchor at the latest. `LatestWerktageBefore(1)` from Saturday 10 January 2026 against
-/// Monday 12 January: TooLate by 0 Werktage, and the date named is that Monday.
+/// TooLate: t is after the day on which the window closes, by the Werktage between, and `first` is the date named.
+fn too_late(t: u32, closes: u32, first: u32, cal: HolidayCalendar) -> VorlaufVerdict
+    requires { ⌜ (closes < t) × (t ≤ last) ⌝ }
+    ensures { λ r. ⌜ r ≡ VorlaufVerdict.TooLate (between (isWerktag cal) closes t) first ⌝ }
+{
+    VorlaufVerdict::TooLate {
+        shortfall_wt: schritte::werktage_between(closes, t, cal),
+        earliest_possible: first,
+    }
+}
+
+/// t is the `n`-th Werktag before the anchor at the latest. `LatestWerktageBefore(1)` from Saturday 10 January 2026
+/// against Monday 12 January: TooLate by 0 Werktage, and the date named is that Monday.
 fn latest_werktage_before(n: u32, t: u32, a: u32, cal: HolidayCalendar) -> VorlaufVerdict
     requires { ⌜ (t ≤ last) × (a ≤ last) ⌝ }
     ensures { λ r. ⌜ r ≡ checkOf (isWerktag cal) (VorlaufShape.LatestWerktageBefore n) t a ⌝ }
@@ -80,10 +91,7 @@ fn latest_werktage_before(n: u32, t: u32, a: u32, cal: HolidayCalendar) -> Vorla
     let Step::Day(first) = schritte::add_werktage(t, n, cal) else {
         return VorlaufVerdict::Outside;
     };
-    VorlaufVerdict::TooLate {
-        shortfall_wt: schritte::werktage_between(closes, t, cal),
-        earliest_possible: first,
-    }
+    too_late(t, closes, first, cal)
 }
 
 /// t is the `earliest`-th Werktag before the anchor at the earliest, and the `latest`-th at the latest.
@@ -114,10 +122,7 @@ fn window_werktage_before(
     let Step::Day(first) = schritte::add_werktage(t, latest, cal) else {
         return VorlaufVerdict::Outside;
     };
-    VorlaufVerdict::TooLate {
-        shortfall_wt: schritte::werktage_between(closes, t, cal),
-        earliest_possible: first,
-    }
+    too_late(t, closes, first, cal)
 }
 
 /// t is the `n`-th Werktag after the anchor at the latest. Under TooLate the anchor itself is named.
@@ -131,10 +136,7 @@ fn latest_werktage_after(n: u32, t: u32, a: u32, cal: HolidayCalendar) -> Vorlau
     if t <= closes {
         return VorlaufVerdict::Ok;
     }
-    VorlaufVerdict::TooLate {
-        shortfall_wt: schritte::werktage_between(closes, t, cal),
-        earliest_possible: a,
-    }
+    too_late(t, closes, a, cal)
 }
 
 /// The anchor, the date requested, is the `n`-th Werktag after t at the earliest.
@@ -148,10 +150,7 @@ fn earliest_werktage_after(n: u32, t: u32, a: u32, cal: HolidayCalendar) -> Vorl
     if first <= a {
         return VorlaufVerdict::Ok;
     }
-    VorlaufVerdict::TooLate {
-        shortfall_wt: schritte::werktage_between(a, first, cal),
-        earliest_possible: first,
-    }
+    too_late(first, a, first, cal)
 }
 
 /// t lies from the `n`-th Werktag before the anchor to the `n`-th after it. Under TooLate the opening day is named.
@@ -173,14 +172,11 @@ fn korridor(n: u32, t: u32, a: u32, cal: HolidayCalendar) -> VorlaufVerdict
     if t <= closes {
         return VorlaufVerdict::Ok;
     }
-    VorlaufVerdict::TooLate {
-        shortfall_wt: schritte::werktage_between(closes, t, cal),
-        earliest_possible: opens,
-    }
+    too_late(t, closes, opens, cal)
 }
 
-/// The day after the first Werktag strictly after t: a full Werktag has to lie between t and the date. From a Monday that
-/// is Wednesday.
+/// The day after the first Werktag strictly after t: a full Werktag has to lie between t and the date. From a Monday
+/// that is Wednesday.
 fn fruehester_termin_nach_tag_vor_dem_letzten_werktag(t: u32, cal: HolidayCalendar) -> Step
     requires { ⌜ t ≤ last ⌝ }
     ensures { λ r. ⌜ r ≡ fruehesterTerminNachTagVorDemLetztenWerktag (isWerktag cal) t ⌝ }
@@ -194,8 +190,8 @@ fn fruehester_termin_nach_tag_vor_dem_letzten_werktag(t: u32, cal: HolidayCalend
     schritte::day_after(werktag)
 }
 
-/// t is the day before the last Werktag before the anchor at the latest. From Thursday 8 January 2026: Friday 9 January is
-/// TooLate by 1 Werktag, Saturday 10 January Ok.
+/// t is the day before the last Werktag before the anchor at the latest. From Thursday 8 January 2026: Friday 9 January
+/// is TooLate by 1 Werktag, Saturday 10 January Ok.
 fn tag_vor_dem_letzten_werktag_vor(t: u32, a: u32, cal: HolidayCalendar) -> VorlaufVerdict
     requires { ⌜ (t ≤ last) × (a ≤ last) ⌝ }
     ensures { λ r. ⌜ r ≡ checkOf (isWerktag cal) VorlaufShape.TagVorDemLetztenWerktagVor t a ⌝ }
@@ -212,10 +208,7 @@ fn tag_vor_dem_letzten_werktag_vor(t: u32, a: u32, cal: HolidayCalendar) -> Vorl
     let Step::Day(first) = fruehester_termin_nach_tag_vor_dem_letzten_werktag(t, cal) else {
         return VorlaufVerdict::Outside;
     };
-    VorlaufVerdict::TooLate {
-        shortfall_wt: schritte::werktage_between(closes, t, cal),
-        earliest_possible: first,
-    }
+    too_late(t, closes, first, cal)
 }
 
 /// `Ok` while t is at or before `closes`, else `TooLate` with the date `first`.
@@ -226,10 +219,7 @@ fn not_after(t: u32, closes: u32, first: u32, cal: HolidayCalendar) -> VorlaufVe
     if t <= closes {
         return VorlaufVerdict::Ok;
     }
-    VorlaufVerdict::TooLate {
-        shortfall_wt: schritte::werktage_between(closes, t, cal),
-        earliest_possible: first,
-    }
+    too_late(t, closes, first, cal)
 }
 
 /// t lies `n` months before the anchor at the latest. The earliest date is computed even when the verdict is Ok.
@@ -246,8 +236,8 @@ fn latest_monate_before(n: u32, t: u32, a: u32, cal: HolidayCalendar) -> Vorlauf
     not_after(t, closes, first, cal)
 }
 
-/// t lies `monate` months and `werktage` Werktage before the anchor at the latest: the months first, then the Werktage back
-/// from the day on which they land. The earliest date is computed even when the verdict is Ok.
+/// t lies `monate` months and `werktage` Werktage before the anchor at the latest: the months first, then the Werktage
+/// back from the day on which they land. The earliest date is computed even when the verdict is Ok.
 fn latest_monate_und_werktage_before(
     monate: u32,
     werktage: u32,
@@ -322,7 +312,14 @@ fn months_after_werktage(t: u32, monate: u32, werktage: u32, cal: HolidayCalenda
 }
 
 impl VorlaufShape {
-    /// The verdict on a transmission day and an anchor. A date that it names is one of the calendar.
+    /// The verdict on a transmission day and an anchor: Ok up to the last permitted transmission day, TooLate after it,
+    /// and for the window and the Korridor TooEarly before the day on which they open.
+    ///
+    /// `Outside` where a date that the Rust computes leaves the calendar; the two month shapes compute their earliest
+    /// date even when the verdict is Ok. A date that is named lies in the calendar, and may be none that is acceptable.
+    ///
+    /// `LatestWerktageBefore(1)` from Saturday 10 January 2026 against Monday 12 January: TooLate by 0 Werktage, with
+    /// that Monday.
     pub fn check(self, uebertragungstag: u32, anchor: u32, cal: HolidayCalendar) -> VorlaufVerdict
         requires { ⌜ (uebertragungstag ≤ last) × (anchor ≤ last) ⌝ }
         ensures { λ r. ⌜ (r ≡ checkOf (isWerktag cal) self uebertragungstag anchor) × insideVerdict r ⌝ }
@@ -348,7 +345,9 @@ impl VorlaufShape {
         }
     }
 
-    /// The anchors that a transmission day may ask for. Its ends are days of the calendar.
+    /// The anchors that a transmission day may ask for ('The span of anchors').
+    ///
+    /// `Outside` where an end leaves the calendar. Only the window's span can be empty.
     ///
     /// `LatestWerktageBefore(1)` from Saturday 10 January 2026: from Tuesday 13 January. `LatestMonateBefore(1)` from
     /// 31 January 2026: from 1 March.

@@ -1,7 +1,7 @@
--- The day test of the list in a form that antt computes quickly: what a year needs is computed once, and each day of it is then
--- looked up. A century takes some four seconds.
---   Year        a year: the weekday of its 1 January; its fixed days and Buß- und Bettag, as days of the year from 0 on; the feasts
---               that move with Easter, the same
+-- The day test of the list in a form that antt computes quickly: what a year needs is computed once, and each day of it
+-- is then looked up. A century takes some three seconds.
+--   Year        a year: the weekday of its 1 January; its fixed days and Buß- und Bettag, as days of the year from 0
+--               on; the feasts that move with Easter, the same
 --   yearAt k    = the year 1996 + k
 --   openIn y r  = whether day r of the year y is a Werktag
 --   open-is     isWerktagIn BdewMaKo k r ≡ openIn (yearAt k) r
@@ -73,7 +73,8 @@ openIn y r =
       | false ↦ not (any (eqb r) (y .standing) || any (eqZ (pos r)) (y .feasts))
     ]
 
--- the fixed days, and the week of Buß- und Bettag: by date and by day of the year, one; computed for a common and a leap year
+-- the fixed days, and the week of Buß- und Bettag: by date and by day of the year, one; computed for a common and a
+-- leap year
 bit-same : (a b : Bool) → bit a ≡ bit b → a ≡ b
 bit-same true true e = refl
 bit-same true false e = absurd (omega arith)
@@ -89,7 +90,8 @@ weekIn l r = leb (319 + bit l) r && leb r (325 + bit l)
 agree : Bool → ℕ → Bool
 agree l r =
     let m = monthOf l r in
-    eqb (bit (isFixed (m .0) (m .1 + 1))) (bit (any (eqb r) (fixedIn l))) && eqb (bit (bussWeek (m .0) (m .1 + 1))) (bit (weekIn l r))
+    eqb (bit (isFixed (m .0) (m .1 + 1))) (bit (any (eqb r) (fixedIn l)))
+    && eqb (bit (bussWeek (m .0) (m .1 + 1))) (bit (weekIn l r))
 
 all-agree : (l : Bool) → run (agree l) (365 + bit l) 0 ≡ true
 unfolding run agree at start daysInMonth isFixed any
@@ -106,7 +108,10 @@ module _ (l : Bool) (r : ℕ) (h : r < 365 + bit l) where
 
   week-same : bussWeek (monthOf l r .0) (monthOf l r .1 + 1) ≡ weekIn l r
   unfolding agree
-  week-same = bit-same _ _ (eqb-true _ _ (and-right (eqb (bit (isFixed (monthOf l r .0) (monthOf l r .1 + 1))) (bit (any (eqb r) (fixedIn l)))) _ agrees))
+  week-same =
+      let m = monthOf l r in
+      let fixed : Bool = eqb (bit (isFixed (m .0) (m .1 + 1))) (bit (any (eqb r) (fixedIn l))) in
+      bit-same _ _ (eqb-true _ _ (and-right fixed _ agrees))
 
 -- the Wednesday of that week
 wednesday-on : (b f r : ℕ) → r ≡ 325 + b - (f + b + 1) % 7 → (319 + b ≤ r) × (r ≤ 325 + b) × ((f + r) % 7 ≡ 2)
@@ -198,7 +203,7 @@ in-order false false true z = refl
 in-order false false false z = refl
 
 pub open-is : (k r : ℕ) → r < yearLen k → isWerktagIn BdewMaKo k r ≡ openIn (yearAt k) r
-unfolding isWerktagIn openIn yearAt dateIn any
+unfolding openIn yearAt dateIn any
 open-is k r h =
     let l : Bool = isLeap (1996 + k) in
     let f : ℕ = firstOf k in
@@ -206,7 +211,8 @@ open-is k r h =
     let q = weekday-same (yearStart k) f r (ap (λ (s : ℕ). s % 7) (start-is k)) in
     let e = feast-same (yearStart k) r (easterIn (1996 + k)) (1996 + k) (easter-is k) in
     rw (q, fixed-same l r g, buss-same l f r g, e)
-    (in-order (leb 5 ((f + r) % 7)) (any (eqb r) (fixedIn l)) (eqb r (bussIn l f)) (any (eqZ (pos r)) (map (λ o. pos (easterIn (1996 + k)) +ℤ o) easterOffsets)))
+    (in-order (leb 5 ((f + r) % 7)) (any (eqb r) (fixedIn l)) (eqb r (bussIn l f))
+    (any (eqZ (pos r)) (map (λ o. pos (easterIn (1996 + k)) +ℤ o) easterOffsets)))
 
 pub index-is :
     (cal : HolidayCalendar) (k r : ℕ) → k < 904 → r < yearLen k → isWerktag cal (yearStart k + r) ≡ isWerktagIn cal k r
@@ -226,4 +232,6 @@ years-count (suc k) h =
     omega (arith, years-count k (omega arith), count-shift (isWerktag BdewMaKo) (yearStart k) (yearLen k), c)
   where
     c : count (λ r. isWerktag BdewMaKo (yearStart k + r)) (yearLen k) ≡ inYear k
-    c = count-cong (λ r. isWerktag BdewMaKo (yearStart k + r)) (openIn (yearAt k)) (yearLen k) (λ r g. index-is BdewMaKo k r h g ∙ open-is k r g)
+    c =
+        count-cong (λ r. isWerktag BdewMaKo (yearStart k + r)) (openIn (yearAt k)) (yearLen k)
+        (λ r g. index-is BdewMaKo k r h g ∙ open-is k r g)

@@ -9,10 +9,10 @@
 --   isBdewMakoHoliday i   = whether the day with index i is in the list
 --   isWerktagIn cal k r   = whether day r, from 0 on, of the year 1996 + k is a Werktag
 --   isWerktag cal i       = whether the day with index i is a Werktag
--- The day test is one of a year and a day in it, so that a fact about all days can be computed year by year; proofs/Computed.antt has a
--- form of it for that.
--- Source: GPKE Teil 1 (Werktag: 'alle Tage .., die kein Samstag, Sonntag oder gesetzlicher Feiertag sind'; a holiday of one Land counts
--- everywhere; 24.12. and 31.12. count as holidays); document 01, 'lib.rs, calendar', for the list.
+-- The day test is one of a year and a day in it, so that a fact about all days can be computed year by year;
+-- proofs/Computed.antt has a form of it for that.
+-- Source: GPKE Teil 1 (Werktag: 'alle Tage .., die kein Samstag, Sonntag oder gesetzlicher Feiertag sind'; a holiday of
+-- one Land counts everywhere; 24.12. and 31.12. count as holidays); document 01, 'lib.rs, calendar', for the list.
 use Prim.Native.Nat.{ℕ, _+_}
 use mathlib.Core.Bool.{Bool, false, not, _&&_, _||_}
 use mathlib.Core.List.{List, [], _∷_}
@@ -36,10 +36,12 @@ eqZ (pos a) (negsuc b) = false
 eqZ (negsuc a) (pos b) = false
 eqZ (negsuc a) (negsuc b) = eqb a b
 
--- 'The fixed days are a table: 1.1., 6.1., 8.3., 1.5., 15.8., 20.9., 3.10., 31.10., 1.11., 24.12., 25.12., 26.12., 31.12.'
+-- 'The fixed days are a table: 1.1., 6.1., 8.3., 1.5., 15.8., 20.9., 3.10., 31.10., 1.11., 24.12., 25.12., 26.12.,
+-- 31.12.'
 abbrev pub fixedDays : List (ℕ × ℕ)
 fixedDays =
-    (1, 1) ∷ (6, 1) ∷ (8, 3) ∷ (1, 5) ∷ (15, 8) ∷ (20, 9) ∷ (3, 10) ∷ (31, 10) ∷ (1, 11) ∷ (24, 12) ∷ (25, 12) ∷ (26, 12) ∷ (31, 12) ∷ []
+    (1, 1) ∷ (6, 1) ∷ (8, 3) ∷ (1, 5) ∷ (15, 8) ∷ (20, 9) ∷ (3, 10) ∷ (31, 10) ∷ (1, 11)
+    ∷ (24, 12) ∷ (25, 12) ∷ (26, 12) ∷ (31, 12) ∷ []
 
 unfoldable pub isFixed : ℕ → ℕ → Bool
 isFixed m d = any (λ x. eqb (x .0) d && eqb (x .1) m) fixedDays
@@ -66,7 +68,7 @@ unfoldable pub isBdewMakoHoliday : ℕ → Bool
 isBdewMakoHoliday i = isListed i (dateOf i)
 
 -- 'Werktag: not Saturday, Sunday or a holiday (GPKE Teil 1).' The day's index is yearStart k + r.
-unfoldable pub isWerktagIn : HolidayCalendar → ℕ → ℕ → Bool
+abbrev pub isWerktagIn : HolidayCalendar → ℕ → ℕ → Bool
 isWerktagIn BdewMaKo k r =
     let i = yearStart k + r in
     not (leb 5 (weekday i)) && not (isListed i (dateIn k r))

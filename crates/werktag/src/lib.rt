@@ -5,7 +5,8 @@ ghost use mathlib.Core.Path.{_≡_};
 ghost use Prim.Native.Nat.{_≤_};
 ghost use Rattle.zaehlung.specs.Walk.{last};
 ghost use Rattle.werktag.specs.Easter.{easterSunday};
-ghost use Rattle.werktag.specs.Werktag.{isFixed, isBussUndBettag, isOffset, isEasterFeast, isBdewMakoHoliday, isWerktag};
+ghost use Rattle.werktag.specs.Werktag.{isFixed, isBussUndBettag, isOffset, isEasterFeast};
+ghost use Rattle.werktag.specs.Werktag.{isBdewMakoHoliday, isWerktag};
 use datum::Date;
 
 /// Weekdays, Monday being 0.
@@ -25,7 +26,8 @@ const FIXED_MONTH: [u8; FIXED_DAYS] = [1, 1, 3, 5, 8, 9, 10, 10, 11, 12, 12, 12,
 
 const FIXED_DAY: [u8; FIXED_DAYS] = [1, 6, 8, 1, 15, 20, 3, 31, 1, 24, 25, 26, 31];
 
-/// Karfreitag, Ostermontag, Christi Himmelfahrt, Pfingstsonntag, Pfingstmontag, Fronleichnam, in days from Easter Sunday.
+/// Karfreitag, Ostermontag, Christi Himmelfahrt, Pfingstsonntag, Pfingstmontag, Fronleichnam, in days from Easter
+/// Sunday.
 const EASTER_FEASTS: usize = 6;
 
 const EASTER_OFFSET: [i64; EASTER_FEASTS] = [-2, 1, 39, 49, 50, 60];

@@ -69,7 +69,8 @@ module _ (w : ℕ → Bool) where
 
 pub count-shift : (w : ℕ → Bool) (s n : ℕ) → count w (s + n) ≡ count w s + count (λ r. w (s + r)) n
 count-shift w s zero = rw add-zero (omega (arith, count-none (λ r. w (s + r))))
-count-shift w s (suc n) = rw add-suc (omega (arith, count-shift w s n, count-suc w (s + n), count-suc (λ r. w (s + r)) n))
+count-shift w s (suc n) =
+    rw add-suc (omega (arith, count-shift w s n, count-suc w (s + n), count-suc (λ r. w (s + r)) n))
 
 pub count-cong : (p q : ℕ → Bool) (n : ℕ) → ((r : ℕ) → r < n → p r ≡ q r) → count p n ≡ count q n
 count-cong p q zero f = omega (arith, count-none p, count-none q)

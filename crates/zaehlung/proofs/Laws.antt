@@ -3,7 +3,8 @@
 --   add-iff        add w d n ≡ Day e   exactly if  e is open, count w (suc e) ≡ count w (suc d) + n and e ≤ last; 1 ≤ n
 --   sub-iff        sub w d n ≡ Day e   exactly if  e is open and count w e + n ≡ count w d; 1 ≤ n
 --   next-iff       next w d ≡ Day e    exactly if  e is open, count w e ≡ count w d and e ≤ last
---   W-iff          W w t n ≡ Day e     exactly if  e is the day after an open one, count w e ≡ count w t + n and e ≤ last; 1 ≤ n
+--   W-iff          W w t n ≡ Day e     exactly if  e is the day after an open one, count w e ≡ count w t + n and e ≤
+--                  last; 1 ≤ n
 --   add-out-iff    add w d n ≡ Outside exactly if  fewer than n open days come after d
 --   sub-out-iff    sub w d n ≡ Outside exactly if  fewer than n come before d
 --   next-out-iff   next w d ≡ Outside  exactly if  none comes on d or after it

@@ -1,4 +1,5 @@
--- `datum::month_of` meets its contract. The invariant: the month starts by the day; the loop ends where the next starts after it.
+-- `datum::month_of` meets its contract. The invariant: the month starts by the day; the loop ends where the next starts
+-- after it.
 -- Assumes nothing.
 use Prim.Native.Nat.{_≤_, _-_}
 use Rattle.datum.specs.Calendar.{monthStart}

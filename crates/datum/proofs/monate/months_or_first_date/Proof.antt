@@ -1,4 +1,6 @@
--- `datum::monate::months_or_first_date` meets its contract. The day was cut exactly if the date reached has a smaller day, and the first of the next month is the first of the month reached and a month (Months: `M-kept`, `M-cut`, `M-out`).
+-- `datum::monate::months_or_first_date` meets its contract. The day was cut exactly if the date reached has a smaller
+-- day, and the first of the next month is the first of the month reached and a month (Months: `M-kept`, `M-cut`,
+-- `M-out`).
 -- Assumes nothing.
 use Rattle.datum.proofs.MonthStepRules.{date-shift-rules}
 use borrow.Author.Needs.{needs}

@@ -1,5 +1,5 @@
--- `vorlauf::abmeldung::same_bytes` meets its contract. The invariant: the strings are as long, and what is left of them is
--- the same exactly if the whole is. The bytes that are left grow fewer.
+-- `vorlauf::abmeldung::same_bytes` meets its contract. The invariant: the strings are as long, and what is left of them
+-- is the same exactly if the whole is. The bytes that are left grow fewer.
 -- Assumes nothing.
 use Prim.Native.Nat.{_-_}
 use mathlib.Core.Path.{_≡_}
