@@ -121,29 +121,25 @@ struct Question {
 }
 
 fn question_of(q: &[u8; 32], p: &[u8; 32]) -> Question {
-    let low = zahlen::u32_from(q[16], q[17], q[18], q[19]);
-    let high = zahlen::u32_from(q[20], q[21], q[22], q[23]);
-    let low2 = zahlen::u32_from(p[4], p[5], p[6], p[7]);
-    let high2 = zahlen::u32_from(p[8], p[9], p[10], p[11]);
     Question {
         call: q[0],
         code: q[1],
-        year: zahlen::u16_from(q[4], q[5]),
+        year: zahlen::u16_at(q, 4),
         month: q[6],
         day: q[7],
-        year2: zahlen::u16_from(q[8], q[9]),
+        year2: zahlen::u16_at(q, 8),
         month2: q[10],
         day2: q[11],
-        nanos_of_second: zahlen::u32_from(q[8], q[9], q[10], q[11]),
-        n: zahlen::u32_from(q[12], q[13], q[14], q[15]),
-        seconds: zahlen::signed_of(zahlen::u64_from(low, high)),
-        nanos: zahlen::u32_from(q[24], q[25], q[26], q[27]),
+        nanos_of_second: zahlen::u32_at(q, 8),
+        n: zahlen::u32_at(q, 12),
+        seconds: zahlen::i64_at(q, 16),
+        nanos: zahlen::u32_at(q, 24),
         hour: q[28],
         minute: q[29],
         second: q[30],
-        n2: zahlen::u32_from(p[0], p[1], p[2], p[3]),
-        seconds2: zahlen::signed_of(zahlen::u64_from(low2, high2)),
-        nanos2: zahlen::u32_from(p[12], p[13], p[14], p[15]),
+        n2: zahlen::u32_at(p, 0),
+        seconds2: zahlen::i64_at(p, 4),
+        nanos2: zahlen::u32_at(p, 12),
         code2: p[16],
         reason: p[17],
     }

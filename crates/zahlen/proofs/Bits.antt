@@ -2,9 +2,10 @@
 -- holds bits, so a goal shows `toZ w64 (ofZ w64 z)` around each value z: `back z`. `toZ-ofZ` takes that off where z
 -- fits, and a case split on `pos n` and `negsuc n`, which is -(n + 1), leaves facts about natural numbers.
 -- Assumes nothing.
-use Prim.Native.Nat.{ℕ, zero, suc, _-_, _^_, _≤_, _<_}
+use Prim.Native.Nat.{ℕ, zero, suc, _+_, _-_, _^_, _≤_, _<_}
 use mathlib.Core.Bool.{true, false}
-use mathlib.Core.Path.{_≡_, refl, sym, _∙_, subst}
+use mathlib.Core.List.{List}
+use mathlib.Core.Path.{_≡_, refl, sym, ap, _∙_, subst}
 use native.Mathlib.Omega.{arith}
 use lib.Dec.{T}
 use lib.IntN.{ℤ, pos, negsuc, negℤ, natAbs, _+ℤ_, _-ℤ_, +ℤ-one, +ℤ-idl, negℤ-negℤ}
@@ -14,6 +15,8 @@ use mir.Syntax.{w64}
 use mir.Val.{Fits, SFits, toZ}
 use mir.Facts.{toZ-ofZ}
 use Rattle.datum.proofs.Signed.{back, back-pos, neg-fits, below}
+use Rattle.zahlen.specs.LittleEndian.{u64From}
+use Rattle.zahlen.specs.Places.{u32At, i64At}
 use Rattle.zahlen.specs.TwosComplement.{bitsIn, signedIn, bitsOf, signedOf}
 
 -- -(n + 1) + 1 is -n
@@ -111,3 +114,10 @@ module _ (x : ℕ) where
     signed-large = rw (le-ltb x 9223372036854775808 h) (toZ-ofZ below-fits ∙ second)
 
 pub ruleset signed-rules = (signed-small, minus-fits, below-fits, signed-large)
+
+-- i64_at: the two halves, joined, and the signed number of that
+pub i64-made :
+    (l : List ℕ) (i low high bits : ℕ) (z : ℤ) →
+    low ≡ u32At l i → high ≡ u32At l (i + 4) → bits ≡ u64From low high → z ≡ signedOf bits → SFits w64 z →
+    back z ≡ i64At l i
+i64-made l i low high bits z p q r e f = toZ-ofZ f ∙ e ∙ ap signedOf (r ∙ cc)

@@ -6,6 +6,7 @@
 --   le-number       and so are k bytes from their number
 --   u16-back, u32-back, u64-back      what le2, le4, le8 write, u16From, u32From, u64From read back
 --   u16-bytes, u32-bytes, u64-bytes   and what these read, those write back
+--   u16-placed, u32-placed, i64-placed   a number's bytes among others are read back from their place
 --   bits-signed     the bits of the signed number of x are x, at any width
 --   signed-bits     and the signed number of z's bits is z
 -- Assumes nothing.
@@ -14,13 +15,15 @@ use mathlib.Core.Path.{_≡_, refl, sym, ap, _∙_}
 use mathlib.Core.List.{List, [], _∷_, _++_}
 use native.Mathlib.Omega.{arith}
 use native.Mathlib.Decide.{decLt}
-use native.Mathlib.Nat.{div-div-eq-div-mul}
+use native.Mathlib.Nat.{add-assoc, div-div-eq-div-mul}
 use lib.IntN.{ℤ, pos, negsuc}
 use lib.ListN.{length}
+use lib.Seq.{getD-append-seam, getD-append-add}
 use lib.Signed.{mag}
 use borrow.Author.Tests.{lt-ltb, le-ltb}
 use Rattle.zahlen.specs.LittleEndian.{le2, le4, le8, u16From, u32From, u64From}
-use Rattle.zahlen.specs.TwosComplement.{bitsIn, signedIn}
+use Rattle.zahlen.specs.TwosComplement.{bitsIn, signedIn, bitsOf, signedOf}
+use Rattle.zahlen.specs.Places.{u16At, u32At, i64At}
 
 abbrev pub number : List ℕ → ℕ
 number [] = 0
@@ -100,6 +103,13 @@ pub u64-bytes :
 u64-bytes a b c d e f g h p =
     le8-is (u64From (u32From a b c d) (u32From e f g h)) ∙ ap (le 8) (u64-is a b c d e f g h) ∙ le-number p
 
+module _ (a b : List ℕ) (x : ℕ) where
+  pub u16-placed : x < 65536 → u16At (a ++ (le2 x ++ b)) (length a) ≡ x
+  u16-placed h = simp (getD-append-seam, getD-append-add) (u16-back x _ _ h refl)
+
+  pub u32-placed : x < 4294967296 → u32At (a ++ (le4 x ++ b)) (length a) ≡ x
+  u32-placed h = simp (getD-append-seam, getD-append-add) (u32-back x _ _ _ _ h refl)
+
 pub bits-signed : (h x : ℕ) → x < h + h → bitsIn h (signedIn h x) ≡ x
 unfolding signedIn
 bits-signed h x l =
@@ -113,3 +123,17 @@ pub signed-bits : (h : ℕ) (z : ℤ) → mag z < h → signedIn h (bitsIn h z) 
 unfolding signedIn bitsIn
 signed-bits h (pos n) l = rw (lt-ltb n h l)
 signed-bits h (negsuc n) l = rw (le-ltb (h + h - suc n) h (omega arith)) (ap negsuc (omega arith))
+
+bits-below : (h : ℕ) (z : ℤ) → mag z < h → bitsIn h z < h + h
+unfolding bitsIn
+bits-below h (pos n) l = omega arith
+bits-below h (negsuc n) l = omega arith
+
+pub i64-placed :
+    (a b : List ℕ) (z : ℤ) → mag z < 9223372036854775808 → i64At (a ++ (le8 (bitsOf z) ++ b)) (length a) ≡ z
+i64-placed a b z h =
+    let n = length a in
+    ap signedOf
+    (simp (getD-append-seam, getD-append-add, add-assoc n 4 1, add-assoc n 4 2, add-assoc n 4 3)
+    (u64-back (bitsOf z) _ _ _ _ _ _ _ _ (bits-below 9223372036854775808 z h) refl))
+    ∙ signed-bits 9223372036854775808 z h

@@ -1,2 +1,3 @@
 pub mod LittleEndian
 pub mod TwosComplement
+pub mod Places

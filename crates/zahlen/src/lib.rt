@@ -1,7 +1,10 @@
 // Numbers as bytes, lowest byte first: read from bytes, and a signed number as the bits that its bytes are made of.
 ghost use mathlib.Core.Path.{_≡_};
+ghost use Prim.Native.Nat.{_+_, _≤_};
+ghost use lib.ListN.{length};
 ghost use Rattle.zahlen.specs.LittleEndian.{u16From, u32From, u64From};
 ghost use Rattle.zahlen.specs.TwosComplement.{bitsOf, signedOf};
+ghost use Rattle.zahlen.specs.Places.{u16At, u32At, i64At};
 
 /// The number of two bytes, lowest first: `u16_from(0xea, 0x07)` is 2026.
 pub fn u16_from(a: u8, b: u8) -> u16
@@ -45,4 +48,30 @@ pub fn signed_of(bits: u64) -> i64
     }
     let y = (u64::MAX - bits) as i64;
     -y - 1
+}
+
+/// The number of the two bytes that start at a place: of the bytes ea 07 04 07 it is 2026 at 0.
+pub fn u16_at(bytes: &[u8], at: usize) -> u16
+    requires { ⌜ at + 2 ≤ length (now bytes) ⌝ }
+    ensures { λ r. ⌜ r ≡ u16At (now (bytes .entry)) at ⌝ }
+{
+    u16_from(bytes[at], bytes[at + 1])
+}
+
+/// The number of the four bytes that start at a place: of the bytes 00 01 00 00 00 it is 1 at 1.
+pub fn u32_at(bytes: &[u8], at: usize) -> u32
+    requires { ⌜ at + 4 ≤ length (now bytes) ⌝ }
+    ensures { λ r. ⌜ r ≡ u32At (now (bytes .entry)) at ⌝ }
+{
+    u32_from(bytes[at], bytes[at + 1], bytes[at + 2], bytes[at + 3])
+}
+
+/// The signed number of the eight bytes that start at a place: of eight bytes ff it is -1 at 0.
+pub fn i64_at(bytes: &[u8], at: usize) -> i64
+    requires { ⌜ at + 8 ≤ length (now bytes) ⌝ }
+    ensures { λ r. ⌜ r ≡ i64At (now (bytes .entry)) at ⌝ }
+{
+    let low = u32_at(bytes, at);
+    let high = u32_at(bytes, at + 4);
+    signed_of(u64_from(low, high))
 }
