@@ -70,8 +70,9 @@ fn too_late(t: u32, closes: u32, first: u32, cal: HolidayCalendar) -> VorlaufVer
     requires { ⌜ (closes < t) × (t ≤ last) ⌝ }
     ensures { λ r. ⌜ r ≡ VorlaufVerdict.TooLate (between (isWerktag cal) closes t) first ⌝ }
 {
+    let shortfall = schritte::werktage_between(closes, t, cal);
     VorlaufVerdict::TooLate {
-        shortfall_wt: schritte::werktage_between(closes, t, cal),
+        shortfall_wt: shortfall,
         earliest_possible: first,
     }
 }
