@@ -15,7 +15,7 @@ use Rattle.datum.specs.MonthShift.{inMonth, onMonth, addMonths, subtractMonths}
 use Rattle.datum.specs.Monate.{monthsLater, monthsEarlier, M}
 use Rattle.werktag.specs.declared.HolidayCalendar.the-variants.{BdewMaKo}
 use Rattle.werktag.specs.Easter.{easterSunday, easterIndex}
-use Rattle.werktag.specs.Werktag.{any, isFixed, isBussUndBettag, isEasterFeast, isBdewMakoHoliday, isWerktagIn, isWerktag}
+use Rattle.werktag.specs.Werktag.{any, isFixed, isBussUndBettag, isEasterFeast, isBdewMakoHoliday, isWerktag}
 use Rattle.berlin.specs.Berlin.{isBefore, inLimits, readInstant, readClock, lastSunday, yearAt, offsetAt, berlinAt}
 use Rattle.berlin.specs.Berlin.{berlinMidnight, endOfDayBerlin, tagesbeginnUtc}
 use Rattle.fristen.specs.Fristen.{instantLater, contrlSeconds, inWindow, toleranzIn, formatumstellungToleranz}
@@ -81,7 +81,7 @@ pub cases :
 unfolding start at isLeap daysInMonth yearLen isDate indexOf dateIn dateOf floorDiv floorMod
     inMonth onMonth addMonths subtractMonths monthsLater monthsEarlier M
     dayAfter up down past first among add sub next W between
-    easterSunday easterIndex any isFixed isBussUndBettag isEasterFeast isBdewMakoHoliday isWerktagIn isWerktag
+    easterSunday easterIndex any isFixed isBussUndBettag isEasterFeast isBdewMakoHoliday isWerktag
     isBefore inLimits readInstant readClock lastSunday yearAt offsetAt berlinAt
     berlinMidnight endOfDayBerlin tagesbeginnUtc
     instantLater contrlSeconds inWindow toleranzIn formatumstellungToleranz contrlDueAt nthWerktagAt
