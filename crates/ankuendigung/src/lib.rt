@@ -5,9 +5,8 @@ ghost use mathlib.Core.Path.{_≡_};
 ghost use Prim.Native.Nat.{_≤_};
 ghost use Rattle.zaehlung.specs.Walk.{last};
 ghost use Rattle.werktag.specs.Werktag.{isWerktag};
-ghost use Rattle.berlin.specs.Berlin.{Proper};
-ghost use Rattle.ankuendigung.specs.Ankuendigung.{eogAnkuendigung, byThirteen};
-use berlin::Clock;
+ghost use Rattle.berlin.specs.Inside.{Proper};
+ghost use Rattle.ankuendigung.specs.Ankuendigung.{eogAnkuendigungFristgerecht, isByThirteen};
 use berlin::Moment;
 use berlin::Resolved;
 use werktag::HolidayCalendar;
@@ -21,35 +20,34 @@ pub enum Fristgerecht {
     Outside,
 }
 
-/// 13:00, as a second of the day.
-const EOG_ANKUENDIGUNG_SPAETESTENS: u32 = 46800;
+/// 13:00: 'spätester 13:00 Uhr des letzten WT vor dem Zuordnungsbeginn des E/G'.
+const EOG_ANKUENDIGUNG_SPAETESTENS: u32 = 13;
 
-/// Whether an instant is by 13:00 of a day.
+/// Whether an instant is by 13:00 of a day: '13:00 exactly is yes'.
 fn is_by_thirteen(uez: Moment, day: u32) -> bool
     requires { ⌜ (Proper uez) × (day ≤ last) ⌝ }
-    ensures { λ r. ⌜ r ≡ byThirteen day uez ⌝ }
+    ensures { λ r. ⌜ r ≡ isByThirteen day uez ⌝ }
 {
-    let at = Clock {
-        second: EOG_ANKUENDIGUNG_SPAETESTENS,
-        nanos: 0,
-    };
-    match berlin::berlin_at(day, at) {
-        Resolved::At(spaetestens) => !fristen::is_before(spaetestens, uez),
+    match berlin::berlin_at(day, berlin::o_clock(EOG_ANKUENDIGUNG_SPAETESTENS)) {
+        Resolved::At(spaetestens) => !berlin::is_before(spaetestens, uez),
         Resolved::Absent => false,
     }
 }
 
-/// For the beginning 12 January 2026: 9 January 13:00 is in time, a nanosecond later is not, and from 12 January 00:00 on it is
-/// neither.
+/// Whether the grid operator announced the Zuordnung of the E/G in time: on the last Werktag before its beginning, from
+/// 00:00 to 13:00. 'From midnight of the beginning on the answer is neither yes nor no'.
+///
+/// For the beginning Monday, 12 January 2026: Friday, 9 January 13:00 is in time, a nanosecond later is not, and from
+/// 12 January 00:00 on it is neither.
 pub fn eog_ankuendigung_fristgerecht(
     uez: Moment,
     zuordnungsbeginn: u32,
     cal: HolidayCalendar,
 ) -> Fristgerecht
     requires { ⌜ (Proper uez) × (zuordnungsbeginn ≤ last) ⌝ }
-    ensures { λ r. ⌜ r ≡ eogAnkuendigung (isWerktag cal) uez zuordnungsbeginn ⌝ }
+    ensures { λ r. ⌜ r ≡ eogAnkuendigungFristgerecht (isWerktag cal) uez zuordnungsbeginn ⌝ }
 {
-    if !fristen::is_before(uez, berlin::berlin_midnight(zuordnungsbeginn)) {
+    if !berlin::is_before(uez, berlin::berlin_midnight(zuordnungsbeginn)) {
         return Fristgerecht::Weder;
     }
     let Step::Day(letzter) = schritte::sub_werktage(zuordnungsbeginn, 1, cal) else {

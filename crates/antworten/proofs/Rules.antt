@@ -1,5 +1,5 @@
--- What the proofs of the host calls cite, with premises in the form in which they stand there. The same rules serve every call: a date that
--- is none, a date that is taken, a step, a shift.
+-- What the proofs of the host calls cite, with premises in the form in which they stand there. The same rules serve
+-- every call: a date that is none, a date that is taken, a step, a shift.
 -- Assumes nothing.
 use Prim.Native.Nat.{ℕ, suc, _-_, _≤_, _<_}
 use mathlib.Core.Bool.{Bool, true, false, not}
@@ -33,21 +33,25 @@ use Rattle.berlin.specs.declared.Resolved.the-variants.{At as Shown, Absent as 
 use Rattle.berlin.specs.declared.Beginn.{Beginn}
 use Rattle.berlin.specs.declared.Beginn.the-variants.{Day as Begins, NoBeginning}
 use Rattle.berlin.specs.declared.Sparte.{Sparte}
-use Rattle.berlin.specs.declared.Sparte.the-variants.{Strom, Gas}
-use Rattle.berlin.specs.Berlin.{Proper, ProperClock, secondsOf, readInstant, readClock, berlinAt, berlinMidnight, endOfDayBerlin, tagesbeginnUtc, tagDesBeginns}
-use Rattle.berlin.proofs.Proper.{read-proper, clock-proper as read-clock-proper, at-proper, midnight-proper, end-proper, begin-proper, beginn-le}
+use Rattle.berlin.specs.Inside.{Proper, ProperClock}
+use Rattle.berlin.specs.Berlin.{secondsOf, readInstant, readClock, berlinAt, berlinMidnight, endOfDayBerlin}
+use Rattle.berlin.specs.Berlin.{tagesbeginnUtc, tagDesBeginns}
+use Rattle.berlin.proofs.Proper.{read-proper, clock-proper as read-clock-proper, at-proper, midnight-proper, end-proper}
+use Rattle.berlin.proofs.Proper.{begin-proper, beginn-le}
 use Rattle.datum.proofs.Signed.{back, back-pos}
-use Rattle.werktag.specs.declared.HolidayCalendar.the-variants.{BdewMaKo}
+use Rattle.werktag.specs.declared.HolidayCalendar.{HolidayCalendar}
 use Rattle.werktag.specs.Werktag.{isWerktag}
 use Rattle.antwortsatz.specs.declared.Answer.{Answer}
-use Rattle.antwortsatz.specs.Answers.{refusedWith, kindAnswer, countAnswer, dateAnswer, instantAnswer}
-use Rattle.antworten.specs.declared.uhrzeit.SparteCode.{SparteCode}
-use Rattle.antworten.specs.declared.uhrzeit.SparteCode.the-variants.{Known, Unknown}
-use Rattle.antworten.specs.Reading.{inside, onDate, stepAnswer, shiftAnswer, onInstant, onClock, sparteOf, onSparte, momentAnswer, resolvedAnswer, beginnAnswer, insideBeginn, properReading, properClock, properResolved}
+use Rattle.antwortsatz.specs.Refusals.{noDate, instantOutside, noClock, localTimeAbsent, noBeginning, leavesCalendar}
+use Rattle.antwortsatz.specs.Answers.{refused, ofKind, counted, dated, atInstant}
+use Rattle.antworten.specs.Inside.{inside, insideBeginn, properReading, properClock, properResolved}
+use Rattle.antworten.specs.Reading.{onDate, stepAnswer, shiftAnswer, onInstant, onClock}
+use Rattle.antworten.specs.Reading.{momentAnswer, resolvedAnswer, beginnAnswer}
+use Rattle.antworten.proofs.Codes.{code-refused, code-taken}
 
 -- x is what `index_of` returned for d
 module _ (d : Date) (x : Index) where
-  pub date-refused : (f : ℕ → Answer) (r : Answer) → x ≡ indexOf d → x ≡ NoDate → r ≡ refusedWith 3 → r ≡ onDate (indexOf d) f
+  pub date-refused : (f : ℕ → Answer) (r : Answer) → x ≡ indexOf d → x ≡ NoDate → r ≡ refused noDate → r ≡ onDate (indexOf d) f
   date-refused f r e q p = rw (sym e ∙ q) p
 
   pub date-taken : (f : ℕ → Answer) (r : Answer) (i : ℕ) → x ≡ indexOf d → x ≡ At i → r ≡ f i → r ≡ onDate (indexOf d) f
@@ -58,7 +62,7 @@ module _ (d : Date) (x : Index) where
 
 -- b is what `is_date` returned for d
 module _ (d : Date) (b : Bool) (g : b ≡ isDate d) where
-  pub date-none : (f : ℕ → Answer) (r : Answer) → not b ≡ true → r ≡ refusedWith 3 → r ≡ onDate (indexOf d) f
+  pub date-none : (f : ℕ → Answer) (r : Answer) → not b ≡ true → r ≡ refused noDate → r ≡ onDate (indexOf d) f
   unfolding indexOf
   date-none f r t p = rw (sym g ∙ not-true b t) p
 
@@ -75,11 +79,12 @@ module _ (d : Date) (b : Bool) (g : b ≡ isDate d) where
 pub ruleset date-rules = (date-none, date-given, date-valid, date-month)
 
 -- is_werktag_answer: b is what `is_werktag` returned
-pub open-kind : (i : ℕ) (b : Bool) (r : Answer) → b ≡ isWerktag BdewMaKo i → b ≡ true → r ≡ kindAnswer 1 → r ≡ kindAnswer (bit (isWerktag BdewMaKo i))
-open-kind i b r e t p = rw (sym e ∙ t) p
+module _ (cal : HolidayCalendar) (i : ℕ) (b : Bool) (r : Answer) (e : b ≡ isWerktag cal i) where
+  pub open-kind : b ≡ true → r ≡ ofKind 1 → r ≡ ofKind (bit (isWerktag cal i))
+  open-kind t p = rw (sym e ∙ t) p
 
-pub shut-kind : (i : ℕ) (b : Bool) (r : Answer) → b ≡ isWerktag BdewMaKo i → b ≡ false → r ≡ kindAnswer 0 → r ≡ kindAnswer (bit (isWerktag BdewMaKo i))
-shut-kind i b r e t p = rw (sym e ∙ t) p
+  pub shut-kind : b ≡ false → r ≡ ofKind 0 → r ≡ ofKind (bit (isWerktag cal i))
+  shut-kind t p = rw (sym e ∙ t) p
 
 -- a step s that its function returned
 made-inside : (s : Step) → ((e : ℕ) → s ≡ Day e → e ≤ last) → inside s
@@ -101,35 +106,47 @@ step-made s t r e p = p ∙ ap stepAnswer e
 pub shift-made : (s t : Shifted) (r : Answer) → s ≡ t → r ≡ shiftAnswer s → r ≡ shiftAnswer t
 shift-made s t r e p = p ∙ ap shiftAnswer e
 
-pub count-made : (n m : ℕ) (r : Answer) → n ≡ m → r ≡ countAnswer n → r ≡ countAnswer m
-count-made n m r e p = p ∙ ap countAnswer e
+pub count-made : (n m : ℕ) (r : Answer) → n ≡ m → r ≡ counted n → r ≡ counted m
+count-made n m r e p = p ∙ ap counted e
 
 -- step_answer, shift_answer
 pub day-reached : (s : Step) (i : ℕ) → inside s → s ≡ Day i → i ≤ last
 day-reached (Day j) i h e = let q : j ≡ i = cc in omega arith
 day-reached Outside i h e = let z : _≡_ {A = ℕ} 0 1 = cc in absurd (omega arith)
 
-pub step-day : (s : Step) (i : ℕ) (d : Date) (r : Answer) → s ≡ Day i → d ≡ dateOf i → r ≡ dateAnswer d → r ≡ stepAnswer s
+pub step-day : (s : Step) (i : ℕ) (d : Date) (r : Answer) → s ≡ Day i → d ≡ dateOf i → r ≡ dated d → r ≡ stepAnswer s
 step-day s i d r e p q = rw (e, ← p) q
 
-pub step-out : (s : Step) (r : Answer) → s ≡ Outside → r ≡ refusedWith 8 → r ≡ stepAnswer s
+pub step-out : (s : Step) (r : Answer) → s ≡ Outside → r ≡ refused leavesCalendar → r ≡ stepAnswer s
 step-out s r e q = rw e q
 
-pub shift-on : (s : Shifted) (d : Date) (r : Answer) → s ≡ On d → r ≡ dateAnswer d → r ≡ shiftAnswer s
+pub shift-on : (s : Shifted) (d : Date) (r : Answer) → s ≡ On d → r ≡ dated d → r ≡ shiftAnswer s
 shift-on s d r e q = rw e q
 
-pub shift-out : (s : Shifted) (r : Answer) → s ≡ Left → r ≡ refusedWith 8 → r ≡ shiftAnswer s
+pub shift-out : (s : Shifted) (r : Answer) → s ≡ Left → r ≡ refused leavesCalendar → r ≡ shiftAnswer s
 shift-out s r e q = rw e q
 
 pub ruleset step-rules = (day-reached, step-day, step-out, shift-on, shift-out)
 
-pub ruleset answer-rules = (date-refused, date-taken, day-inside, open-kind, shut-kind, add-in, sub-in, next-in, step-made, shift-made, count-made)
+pub ruleset answer-rules = (
+  date-refused,
+  date-taken,
+  day-inside,
+  open-kind,
+  shut-kind,
+  add-in,
+  sub-in,
+  next-in,
+  step-made,
+  shift-made,
+  count-made,
+)
 
 pub ruleset month-rules = (date-none, date-given, date-month, shift-made)
 
 -- k is what `read_instant` returned, or what a function was handed
 module _ (k : Reading) where
-  pub instant-refused : (f : Moment → Answer) (r : Answer) → k ≡ NoInstant → r ≡ refusedWith 4 → r ≡ onInstant k f
+  pub instant-refused : (f : Moment → Answer) (r : Answer) → k ≡ NoInstant → r ≡ refused instantOutside → r ≡ onInstant k f
   instant-refused f r q p = rw q p
 
   pub instant-taken : (f : Moment → Answer) (r : Answer) (m : Moment) → k ≡ Read m → r ≡ f m → r ≡ onInstant k f
@@ -140,7 +157,7 @@ module _ (k : Reading) where
 
 -- the same of a clock
 module _ (k : ClockReading) where
-  pub clock-refused : (f : Clock → Answer) (r : Answer) → k ≡ NoClock → r ≡ refusedWith 5 → r ≡ onClock k f
+  pub clock-refused : (f : Clock → Answer) (r : Answer) → k ≡ NoClock → r ≡ refused noClock → r ≡ onClock k f
   clock-refused f r q p = rw q p
 
   pub clock-taken : (f : Clock → Answer) (r : Answer) (c : Clock) → k ≡ Clocked c → r ≡ f c → r ≡ onClock k f
@@ -149,51 +166,33 @@ module _ (k : ClockReading) where
   pub clock-proper : (c : Clock) → properClock k → k ≡ Clocked c → ProperClock c
   clock-proper c h q = rw q at h
 
--- x is what `sparte_of` returned
-pub sparte-refused : (n : ℕ) (x : SparteCode) (f : Sparte → Answer) (r : Answer) → x ≡ sparteOf n → x ≡ Unknown → r ≡ refusedWith 2 → r ≡ onSparte (sparteOf n) f
-sparte-refused n x f r e q p = rw (sym e ∙ q) p
-
-pub sparte-taken : (n : ℕ) (x : SparteCode) (f : Sparte → Answer) (r : Answer) (s : Sparte) → x ≡ sparteOf n → x ≡ Known s → r ≡ f s → r ≡ onSparte (sparteOf n) f
-sparte-taken n x f r s e q p = rw (sym e ∙ q) p
-
--- sparte_of: codes one by one
-pub sparte-0 : (n : ℕ) → n < 1 → Known Strom ≡ sparteOf n
-sparte-0 n h = let z : n ≡ 0 = omega arith in rw z
-
-pub sparte-1 : (n : ℕ) → 1 ≤ n → n < 2 → Known Gas ≡ sparteOf n
-sparte-1 n h g = let z : n ≡ 1 = omega arith in rw z
-
-pub sparte-none : (n : ℕ) → 2 ≤ n → Unknown ≡ sparteOf n
-sparte-none n h = let z : n ≡ suc (suc (n - 2)) = omega arith in rw z
-
-pub ruleset sparte-rules = (sparte-0, sparte-1, sparte-none)
-
 -- z is what `seconds_of` returned for m
 seconds-back : (m : Moment) (z : ℤ) → Proper m → z ≡ pos (secondsOf m) → back z ≡ pos (secondsOf m)
 seconds-back m z h e = rw e (back-pos (secondsOf m) (omega (arith, h .to)))
 
-pub moment-made : (k : ℕ) (m : Moment) (z : ℤ) (r : Answer) → Proper m → z ≡ pos (secondsOf m) → r ≡ instantAnswer k (back z) (m .nanos) → r ≡ momentAnswer k m
+pub moment-made : (k : ℕ) (m : Moment) (z : ℤ) (r : Answer) → Proper m → z ≡ pos (secondsOf m) → r ≡ atInstant k (back z) (m .nanos) → r ≡ momentAnswer k m
 moment-made k m z r h e p = rw (seconds-back m z h e) at p
 
 pub resolved-at : (s : Resolved) (m : Moment) (r : Answer) → s ≡ Shown m → r ≡ momentAnswer 0 m → r ≡ resolvedAnswer s
 resolved-at s m r q p = rw q p
 
-pub resolved-never : (s : Resolved) (r : Answer) → s ≡ Never → r ≡ refusedWith 6 → r ≡ resolvedAnswer s
+pub resolved-never : (s : Resolved) (r : Answer) → s ≡ Never → r ≡ refused localTimeAbsent → r ≡ resolvedAnswer s
 resolved-never s r q p = rw q p
 
 pub resolved-proper : (s : Resolved) (m : Moment) → properResolved s → s ≡ Shown m → Proper m
 resolved-proper s m h q = rw q at h
 
-pub beginn-day : (s : Beginn) (i : ℕ) (d : Date) (r : Answer) → s ≡ Begins i → d ≡ dateOf i → r ≡ dateAnswer d → r ≡ beginnAnswer s
+pub beginn-day : (s : Beginn) (i : ℕ) (d : Date) (r : Answer) → s ≡ Begins i → d ≡ dateOf i → r ≡ dated d → r ≡ beginnAnswer s
 beginn-day s i d r q e p = rw (q, ← e) p
 
-pub beginn-none : (s : Beginn) (r : Answer) → s ≡ NoBeginning → r ≡ refusedWith 7 → r ≡ beginnAnswer s
+pub beginn-none : (s : Beginn) (r : Answer) → s ≡ NoBeginning → r ≡ refused noBeginning → r ≡ beginnAnswer s
 beginn-none s r q p = rw q p
 
 pub beginn-inside : (s : Beginn) (i : ℕ) → insideBeginn s → s ≡ Begins i → i ≤ last
 beginn-inside s i h q = rw q at h
 
-pub ruleset moment-rules = (moment-made, resolved-at, resolved-never, resolved-proper, beginn-day, beginn-none, beginn-inside)
+pub ruleset moment-rules =
+    (moment-made, resolved-at, resolved-never, resolved-proper, beginn-day, beginn-none, beginn-inside)
 
 -- what berlin returns is inside the calendar
 pub read-in : (z : ℤ) (x : ℕ) (k : Reading) → k ≡ readInstant z x → properReading k
@@ -237,7 +236,28 @@ resolved-same s t r e p = p ∙ ap resolvedAnswer e
 pub beginn-same : (s t : Beginn) (r : Answer) → s ≡ t → r ≡ beginnAnswer s → r ≡ beginnAnswer t
 beginn-same s t r e p = p ∙ ap beginnAnswer e
 
-pub date-same : (i j : ℕ) (d : Date) (r : Answer) → i ≡ j → d ≡ dateOf i → r ≡ dateAnswer d → r ≡ dateAnswer (dateOf j)
-date-same i j d r e q p = p ∙ ap dateAnswer (q ∙ ap dateOf e)
+pub date-same : (i j : ℕ) (d : Date) (r : Answer) → i ≡ j → d ≡ dateOf i → r ≡ dated d → r ≡ dated (dateOf j)
+date-same i j d r e q p = p ∙ ap dated (q ∙ ap dateOf e)
 
-pub ruleset uhrzeit-rules = (date-refused, date-taken, day-inside, instant-refused, instant-taken, instant-proper, clock-refused, clock-taken, clock-proper, sparte-refused, sparte-taken, moment-same, resolved-same, beginn-same, date-same, resolved-in, beginn-in, midnight-in, end-in, tagesbeginn-in)
+pub ruleset uhrzeit-rules = (
+  date-refused,
+  date-taken,
+  day-inside,
+  instant-refused,
+  instant-taken,
+  instant-proper,
+  clock-refused,
+  clock-taken,
+  clock-proper,
+  code-refused,
+  code-taken,
+  moment-same,
+  resolved-same,
+  beginn-same,
+  date-same,
+  resolved-in,
+  beginn-in,
+  midnight-in,
+  end-in,
+  tagesbeginn-in,
+)

@@ -1,3 +1,4 @@
+pub mod Inside
 pub mod Reading
 pub mod Kalender
 pub mod Uhrzeit

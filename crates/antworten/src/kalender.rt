@@ -1,9 +1,13 @@
 // Calendar steps and counts: document 01, refusals 3 and 8.
 ghost use mathlib.Core.Path.{_≡_};
-ghost use Rattle.antworten.specs.Reading.{inside, stepAnswer, shiftAnswer};
-ghost use Rattle.antworten.specs.Kalender.{isWerktagAnswer, nextWerktagAnswer, addWerktageAnswer, subWerktageAnswer, werktageBetweenAnswer, addMonthsAnswer, subtractMonthsAnswer};
+ghost use Rattle.werktag.specs.Werktag.{isWerktag};
+ghost use Rattle.antworten.specs.Inside.{inside};
+ghost use Rattle.antworten.specs.Reading.{stepAnswer, shiftAnswer};
+ghost use Rattle.antworten.specs.Kalender.{isWerktagAnswer, nextWerktagAnswer, addWerktageAnswer};
+ghost use Rattle.antworten.specs.Kalender.{subWerktageAnswer};
+ghost use Rattle.antworten.specs.Kalender.{werktageBetweenAnswer, addMonthsAnswer, subtractMonthsAnswer};
 use antwortsatz::Answer;
-use antwortsatz::LEFT_CALENDAR;
+use antwortsatz::LEAVES_CALENDAR;
 use antwortsatz::NO_DATE;
 use datum::Date;
 use datum::Index;
@@ -18,7 +22,7 @@ fn step_answer(step: Step) -> Answer
 {
     match step {
         Step::Day(day) => antwortsatz::dated(datum::date_of(day)),
-        Step::Outside => antwortsatz::refused(LEFT_CALENDAR),
+        Step::Outside => antwortsatz::refused(LEAVES_CALENDAR),
     }
 }
 
@@ -28,51 +32,60 @@ fn shift_answer(shifted: Shifted) -> Answer
 {
     match shifted {
         Shifted::On(date) => antwortsatz::dated(date),
-        Shifted::Outside => antwortsatz::refused(LEFT_CALENDAR),
+        Shifted::Outside => antwortsatz::refused(LEAVES_CALENDAR),
     }
 }
 
-pub fn is_werktag_answer(date: Date) -> Answer
-    ensures { λ r. ⌜ r ≡ isWerktagAnswer date ⌝ }
+/// "A day test has kind 1 for a Werktag, else 0." Refusal 3 for no date of the range: 2 April 2026, a Thursday, has
+/// kind 1, 3 April, Karfreitag, kind 0, and 31 April is refused.
+pub fn is_werktag_answer(date: Date, cal: HolidayCalendar) -> Answer
+    ensures { λ r. ⌜ r ≡ isWerktagAnswer (isWerktag cal) date ⌝ }
 {
     let Index::Day(day) = datum::index_of(date) else {
         return antwortsatz::refused(NO_DATE);
     };
-    if werktag::is_werktag(day, HolidayCalendar::BdewMaKo) {
+    if werktag::is_werktag(day, cal) {
         return antwortsatz::of_kind(1);
     }
     antwortsatz::of_kind(0)
 }
 
-pub fn next_werktag_answer(date: Date) -> Answer
-    ensures { λ r. ⌜ r ≡ nextWerktagAnswer date ⌝ }
+/// The first Werktag on or after a date: 3 April 2026 gives 7 April, the Tuesday after Ostern, and 7 April itself. From
+/// 31 December 2899 on there is none: refusal 8.
+pub fn next_werktag_answer(date: Date, cal: HolidayCalendar) -> Answer
+    ensures { λ r. ⌜ r ≡ nextWerktagAnswer (isWerktag cal) date ⌝ }
 {
     let Index::Day(from) = datum::index_of(date) else {
         return antwortsatz::refused(NO_DATE);
     };
-    step_answer(schritte::next_werktag(from, HolidayCalendar::BdewMaKo))
+    step_answer(schritte::next_werktag(from, cal))
 }
 
-pub fn add_werktage_answer(date: Date, n: u32) -> Answer
-    ensures { λ r. ⌜ r ≡ addWerktageAnswer date n ⌝ }
+/// The n-th Werktag after a date; "with 0 the date unchanged, Werktag or not": 2 April 2026 plus 1 is 7 April, 4 April,
+/// a Saturday, plus 0 is 4 April.
+pub fn add_werktage_answer(date: Date, n: u32, cal: HolidayCalendar) -> Answer
+    ensures { λ r. ⌜ r ≡ addWerktageAnswer (isWerktag cal) date n ⌝ }
 {
     let Index::Day(from) = datum::index_of(date) else {
         return antwortsatz::refused(NO_DATE);
     };
-    step_answer(schritte::add_werktage(from, n, HolidayCalendar::BdewMaKo))
+    step_answer(schritte::add_werktage(from, n, cal))
 }
 
-pub fn sub_werktage_answer(date: Date, n: u32) -> Answer
-    ensures { λ r. ⌜ r ≡ subWerktageAnswer date n ⌝ }
+/// The n-th Werktag before a date; with 0 the date unchanged: 7 April 2026 less 1 is 2 April.
+pub fn sub_werktage_answer(date: Date, n: u32, cal: HolidayCalendar) -> Answer
+    ensures { λ r. ⌜ r ≡ subWerktageAnswer (isWerktag cal) date n ⌝ }
 {
     let Index::Day(from) = datum::index_of(date) else {
         return antwortsatz::refused(NO_DATE);
     };
-    step_answer(schritte::sub_werktage(from, n, HolidayCalendar::BdewMaKo))
+    step_answer(schritte::sub_werktage(from, n, cal))
 }
 
-pub fn werktage_between_answer(first: Date, second: Date) -> Answer
-    ensures { λ r. ⌜ r ≡ werktageBetweenAnswer first second ⌝ }
+/// "Werktage after `from` up to and including `to`; 0 if `to` isn't later": from 2 to 8 April 2026 there are 2, and
+/// from 8 to 2 April none. Refusal 3 if either is no date.
+pub fn werktage_between_answer(first: Date, second: Date, cal: HolidayCalendar) -> Answer
+    ensures { λ r. ⌜ r ≡ werktageBetweenAnswer (isWerktag cal) first second ⌝ }
 {
     let Index::Day(from) = datum::index_of(first) else {
         return antwortsatz::refused(NO_DATE);
@@ -80,9 +93,11 @@ pub fn werktage_between_answer(first: Date, second: Date) -> Answer
     let Index::Day(to) = datum::index_of(second) else {
         return antwortsatz::refused(NO_DATE);
     };
-    antwortsatz::counted(schritte::werktage_between(from, to, HolidayCalendar::BdewMaKo))
+    antwortsatz::counted(schritte::werktage_between(from, to, cal))
 }
 
+/// A date n months later; "a day the target month lacks becomes its last": 31 January 2026 plus 1 is 28 February.
+/// Refusal 8 past 31 December 2899.
 pub fn add_months_answer(date: Date, n: u32) -> Answer
     ensures { λ r. ⌜ r ≡ addMonthsAnswer date n ⌝ }
 {
@@ -92,6 +107,7 @@ pub fn add_months_answer(date: Date, n: u32) -> Answer
     shift_answer(datum::add_months(date, n))
 }
 
+/// A date n months earlier, cut in the same way: 31 March 2026 less 1 is 28 February. Refusal 8 before 1 January 1996.
 pub fn subtract_months_answer(date: Date, n: u32) -> Answer
     ensures { λ r. ⌜ r ≡ subtractMonthsAnswer date n ⌝ }
 {

@@ -1,14 +1,18 @@
 // Clock on a date (document 01, refusals 3, 5, 6) and day of an instant (4, 7).
 ghost use mathlib.Core.Path.{_≡_};
-ghost use Rattle.berlin.specs.Berlin.{Proper};
-ghost use Rattle.antworten.specs.Reading.{sparteOf, properReading, properClock, properResolved, momentAnswer, resolvedAnswer, beginnAnswer, insideBeginn};
-ghost use Rattle.antworten.specs.Uhrzeit.{berlinAtAnswer, berlinMidnightAnswer, endOfDayBerlinAnswer, tagesbeginnUtcAnswer, berlinDateAnswer, tagDesBeginnsAnswer};
-use antwortsatz::ABSENT_TIME;
+ghost use Prim.Native.Nat.{_<_};
+ghost use lib.ListN.{length, getD};
+ghost use Rattle.berlin.specs.Inside.{Proper};
+ghost use Rattle.antworten.specs.Inside.{insideBeginn, properReading, properClock, properResolved};
+ghost use Rattle.antworten.specs.Reading.{sparten, momentAnswer, resolvedAnswer, beginnAnswer};
+ghost use Rattle.antworten.specs.Uhrzeit.{berlinAtAnswer, berlinMidnightAnswer, endOfDayBerlinAnswer};
+ghost use Rattle.antworten.specs.Uhrzeit.{tagesbeginnUtcAnswer, berlinDateAnswer, tagDesBeginnsAnswer};
 use antwortsatz::Answer;
+use antwortsatz::INSTANT_OUTSIDE;
+use antwortsatz::LOCAL_TIME_ABSENT;
+use antwortsatz::NO_BEGINNING;
 use antwortsatz::NO_CLOCK;
 use antwortsatz::NO_DATE;
-use antwortsatz::NO_INSTANT;
-use antwortsatz::NO_TAGESBEGINN;
 use antwortsatz::UNKNOWN_CODE;
 use berlin::Beginn;
 use berlin::ClockReading;
@@ -19,22 +23,18 @@ use berlin::Sparte;
 use datum::Date;
 use datum::Index;
 
-/// The Sparte of a code, or that the code is unknown.
-pub enum SparteCode {
-    Known(Sparte),
-    Unknown,
-}
+/// How many Sparten have a code.
+pub const SPARTEN: u8 = 2;
 
-pub fn sparte_of(code: u8) -> SparteCode
-    ensures { λ r. ⌜ r ≡ sparteOf code ⌝ }
+/// The Sparte of a code, in the Rust's order of its cases: 0 is Strom, 1 Gas. Whoever calls has refused any other.
+pub fn sparte_of(code: u8) -> Sparte
+    requires { ⌜ code < length sparten ⌝ }
+    ensures { λ r. ⌜ r ≡ getD sparten code Sparte.Strom ⌝ }
 {
-    if code < 1 {
-        return SparteCode::Known(Sparte::Strom);
+    match code {
+        0 => Sparte::Strom,
+        _ => Sparte::Gas,
     }
-    if code < 2 {
-        return SparteCode::Known(Sparte::Gas);
-    }
-    SparteCode::Unknown
 }
 
 /// The seconds and nanoseconds of an instant.
@@ -52,7 +52,7 @@ fn resolved_answer(resolved: Resolved) -> Answer
 {
     match resolved {
         Resolved::At(at) => moment_answer(at),
-        Resolved::Absent => antwortsatz::refused(ABSENT_TIME),
+        Resolved::Absent => antwortsatz::refused(LOCAL_TIME_ABSENT),
     }
 }
 
@@ -63,10 +63,13 @@ fn beginn_answer(beginn: Beginn) -> Answer
 {
     match beginn {
         Beginn::Day(day) => antwortsatz::dated(datum::date_of(day)),
-        Beginn::NoBeginning => antwortsatz::refused(NO_TAGESBEGINN),
+        Beginn::NoBeginning => antwortsatz::refused(NO_BEGINNING),
     }
 }
 
+/// The instant at which the Berlin clock shows a time on a date. "A repeated local time means its earlier instant. An
+/// absent one .. is refusal 6": 25 October 2026 02:30 is 00:30 UTC, 29 March 02:30 is refused. A date that is none goes
+/// before a clock that is none.
 pub fn berlin_at_answer(date: Date, clock: ClockReading) -> Answer
     requires { ⌜ properClock clock ⌝ }
     ensures { λ r. ⌜ r ≡ berlinAtAnswer date clock ⌝ }
@@ -80,6 +83,7 @@ pub fn berlin_at_answer(date: Date, clock: ClockReading) -> Answer
     resolved_answer(berlin::berlin_at(day, at))
 }
 
+/// The first instant of a Berlin day: 9 January 2026 begins on the 8th at 23:00 UTC, 9 July on the 8th at 22:00.
 pub fn berlin_midnight_answer(date: Date) -> Answer
     ensures { λ r. ⌜ r ≡ berlinMidnightAnswer date ⌝ }
 {
@@ -89,6 +93,7 @@ pub fn berlin_midnight_answer(date: Date) -> Answer
     moment_answer(berlin::berlin_midnight(day))
 }
 
+/// "An end of day is 23:59:59.999999999": that of 9 January 2026 is 22:59:59.999999999 UTC.
 pub fn end_of_day_berlin_answer(date: Date) -> Answer
     ensures { λ r. ⌜ r ≡ endOfDayBerlinAnswer date ⌝ }
 {
@@ -98,37 +103,44 @@ pub fn end_of_day_berlin_answer(date: Date) -> Answer
     moment_answer(berlin::end_of_day_berlin(day))
 }
 
+/// The instant at which a day begins: "Strom begins at 00:00, Gas at 06:00 Berlin." The Gas day 29 March 2026 begins at
+/// 04:00 UTC. An unknown code goes before a date that is none.
 pub fn tagesbeginn_utc_answer(date: Date, code: u8) -> Answer
     ensures { λ r. ⌜ r ≡ tagesbeginnUtcAnswer date code ⌝ }
 {
-    let SparteCode::Known(sparte) = sparte_of(code) else {
+    if SPARTEN <= code {
         return antwortsatz::refused(UNKNOWN_CODE);
-    };
+    }
+    let sparte = sparte_of(code);
     let Index::Day(day) = datum::index_of(date) else {
         return antwortsatz::refused(NO_DATE);
     };
     moment_answer(berlin::tagesbeginn_utc(day, sparte))
 }
 
+/// The Berlin date of an instant, not the UTC date: 8 January 2026 23:30 UTC is 9 January.
 pub fn berlin_date_answer(instant: Reading) -> Answer
     requires { ⌜ properReading instant ⌝ }
     ensures { λ r. ⌜ r ≡ berlinDateAnswer instant ⌝ }
 {
     let Reading::At(at) = instant else {
-        return antwortsatz::refused(NO_INSTANT);
+        return antwortsatz::refused(INSTANT_OUTSIDE);
     };
     antwortsatz::dated(datum::date_of(berlin::berlin_date(at)))
 }
 
+/// The date of the day that begins at an instant in a Sparte, else refusal 7: 29 March 2026 04:00 UTC begins the Gas
+/// day 29 March, and no Strom day.
 pub fn tag_des_beginns_answer(instant: Reading, code: u8) -> Answer
     requires { ⌜ properReading instant ⌝ }
     ensures { λ r. ⌜ r ≡ tagDesBeginnsAnswer instant code ⌝ }
 {
-    let SparteCode::Known(sparte) = sparte_of(code) else {
+    if SPARTEN <= code {
         return antwortsatz::refused(UNKNOWN_CODE);
-    };
+    }
+    let sparte = sparte_of(code);
     let Reading::At(at) = instant else {
-        return antwortsatz::refused(NO_INSTANT);
+        return antwortsatz::refused(INSTANT_OUTSIDE);
     };
     beginn_answer(berlin::tag_des_beginns(at, sparte))
 }

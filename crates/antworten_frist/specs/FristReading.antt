@@ -1,12 +1,14 @@
--- What the calls for due instants share: their codes read, and a due instant as an answer.
---   anlassOf x         = the occasion with code x
---   onAnlass a f       = f of that occasion, or refusal 2
---   shapeOf x n k      = the shape with code x, from 0 to 3, its count n and the clock that was read
---   onShape s f        = f of that shape, or refusal 5 where it uses a clock and that is none
+-- What the calls for due instants share: their codes in order, and a due instant as an answer.
+--   anlaesse           = the occasions of a CONTRL in the order of their codes
+--   fristShapes n k    = the shapes in the order of their codes, with the count n and the clock that was read
+--   withClock k f      = the shape f of that clock
+--   onShape s f        = f of the shape that was read, or refusal 5 where it uses a clock and that is none
 --   dueAnswer k r      = a due instant beside kind k, or refusal 6 or 8
---   properShapeReading = the clock in a shape that was read is a time of day
--- Source: document 01, 'Host calls and their refusals'; the codes are in the Rust's order of its cases.
-use Prim.Native.Nat.{ℕ, zero, suc}
+-- Source: document 01, 'Host calls and their refusals': 'Codes count from 0 in the Rust's order of its cases'; 'A
+-- count, clock, date or instant that the operation or its shape doesn't use is not checked.'
+-- Assumes nothing.
+use Prim.Native.Nat.{ℕ}
+use mathlib.Core.List.{List, [], _∷_}
 use Rattle.berlin.specs.declared.Clock.{Clock}
 use Rattle.berlin.specs.declared.ClockReading.{ClockReading}
 use Rattle.berlin.specs.declared.ClockReading.the-variants.{At as Clocked, NoClock}
@@ -16,45 +18,30 @@ use Rattle.fristen.specs.declared.Due.{Due}
 use Rattle.fristen.specs.declared.Due.the-variants.{At as DueAt, Absent, Outside as Late}
 use Rattle.fristen.specs.declared.FristShape.{FristShape}
 use Rattle.fristen.specs.declared.FristShape.the-variants.{WerktagAt, EndOfWerktag, SameDayAt, SameDay}
-use Rattle.fristen.specs.Antwort.{properShape}
 use Rattle.antwortsatz.specs.declared.Answer.{Answer}
-use Rattle.antwortsatz.specs.Answers.{refusedWith}
-use Rattle.antworten_frist.specs.declared.AnlassCode.{AnlassCode}
-use Rattle.antworten_frist.specs.declared.AnlassCode.the-variants.{Known as Occasion, Unknown as NoOccasion}
+use Rattle.antwortsatz.specs.Refusals.{noClock, localTimeAbsent, leavesCalendar}
+use Rattle.antwortsatz.specs.Answers.{refused}
+use Rattle.antworten.specs.Reading.{momentAnswer}
 use Rattle.antworten_frist.specs.declared.ShapeReading.{ShapeReading}
 use Rattle.antworten_frist.specs.declared.ShapeReading.the-variants.{Known as Shaped, NoClock as Unclocked}
-use Rattle.antworten.specs.Reading.{momentAnswer}
 
-abbrev pub anlassOf : ℕ → AnlassCode
-anlassOf zero = Occasion Regelfall
-anlassOf (suc zero) = Occasion StromUtilmdOderOrders
-anlassOf (suc (suc zero)) = Occasion GasAlocat
-anlassOf (suc (suc (suc n))) = NoOccasion
+abbrev pub anlaesse : List ContrlAnlass
+anlaesse = Regelfall ∷ StromUtilmdOderOrders ∷ GasAlocat ∷ []
 
-abbrev pub onAnlass : AnlassCode → (ContrlAnlass → Answer) → Answer
-onAnlass (Occasion a) f = f a
-onAnlass NoOccasion f = refusedWith 2
-
--- the shape with the clock that it uses
 abbrev pub withClock : ClockReading → (Clock → FristShape) → ShapeReading
 withClock (Clocked c) f = Shaped (f c)
 withClock NoClock f = Unclocked
 
-abbrev pub shapeOf : ℕ → ℕ → ClockReading → ShapeReading
-shapeOf zero n k = withClock k (WerktagAt n)
-shapeOf (suc zero) n k = Shaped (EndOfWerktag n)
-shapeOf (suc (suc zero)) n k = withClock k SameDayAt
-shapeOf (suc (suc (suc x))) n k = Shaped SameDay
+abbrev pub fristShapes : ℕ → ClockReading → List ShapeReading
+fristShapes n k =
+    withClock k (WerktagAt n) ∷ Shaped (EndOfWerktag n) ∷ withClock k SameDayAt ∷ Shaped SameDay ∷ []
 
 abbrev pub onShape : ShapeReading → (FristShape → Answer) → Answer
 onShape (Shaped s) f = f s
-onShape Unclocked f = refusedWith 5
+onShape Unclocked f = refused noClock
 
+-- 'Due instants: 4; 5; 6 (`SameDayAt` only); 8, the due instant's day leaves the calendar'
 abbrev pub dueAnswer : ℕ → Due → Answer
 dueAnswer k (DueAt m) = momentAnswer k m
-dueAnswer k Absent = refusedWith 6
-dueAnswer k Late = refusedWith 8
-
-abbrev pub properShapeReading : ShapeReading → Type 0
-properShapeReading (Shaped s) = properShape s
-properShapeReading Unclocked = Unit {0}
+dueAnswer k Absent = refused localTimeAbsent
+dueAnswer k Late = refused leavesCalendar

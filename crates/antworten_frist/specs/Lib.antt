@@ -1,2 +1,3 @@
 pub mod FristReading
+pub mod Inside
 pub mod Frist

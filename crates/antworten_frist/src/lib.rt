@@ -1,14 +1,24 @@
 // What the calls for due instants answer: document 01, refusals 2, 4, 5, 6 and 8.
 ghost use mathlib.Core.Path.{_≡_};
-ghost use Rattle.fristen.specs.Fristen.{properDue};
-ghost use Rattle.antworten.specs.Reading.{properReading, properClock};
-ghost use Rattle.antworten_frist.specs.FristReading.{anlassOf, dueAnswer, shapeOf, properShapeReading};
-ghost use Rattle.antworten_frist.specs.Frist.{contrlAnswer, aperakStromAnswer, aperakStromAllgemeinAnswer, aperakGasFolgeprozessAnswer, aperakGasInitialprozessAnswer, aperakGasAnswer, addHoursAnswer, deadlineAtWerktageAnswer, endOfWerktagAfterAnswer, nextWerktagAtAnswer, nthWerktagAtAnswer, fristAnswer};
-use antwortsatz::ABSENT_TIME;
+ghost use Prim.Native.Nat.{_<_};
+ghost use lib.ListN.{length, getD};
+ghost use Rattle.werktag.specs.Werktag.{isWerktag};
+ghost use Rattle.fristen.specs.Inside.{properDue};
+ghost use Rattle.antworten.specs.Inside.{properReading, properClock};
+ghost use Rattle.antworten_frist.specs.Inside.{properShapeReading};
+ghost use Rattle.antworten_frist.specs.FristReading.{anlaesse, fristShapes, dueAnswer};
+ghost use Rattle.antworten_frist.specs.Frist.{contrlDueAtAnswer, aperakStromDueAtAnswer};
+ghost use Rattle.antworten_frist.specs.Frist.{aperakStromAllgemeinDueAtAnswer};
+ghost use Rattle.antworten_frist.specs.Frist.{aperakGasFolgeprozessDueAtAnswer};
+ghost use Rattle.antworten_frist.specs.Frist.{aperakGasInitialprozessDueAtAnswer};
+ghost use Rattle.antworten_frist.specs.Frist.{aperakGasDueAtAnswer, addHoursAnswer, deadlineAtWerktageAnswer};
+ghost use Rattle.antworten_frist.specs.Frist.{endOfWerktagAfterAnswer, nextWerktagAtAnswer, nthWerktagAtAnswer};
+ghost use Rattle.antworten_frist.specs.Frist.{fristDueAtAnswer};
 use antwortsatz::Answer;
-use antwortsatz::LEFT_CALENDAR;
+use antwortsatz::INSTANT_OUTSIDE;
+use antwortsatz::LEAVES_CALENDAR;
+use antwortsatz::LOCAL_TIME_ABSENT;
 use antwortsatz::NO_CLOCK;
-use antwortsatz::NO_INSTANT;
 use antwortsatz::UNKNOWN_CODE;
 use berlin::ClockReading;
 use berlin::Reading;
@@ -17,138 +27,138 @@ use fristen::Due;
 use fristen::FristShape;
 use werktag::HolidayCalendar;
 
-/// The occasion of a code, or that the code is unknown.
-pub enum AnlassCode {
-    Known(ContrlAnlass),
-    Unknown,
-}
+// How many occasions of a CONTRL, and how many shapes, have a code.
+const ANLAESSE: u8 = 3;
 
-fn anlass_of(code: u8) -> AnlassCode
-    ensures { λ r. ⌜ r ≡ anlassOf code ⌝ }
+const SHAPES: u8 = 4;
+
+// The occasion of a code, in the Rust's order of its cases.
+fn anlass_of(code: u8) -> ContrlAnlass
+    requires { ⌜ code < length anlaesse ⌝ }
+    ensures { λ r. ⌜ r ≡ getD anlaesse code ContrlAnlass.Regelfall ⌝ }
 {
-    if code < 1 {
-        return AnlassCode::Known(ContrlAnlass::Regelfall);
+    match code {
+        0 => ContrlAnlass::Regelfall,
+        1 => ContrlAnlass::StromUtilmdOderOrders,
+        _ => ContrlAnlass::GasAlocat,
     }
-    if code < 2 {
-        return AnlassCode::Known(ContrlAnlass::StromUtilmdOderOrders);
-    }
-    if code < 3 {
-        return AnlassCode::Known(ContrlAnlass::GasAlocat);
-    }
-    AnlassCode::Unknown
 }
 
-/// The seconds and nanoseconds of a due instant beside a kind, or refusal 6 or 8.
+// The seconds and nanoseconds of a due instant beside a kind, or refusal 6 or 8.
 fn due_answer(kind: u8, due: Due) -> Answer
     requires { ⌜ properDue due ⌝ }
     ensures { λ r. ⌜ r ≡ dueAnswer kind due ⌝ }
 {
     match due {
         Due::At(at) => antwortsatz::at_instant(kind, berlin::seconds_of(at), at.nanos),
-        Due::Absent => antwortsatz::refused(ABSENT_TIME),
-        Due::Outside => antwortsatz::refused(LEFT_CALENDAR),
+        Due::Absent => antwortsatz::refused(LOCAL_TIME_ABSENT),
+        Due::Outside => antwortsatz::refused(LEAVES_CALENDAR),
     }
 }
 
-/// A shape with its count and clock, or that its clock is none. A count or clock that the shape does not use is not looked at.
+/// A shape with its count and clock, or that its clock is none. A count or clock that the shape does not use is not
+/// looked at.
 pub enum ShapeReading {
     Known(FristShape),
     NoClock,
 }
 
-/// The shape of a code from 0 to 3.
+// The shape of a code, its count and clock, in the Rust's order of its cases.
 fn shape_of(code: u8, werktage: u32, clock: ClockReading) -> ShapeReading
-    requires { ⌜ properClock clock ⌝ }
-    ensures { λ r. ⌜ (r ≡ shapeOf code werktage clock) × properShapeReading r ⌝ }
+    requires { ⌜ (code < length (fristShapes werktage clock)) × properClock clock ⌝ }
+    ensures { λ r. ⌜ (r ≡ getD (fristShapes werktage clock) code ShapeReading.NoClock) × properShapeReading r ⌝ }
 {
-    if code < 1 {
-        let ClockReading::At(at) = clock else {
-            return ShapeReading::NoClock;
-        };
-        return ShapeReading::Known(FristShape::WerktagAt { werktage, at });
+    match code {
+        0 => match clock {
+            ClockReading::At(at) => ShapeReading::Known(FristShape::WerktagAt { werktage, at }),
+            ClockReading::NoClock => ShapeReading::NoClock,
+        },
+        1 => ShapeReading::Known(FristShape::EndOfWerktag(werktage)),
+        2 => match clock {
+            ClockReading::At(at) => ShapeReading::Known(FristShape::SameDayAt(at)),
+            ClockReading::NoClock => ShapeReading::NoClock,
+        },
+        _ => ShapeReading::Known(FristShape::SameDay),
     }
-    if code < 2 {
-        return ShapeReading::Known(FristShape::EndOfWerktag(werktage));
-    }
-    if code < 3 {
-        let ClockReading::At(at) = clock else {
-            return ShapeReading::NoClock;
-        };
-        return ShapeReading::Known(FristShape::SameDayAt(at));
-    }
-    ShapeReading::Known(FristShape::SameDay)
 }
 
+/// When a CONTRL is due: 6 hours after its receipt, 45 minutes for `GasAlocat`; `StromUtilmdOderOrders` 15 minutes, 6
+/// hours if received on Saturday; a due instant in the tolerance of a change of format becomes its end. Regelfall
+/// received 31 March 2026 11:59:59 Berlin is due 17:59:59; received 12:00:00, 2 April 00:00. An unknown code goes
+/// before the instant's limits.
 pub fn contrl_due_at_answer(instant: Reading, code: u8) -> Answer
     requires { ⌜ properReading instant ⌝ }
-    ensures { λ r. ⌜ r ≡ contrlAnswer instant code ⌝ }
+    ensures { λ r. ⌜ r ≡ contrlDueAtAnswer instant code ⌝ }
 {
-    let AnlassCode::Known(anlass) = anlass_of(code) else {
+    if ANLAESSE <= code {
         return antwortsatz::refused(UNKNOWN_CODE);
-    };
+    }
+    let anlass = anlass_of(code);
     let Reading::At(received) = instant else {
-        return antwortsatz::refused(NO_INSTANT);
+        return antwortsatz::refused(INSTANT_OUTSIDE);
     };
     due_answer(0, fristen::contrl_due_at(received, anlass))
 }
 
+/// When the Strom APERAK on a UTILMD or ORDERS is due: 45 minutes after its receipt; "Saturday gives Sunday 12:00. Only
+/// Saturday is special": received Saturday, 10 January 2026, it is due on the 11th at 12:00 Berlin.
 pub fn aperak_strom_due_at_answer(instant: Reading) -> Answer
     requires { ⌜ properReading instant ⌝ }
-    ensures { λ r. ⌜ r ≡ aperakStromAnswer instant ⌝ }
+    ensures { λ r. ⌜ r ≡ aperakStromDueAtAnswer instant ⌝ }
 {
     let Reading::At(received) = instant else {
-        return antwortsatz::refused(NO_INSTANT);
+        return antwortsatz::refused(INSTANT_OUTSIDE);
     };
     due_answer(0, fristen::aperak_strom_due_at(received))
 }
 
-pub fn aperak_strom_allgemein_due_at_answer(instant: Reading) -> Answer
+/// When any other Strom APERAK is due: "12:00 of the first Werktag after the receipt day". Received 2 April 2026, it is
+/// due on 7 April at 12:00 Berlin.
+pub fn aperak_strom_allgemein_due_at_answer(instant: Reading, cal: HolidayCalendar) -> Answer
     requires { ⌜ properReading instant ⌝ }
-    ensures { λ r. ⌜ r ≡ aperakStromAllgemeinAnswer instant ⌝ }
+    ensures { λ r. ⌜ r ≡ aperakStromAllgemeinDueAtAnswer (isWerktag cal) instant ⌝ }
 {
     let Reading::At(received) = instant else {
-        return antwortsatz::refused(NO_INSTANT);
+        return antwortsatz::refused(INSTANT_OUTSIDE);
     };
-    due_answer(
-        0,
-        fristen::aperak_strom_allgemein_due_at(received, HolidayCalendar::BdewMaKo),
-    )
+    due_answer(0, fristen::aperak_strom_allgemein_due_at(received, cal))
 }
 
-pub fn aperak_gas_folgeprozess_due_at_answer(instant: Reading) -> Answer
+/// When the Gas APERAK of a follow-up process is due, kind 0: 12:00 of the first Werktag after the receipt day, as
+/// received 2 April 2026 on 7 April.
+pub fn aperak_gas_folgeprozess_due_at_answer(instant: Reading, cal: HolidayCalendar) -> Answer
     requires { ⌜ properReading instant ⌝ }
-    ensures { λ r. ⌜ r ≡ aperakGasFolgeprozessAnswer instant ⌝ }
+    ensures { λ r. ⌜ r ≡ aperakGasFolgeprozessDueAtAnswer (isWerktag cal) instant ⌝ }
 {
     let Reading::At(received) = instant else {
-        return antwortsatz::refused(NO_INSTANT);
+        return antwortsatz::refused(INSTANT_OUTSIDE);
     };
-    due_answer(
-        0,
-        fristen::aperak_gas_folgeprozess_due_at(received, HolidayCalendar::BdewMaKo),
-    )
+    due_answer(0, fristen::aperak_gas_folgeprozess_due_at(received, cal))
 }
 
-pub fn aperak_gas_initialprozess_due_at_answer(instant: Reading) -> Answer
+/// When the Gas APERAK of an initial process is due, kind 1: "end of the third Werktag after the receipt day". Received
+/// 2 April 2026, it is due at the end of 9 April.
+pub fn aperak_gas_initialprozess_due_at_answer(instant: Reading, cal: HolidayCalendar) -> Answer
     requires { ⌜ properReading instant ⌝ }
-    ensures { λ r. ⌜ r ≡ aperakGasInitialprozessAnswer instant ⌝ }
+    ensures { λ r. ⌜ r ≡ aperakGasInitialprozessDueAtAnswer (isWerktag cal) instant ⌝ }
 {
     let Reading::At(received) = instant else {
-        return antwortsatz::refused(NO_INSTANT);
+        return antwortsatz::refused(INSTANT_OUTSIDE);
     };
-    due_answer(
-        1,
-        fristen::aperak_gas_initialprozess_due_at(received, HolidayCalendar::BdewMaKo),
-    )
+    due_answer(1, fristen::aperak_gas_initialprozess_due_at(received, cal))
 }
 
-pub fn aperak_gas_due_at_answer(pid: u32, instant: Reading) -> Answer
+/// When the Gas APERAK of a Prüfidentifikator is due, "kind 1 for the initial process, else 0": 44001, 44016, 44039 and
+/// 44042 are initial, any other number is a follow-up. 44001 received 2 April 2026 is due at the end of 9 April, 44002
+/// on 7 April at 12:00.
+pub fn aperak_gas_due_at_answer(pid: u32, instant: Reading, cal: HolidayCalendar) -> Answer
     requires { ⌜ properReading instant ⌝ }
-    ensures { λ r. ⌜ r ≡ aperakGasAnswer pid instant ⌝ }
+    ensures { λ r. ⌜ r ≡ aperakGasDueAtAnswer (isWerktag cal) pid instant ⌝ }
 {
     let Reading::At(received) = instant else {
-        return antwortsatz::refused(NO_INSTANT);
+        return antwortsatz::refused(INSTANT_OUTSIDE);
     };
-    let gas = fristen::aperak_gas_due_at(pid, received, HolidayCalendar::BdewMaKo);
+    let gas = fristen::aperak_gas_due_at(pid, received, cal);
     let due = gas.due;
     if gas.initial {
         return due_answer(1, due);
@@ -156,86 +166,98 @@ pub fn aperak_gas_due_at_answer(pid: u32, instant: Reading) -> Answer
     due_answer(0, due)
 }
 
+/// Some hours later, counted on the time line and not on the clock: 28 March 2026 12:00 Berlin and 24 hours is 29 March
+/// 13:00. Refusal 8 past the last day.
 pub fn add_hours_answer(instant: Reading, hours: u32) -> Answer
     requires { ⌜ properReading instant ⌝ }
     ensures { λ r. ⌜ r ≡ addHoursAnswer instant hours ⌝ }
 {
     let Reading::At(from) = instant else {
-        return antwortsatz::refused(NO_INSTANT);
+        return antwortsatz::refused(INSTANT_OUTSIDE);
     };
     due_answer(0, fristen::add_hours(from, hours))
 }
 
-pub fn deadline_at_werktage_answer(instant: Reading, werktage: u32) -> Answer
+/// The end of the n-th Werktag after the Berlin day of an instant, 23:59:59.999999999; with 0 that day's own end,
+/// Werktag or not. From 2 April 2026 with 1: the end of 7 April.
+pub fn deadline_at_werktage_answer(instant: Reading, werktage: u32, cal: HolidayCalendar) -> Answer
     requires { ⌜ properReading instant ⌝ }
-    ensures { λ r. ⌜ r ≡ deadlineAtWerktageAnswer instant werktage ⌝ }
+    ensures { λ r. ⌜ r ≡ deadlineAtWerktageAnswer (isWerktag cal) instant werktage ⌝ }
 {
     let Reading::At(from) = instant else {
-        return antwortsatz::refused(NO_INSTANT);
+        return antwortsatz::refused(INSTANT_OUTSIDE);
     };
-    due_answer(
-        0,
-        fristen::deadline_at_werktage(from, werktage, HolidayCalendar::BdewMaKo),
-    )
+    due_answer(0, fristen::deadline_at_werktage(from, werktage, cal))
 }
 
-pub fn end_of_werktag_after_answer(instant: Reading, werktage: u32) -> Answer
+/// The end of the n-th Werktag after the receipt day; with 0 that day's own end. Received 2 April 2026, with 3: the end
+/// of 9 April.
+pub fn end_of_werktag_after_answer(instant: Reading, werktage: u32, cal: HolidayCalendar) -> Answer
     requires { ⌜ properReading instant ⌝ }
-    ensures { λ r. ⌜ r ≡ endOfWerktagAfterAnswer instant werktage ⌝ }
+    ensures { λ r. ⌜ r ≡ endOfWerktagAfterAnswer (isWerktag cal) instant werktage ⌝ }
 {
     let Reading::At(received) = instant else {
-        return antwortsatz::refused(NO_INSTANT);
+        return antwortsatz::refused(INSTANT_OUTSIDE);
     };
-    due_answer(
-        0,
-        fristen::end_of_werktag_after(received, werktage, HolidayCalendar::BdewMaKo),
-    )
+    due_answer(0, fristen::end_of_werktag_after(received, werktage, cal))
 }
 
-pub fn next_werktag_at_answer(instant: Reading, clock: ClockReading) -> Answer
+/// A clock time on the first Werktag after the receipt day: received 2 April 2026, 12:00 of 7 April. The instant goes
+/// before the clock: 4 before 5.
+pub fn next_werktag_at_answer(instant: Reading, clock: ClockReading, cal: HolidayCalendar) -> Answer
     requires { ⌜ (properReading instant) × (properClock clock) ⌝ }
-    ensures { λ r. ⌜ r ≡ nextWerktagAtAnswer instant clock ⌝ }
+    ensures { λ r. ⌜ r ≡ nextWerktagAtAnswer (isWerktag cal) instant clock ⌝ }
 {
     let Reading::At(received) = instant else {
-        return antwortsatz::refused(NO_INSTANT);
+        return antwortsatz::refused(INSTANT_OUTSIDE);
     };
     let ClockReading::At(at) = clock else {
         return antwortsatz::refused(NO_CLOCK);
     };
-    due_answer(
-        0,
-        fristen::next_werktag_at(received, at, HolidayCalendar::BdewMaKo),
-    )
+    due_answer(0, fristen::next_werktag_at(received, at, cal))
 }
 
-pub fn nth_werktag_at_answer(instant: Reading, n: u32, clock: ClockReading) -> Answer
+/// A clock time on the n-th Werktag after the receipt day; "with 0 equals 1". Received 2 April 2026, with 2: 8 April.
+pub fn nth_werktag_at_answer(
+    instant: Reading,
+    n: u32,
+    clock: ClockReading,
+    cal: HolidayCalendar,
+) -> Answer
     requires { ⌜ (properReading instant) × (properClock clock) ⌝ }
-    ensures { λ r. ⌜ r ≡ nthWerktagAtAnswer instant n clock ⌝ }
+    ensures { λ r. ⌜ r ≡ nthWerktagAtAnswer (isWerktag cal) instant n clock ⌝ }
 {
     let Reading::At(received) = instant else {
-        return antwortsatz::refused(NO_INSTANT);
+        return antwortsatz::refused(INSTANT_OUTSIDE);
     };
     let ClockReading::At(at) = clock else {
         return antwortsatz::refused(NO_CLOCK);
     };
-    due_answer(
-        0,
-        fristen::nth_werktag_at(received, n, at, HolidayCalendar::BdewMaKo),
-    )
+    due_answer(0, fristen::nth_werktag_at(received, n, at, cal))
 }
 
-pub fn frist_due_at_answer(code: u8, werktage: u32, clock: ClockReading, instant: Reading) -> Answer
+/// When an answer of a shape is due. "`SameDayAt` received exactly at the clock time goes to the next Werktag": 12:00,
+/// received 9 January 2026 12:00, is 12 January 12:00. "An absent clock there is refused" with 6. A clock or count that
+/// the shape does not use is not looked at.
+pub fn frist_due_at_answer(
+    code: u8,
+    werktage: u32,
+    clock: ClockReading,
+    instant: Reading,
+    cal: HolidayCalendar,
+) -> Answer
     requires { ⌜ (properReading instant) × (properClock clock) ⌝ }
-    ensures { λ r. ⌜ r ≡ fristAnswer code werktage clock instant ⌝ }
+    ensures { λ r. ⌜ r ≡ fristDueAtAnswer (isWerktag cal) code werktage clock instant ⌝ }
 {
-    if 3 < code {
+    if SHAPES <= code {
         return antwortsatz::refused(UNKNOWN_CODE);
     }
+    let reading = shape_of(code, werktage, clock);
     let Reading::At(received) = instant else {
-        return antwortsatz::refused(NO_INSTANT);
+        return antwortsatz::refused(INSTANT_OUTSIDE);
     };
-    let ShapeReading::Known(shape) = shape_of(code, werktage, clock) else {
+    let ShapeReading::Known(shape) = reading else {
         return antwortsatz::refused(NO_CLOCK);
     };
-    due_answer(0, shape.due_at(received, HolidayCalendar::BdewMaKo))
+    due_answer(0, shape.due_at(received, cal))
 }

@@ -1,1 +1,2 @@
+pub mod VorlaufReading
 pub mod Vorlauf

@@ -1,21 +1,27 @@
-// What the calls answer that give verdicts, spans, deregistrations and the 13:00 announcement: document 01, refusals 2, 3, 4, 7
-// and 8.
+// What the calls answer that give verdicts, spans, deregistrations and the 13:00 announcement: document 01, refusals 2,
+// 3, 4, 7 and 8.
 ghost use mathlib.Core.Bool.{true};
 ghost use mathlib.Core.Path.{_≡_};
+ghost use Prim.Native.Nat.{_<_};
+ghost use lib.ListN.{length, getD};
 ghost use Rattle.datum.specs.Calendar.{isDate, daysBefore};
-ghost use Rattle.vorlauf.specs.Verdict.{insideVerdict};
-ghost use Rattle.vorlauf.specs.Monate.{M};
-ghost use Rattle.vorlauf.specs.Span.{from, insideSpan};
-ghost use Rattle.vorlauf.specs.Abmeldung.{insideAbmeldung};
-ghost use Rattle.antworten.specs.Reading.{dateFrom, properReading};
-ghost use Rattle.antworten_vorlauf.specs.Vorlauf.{shapeAt, eegOf, verdict, abmeldung, spanned, caseCode, announced, atInstants, vorlaufCheckAnswer, vorlaufCheckAtAnswer, vorlaufSpanAnswer, abmeldungFuerAnswer, abmeldungCheckAnswer, eogAnswer};
+ghost use Rattle.werktag.specs.Werktag.{isWerktag};
+ghost use Rattle.datum.specs.Monate.{M};
+ghost use Rattle.vorlauf.specs.Span.{spanFrom};
+ghost use Rattle.vorlauf.specs.Inside.{insideVerdict, insideSpan, insideAbmeldung};
+ghost use Rattle.antworten.specs.Inside.{properReading};
+ghost use Rattle.antworten_vorlauf.specs.VorlaufReading.{vorlaufShapes, eegMarks, verdictAnswer, abmeldungAnswer};
+ghost use Rattle.antworten_vorlauf.specs.VorlaufReading.{spanAnswer, caseCode, announcedAnswer};
+ghost use Rattle.antworten_vorlauf.specs.Vorlauf.{vorlaufCheckAnswer, checkAtInstants, vorlaufCheckAtAnswer};
+ghost use Rattle.antworten_vorlauf.specs.Vorlauf.{vorlaufSpanAnswer, abmeldungFuerAnswer, abmeldungCheckAnswer};
+ghost use Rattle.antworten_vorlauf.specs.Vorlauf.{eogAnkuendigungFristgerechtAnswer};
 use ankuendigung::Fristgerecht;
-use antworten::uhrzeit::SparteCode;
+use antworten::uhrzeit::SPARTEN;
 use antwortsatz::Answer;
-use antwortsatz::LEFT_CALENDAR;
+use antwortsatz::INSTANT_OUTSIDE;
+use antwortsatz::LEAVES_CALENDAR;
+use antwortsatz::NO_BEGINNING;
 use antwortsatz::NO_DATE;
-use antwortsatz::NO_INSTANT;
-use antwortsatz::NO_TAGESBEGINN;
 use antwortsatz::UNKNOWN_CODE;
 use berlin::Beginn;
 use berlin::Reading;
@@ -31,100 +37,68 @@ use vorlauf::abmeldung::AbmeldungVorlauf;
 use vorlauf::abmeldung::Eeg;
 use werktag::HolidayCalendar;
 
-/// The shape of a code and its counts, or that the code is unknown.
-pub enum ShapeCode {
-    Known(VorlaufShape),
-    Unknown,
-}
+// How many lead-time shapes, and how many EEG marks, have a code.
+const SHAPES: u8 = 8;
 
-fn shape_at(code: u8, count: u32, count2: u32) -> ShapeCode
-    ensures { λ r. ⌜ r ≡ shapeAt code count count2 ⌝ }
+const EEG_MARKS: u8 = 3;
+
+// The shape of a code and its counts, in the Rust's order of its cases.
+fn shape_of(code: u8, count: u32, count2: u32) -> VorlaufShape
+    requires { ⌜ code < length (vorlaufShapes count count2) ⌝ }
+    ensures { λ r. ⌜ r ≡ getD (vorlaufShapes count count2) code VorlaufShape.TagVorDemLetztenWerktagVor ⌝ }
 {
-    if code < 1 {
-        return ShapeCode::Known(VorlaufShape::LatestWerktageBefore(count));
-    }
-    if code < 2 {
-        return ShapeCode::Known(VorlaufShape::WindowWerktageBefore {
+    match code {
+        0 => VorlaufShape::LatestWerktageBefore(count),
+        1 => VorlaufShape::WindowWerktageBefore {
             earliest: count,
             latest: count2,
-        });
-    }
-    if code < 3 {
-        return ShapeCode::Known(VorlaufShape::LatestWerktageAfter(count));
-    }
-    if code < 4 {
-        return ShapeCode::Known(VorlaufShape::EarliestWerktageAfter(count));
-    }
-    if code < 5 {
-        return ShapeCode::Known(VorlaufShape::Korridor(count));
-    }
-    if code < 6 {
-        return ShapeCode::Known(VorlaufShape::TagVorDemLetztenWerktagVor);
-    }
-    if code < 7 {
-        return ShapeCode::Known(VorlaufShape::LatestMonateBefore(count));
-    }
-    if code < 8 {
-        return ShapeCode::Known(VorlaufShape::LatestMonateUndWerktageBefore {
+        },
+        2 => VorlaufShape::LatestWerktageAfter(count),
+        3 => VorlaufShape::EarliestWerktageAfter(count),
+        4 => VorlaufShape::Korridor(count),
+        5 => VorlaufShape::TagVorDemLetztenWerktagVor,
+        6 => VorlaufShape::LatestMonateBefore(count),
+        _ => VorlaufShape::LatestMonateUndWerktageBefore {
             monate: count,
             werktage: count2,
-        });
+        },
     }
-    ShapeCode::Unknown
 }
 
-/// The EEG mark of a code, or that the code is unknown.
-pub enum EegCode {
-    Known(Eeg),
-    Unknown,
-}
-
-fn eeg_of(code: u8) -> EegCode
-    ensures { λ r. ⌜ r ≡ eegOf code ⌝ }
+// The EEG mark of a code: "0 no, 1 yes, 2 unknown".
+fn eeg_of(code: u8) -> Eeg
+    requires { ⌜ code < length eegMarks ⌝ }
+    ensures { λ r. ⌜ r ≡ getD eegMarks code Eeg.Nein ⌝ }
 {
-    if code < 1 {
-        return EegCode::Known(Eeg::Nein);
-    }
-    if code < 2 {
-        return EegCode::Known(Eeg::Ja);
-    }
-    if code < 3 {
-        return EegCode::Known(Eeg::Unbekannt);
-    }
-    EegCode::Unknown
-}
-
-/// The date of a field that is not used.
-fn no_date() -> Date
-    ensures { λ r. ⌜ r ≡ dateFrom 0 0 0 ⌝ }
-{
-    Date {
-        year: 0,
-        month: 0,
-        day: 0,
+    match code {
+        0 => Eeg::Nein,
+        1 => Eeg::Ja,
+        _ => Eeg::Unbekannt,
     }
 }
 
-/// Kind, Werktage and date of a verdict, or refusal 8.
+// Kind, Werktage and date of a verdict, or refusal 8.
 fn verdict_answer(found: VorlaufVerdict) -> Answer
     requires { ⌜ insideVerdict found ⌝ }
-    ensures { λ r. ⌜ r ≡ verdict found ⌝ }
+    ensures { λ r. ⌜ r ≡ verdictAnswer found ⌝ }
 {
     match found {
-        VorlaufVerdict::Ok => antwortsatz::judged(0, 0, no_date()),
+        VorlaufVerdict::Ok => antwortsatz::judged(0, 0, antwortsatz::zero_date()),
         VorlaufVerdict::TooLate {
             shortfall_wt,
             earliest_possible,
         } => { antwortsatz::judged(1, shortfall_wt, datum::date_of(earliest_possible)) }
-        VorlaufVerdict::TooEarly { excess_wt } => antwortsatz::judged(2, excess_wt, no_date()),
-        VorlaufVerdict::Outside => antwortsatz::refused(LEFT_CALENDAR),
+        VorlaufVerdict::TooEarly { excess_wt } => {
+            antwortsatz::judged(2, excess_wt, antwortsatz::zero_date())
+        }
+        VorlaufVerdict::Outside => antwortsatz::refused(LEAVES_CALENDAR),
     }
 }
 
-/// A deregistration's verdict, or kind 3 where it has no shape.
+// A deregistration's verdict, or kind 3 where it has no shape.
 fn abmeldung_answer(found: AbmeldungVerdict) -> Answer
     requires { ⌜ insideAbmeldung found ⌝ }
-    ensures { λ r. ⌜ r ≡ abmeldung found ⌝ }
+    ensures { λ r. ⌜ r ≡ abmeldungAnswer found ⌝ }
 {
     match found {
         AbmeldungVerdict::Verdict(found) => verdict_answer(found),
@@ -132,18 +106,20 @@ fn abmeldung_answer(found: AbmeldungVerdict) -> Answer
     }
 }
 
-/// Kind and ends of a span, or refusal 8.
+// Kind and ends of a span, or refusal 8.
 fn span_answer(span: Span) -> Answer
     requires { ⌜ insideSpan span ⌝ }
-    ensures { λ r. ⌜ r ≡ spanned span ⌝ }
+    ensures { λ r. ⌜ r ≡ spanAnswer span ⌝ }
 {
     match span {
-        Span::From(first) => antwortsatz::spanned(0, datum::date_of(first), no_date()),
+        Span::From(first) => {
+            antwortsatz::spanned(0, datum::date_of(first), antwortsatz::zero_date())
+        }
         Span::Both(first, last) => {
             antwortsatz::spanned(1, datum::date_of(first), datum::date_of(last))
         }
         Span::Empty => antwortsatz::of_kind(2),
-        Span::Outside => antwortsatz::refused(LEFT_CALENDAR),
+        Span::Outside => antwortsatz::refused(LEAVES_CALENDAR),
     }
 }
 
@@ -158,56 +134,71 @@ fn case_code(found: AbmeldungVorlauf) -> u8
     }
 }
 
-/// Yes, no or neither, or refusal 8.
+// Yes, no or neither, or refusal 8.
 fn announced_answer(found: Fristgerecht) -> Answer
-    ensures { λ r. ⌜ r ≡ announced found ⌝ }
+    ensures { λ r. ⌜ r ≡ announcedAnswer found ⌝ }
 {
     match found {
         Fristgerecht::Nein => antwortsatz::of_kind(0),
         Fristgerecht::Ja => antwortsatz::of_kind(1),
         Fristgerecht::Weder => antwortsatz::of_kind(2),
-        Fristgerecht::Outside => antwortsatz::refused(LEFT_CALENDAR),
+        Fristgerecht::Outside => antwortsatz::refused(LEAVES_CALENDAR),
     }
 }
 
-pub fn vorlauf_check_answer(code: u8, count: u32, count2: u32, first: Date, second: Date) -> Answer
-    ensures { λ r. ⌜ r ≡ vorlaufCheckAnswer code count count2 first second ⌝ }
+/// The verdict of a shape on a transmission date and an anchor: "Kind 0 Ok, 1 TooLate, 2 TooEarly", with its Werktage
+/// and its earliest date. `LatestWerktageBefore(1)` for 10 January 2026, a Saturday, against Monday, the 12th: TooLate,
+/// 0, and the very Monday. A code goes before the dates; a count that the shape does not use is not looked at.
+pub fn vorlauf_check_answer(
+    code: u8,
+    count: u32,
+    count2: u32,
+    first: Date,
+    second: Date,
+    cal: HolidayCalendar,
+) -> Answer
+    ensures { λ r. ⌜ r ≡ vorlaufCheckAnswer (isWerktag cal) code count count2 first second ⌝ }
 {
-    let ShapeCode::Known(shape) = shape_at(code, count, count2) else {
+    if SHAPES <= code {
         return antwortsatz::refused(UNKNOWN_CODE);
-    };
+    }
+    let shape = shape_of(code, count, count2);
     let Index::Day(uebertragungstag) = datum::index_of(first) else {
         return antwortsatz::refused(NO_DATE);
     };
     let Index::Day(anchor) = datum::index_of(second) else {
         return antwortsatz::refused(NO_DATE);
     };
-    verdict_answer(shape.check(uebertragungstag, anchor, HolidayCalendar::BdewMaKo))
+    verdict_answer(shape.check(uebertragungstag, anchor, cal))
 }
 
-/// The verdict for a transmission instant and an anchor that begins a day.
+// The verdict for a transmission instant and an anchor that begins a day in a Sparte.
 fn check_at_instants(
     shape: VorlaufShape,
     sparte: Sparte,
     instant: Reading,
     beginning: Reading,
+    cal: HolidayCalendar,
 ) -> Answer
     requires { ⌜ (properReading instant) × (properReading beginning) ⌝ }
-    ensures { λ r. ⌜ r ≡ atInstants shape sparte instant beginning ⌝ }
+    ensures { λ r. ⌜ r ≡ checkAtInstants (isWerktag cal) shape sparte instant beginning ⌝ }
 {
     let Reading::At(transmitted) = instant else {
-        return antwortsatz::refused(NO_INSTANT);
+        return antwortsatz::refused(INSTANT_OUTSIDE);
     };
     let Reading::At(begins) = beginning else {
-        return antwortsatz::refused(NO_INSTANT);
+        return antwortsatz::refused(INSTANT_OUTSIDE);
     };
     let Beginn::Day(anchor) = berlin::tag_des_beginns(begins, sparte) else {
-        return antwortsatz::refused(NO_TAGESBEGINN);
+        return antwortsatz::refused(NO_BEGINNING);
     };
     let uebertragungstag = berlin::berlin_date(transmitted);
-    verdict_answer(shape.check(uebertragungstag, anchor, HolidayCalendar::BdewMaKo))
+    verdict_answer(shape.check(uebertragungstag, anchor, cal))
 }
 
+/// The same with a transmission instant and an anchor given as a day's beginning: "4 for either, 7 for the anchor, 8".
+/// The transmission day is the Berlin day in both Sparten, and only the anchor goes by the Sparte: in Gas, 12 January
+/// 2026 05:00 UTC is the anchor of 12 January, and in Strom it begins no day.
 pub fn vorlauf_check_at_answer(
     code: u8,
     count: u32,
@@ -215,61 +206,86 @@ pub fn vorlauf_check_at_answer(
     sparte: u8,
     instant: Reading,
     beginning: Reading,
+    cal: HolidayCalendar,
 ) -> Answer
     requires { ⌜ (properReading instant) × (properReading beginning) ⌝ }
-    ensures { λ r. ⌜ r ≡ vorlaufCheckAtAnswer code count count2 sparte instant beginning ⌝ }
+    ensures { λ r. ⌜ r ≡ vorlaufCheckAtAnswer (isWerktag cal) code count count2 sparte instant beginning ⌝ }
 {
-    let ShapeCode::Known(shape) = shape_at(code, count, count2) else {
+    if SHAPES <= code {
         return antwortsatz::refused(UNKNOWN_CODE);
-    };
-    let SparteCode::Known(sparte) = antworten::uhrzeit::sparte_of(sparte) else {
+    }
+    let shape = shape_of(code, count, count2);
+    if SPARTEN <= sparte {
         return antwortsatz::refused(UNKNOWN_CODE);
-    };
-    check_at_instants(shape, sparte, instant, beginning)
+    }
+    let anchor_by = antworten::uhrzeit::sparte_of(sparte);
+    check_at_instants(shape, anchor_by, instant, beginning, cal)
 }
 
-/// The span of `LatestMonateBefore`: M(n, date) is a matter of dates, and needs no index.
+// The span of `LatestMonateBefore`: M(n, date) is a matter of dates, and needs no index.
 fn month_span_answer(date: Date, n: u32) -> Answer
     requires { ⌜ isDate date ≡ true ⌝ }
-    ensures { λ r. ⌜ r ≡ spanned (from (M n (daysBefore date))) ⌝ }
+    ensures { λ r. ⌜ r ≡ spanAnswer (spanFrom (M n (daysBefore date))) ⌝ }
 {
-    match vorlauf::monate::months_or_first_date(date, n) {
-        Shifted::On(first) => antwortsatz::spanned(0, first, no_date()),
-        Shifted::Outside => antwortsatz::refused(LEFT_CALENDAR),
+    match datum::monate::months_or_first_date(date, n) {
+        Shifted::On(first) => antwortsatz::spanned(0, first, antwortsatz::zero_date()),
+        Shifted::Outside => antwortsatz::refused(LEAVES_CALENDAR),
     }
 }
 
-pub fn vorlauf_span_answer(code: u8, count: u32, count2: u32, date: Date) -> Answer
-    ensures { λ r. ⌜ r ≡ vorlaufSpanAnswer code count count2 date ⌝ }
+/// The anchors that a shape takes for a transmission date: "Kind 0 no last day, 1 both, 2 empty with both dates zero".
+/// `LatestWerktageBefore(1)` for 10 January 2026: from 13 January on. The window of 1 and 1 for that day is empty.
+pub fn vorlauf_span_answer(
+    code: u8,
+    count: u32,
+    count2: u32,
+    date: Date,
+    cal: HolidayCalendar,
+) -> Answer
+    ensures { λ r. ⌜ r ≡ vorlaufSpanAnswer (isWerktag cal) code count count2 date ⌝ }
 {
-    let ShapeCode::Known(shape) = shape_at(code, count, count2) else {
+    if SHAPES <= code {
         return antwortsatz::refused(UNKNOWN_CODE);
-    };
+    }
+    let shape = shape_of(code, count, count2);
     if !datum::is_date(date) {
         return antwortsatz::refused(NO_DATE);
     }
     let VorlaufShape::LatestMonateBefore(n) = shape else {
         let uebertragungstag = datum::days_before(date);
-        return span_answer(shape.span(uebertragungstag, HolidayCalendar::BdewMaKo));
+        return span_answer(shape.span(uebertragungstag, cal));
     };
     month_span_answer(date, n)
 }
 
+/// The case of a deregistration by its reason and EEG mark: "only the three bytes "ZQ7" are the deactivation reason;
+/// "zq7", "ZQ7 " and an empty reason are ordinary". "ZQ7" has kind 3, `AnPruefschritt120`, with any known mark.
 pub fn abmeldung_fuer_answer(reason: &[u8], code: u8) -> Answer
     ensures { λ r. ⌜ r ≡ abmeldungFuerAnswer (now (reason .entry)) code ⌝ }
 {
-    let EegCode::Known(eeg) = eeg_of(code) else {
+    if EEG_MARKS <= code {
         return antwortsatz::refused(UNKNOWN_CODE);
-    };
+    }
+    let eeg = eeg_of(code);
     antwortsatz::of_kind(case_code(AbmeldungVorlauf::fuer(reason, eeg)))
 }
 
-pub fn abmeldung_check_answer(reason: &[u8], code: u8, first: Date, second: Date) -> Answer
-    ensures { λ r. ⌜ r ≡ abmeldungCheckAnswer (now (reason .entry)) code first second ⌝ }
+/// The verdict of a deregistration, kind 3 where its case has no shape: "ZQ7, or an unknown EEG mark". "A
+/// deregistration's two dates are checked even where it has no shape." An ordinary one, without EEG, on 8 January 2026
+/// for the 9th: TooLate, 1, 10 January.
+pub fn abmeldung_check_answer(
+    reason: &[u8],
+    code: u8,
+    first: Date,
+    second: Date,
+    cal: HolidayCalendar,
+) -> Answer
+    ensures { λ r. ⌜ r ≡ abmeldungCheckAnswer (isWerktag cal) (now (reason .entry)) code first second ⌝ }
 {
-    let EegCode::Known(eeg) = eeg_of(code) else {
+    if EEG_MARKS <= code {
         return antwortsatz::refused(UNKNOWN_CODE);
-    };
+    }
+    let eeg = eeg_of(code);
     let Index::Day(uebertragungstag) = datum::index_of(first) else {
         return antwortsatz::refused(NO_DATE);
     };
@@ -277,22 +293,26 @@ pub fn abmeldung_check_answer(reason: &[u8], code: u8, first: Date, second: Date
         return antwortsatz::refused(NO_DATE);
     };
     let vorlauf = AbmeldungVorlauf::fuer(reason, eeg);
-    abmeldung_answer(vorlauf.check(uebertragungstag, zuordnungsende, HolidayCalendar::BdewMaKo))
+    abmeldung_answer(vorlauf.check(uebertragungstag, zuordnungsende, cal))
 }
 
-pub fn eog_answer(instant: Reading, date: Date) -> Answer
+/// Whether an announcement keeps its Frist, 13:00 of the last Werktag before the beginning: "13:00 exactly is yes. From
+/// midnight of the beginning on the answer is neither yes nor no." For 12 January 2026: 9 January 13:00 yes, a
+/// nanosecond later no, 12 January 00:00 neither. "3; 4; 8 for the last Werktag, only if the instant is before the
+/// beginning."
+pub fn eog_ankuendigung_fristgerecht_answer(
+    instant: Reading,
+    date: Date,
+    cal: HolidayCalendar,
+) -> Answer
     requires { ⌜ properReading instant ⌝ }
-    ensures { λ r. ⌜ r ≡ eogAnswer instant date ⌝ }
+    ensures { λ r. ⌜ r ≡ eogAnkuendigungFristgerechtAnswer (isWerktag cal) instant date ⌝ }
 {
     let Index::Day(beginn) = datum::index_of(date) else {
         return antwortsatz::refused(NO_DATE);
     };
     let Reading::At(uez) = instant else {
-        return antwortsatz::refused(NO_INSTANT);
+        return antwortsatz::refused(INSTANT_OUTSIDE);
     };
-    announced_answer(ankuendigung::eog_ankuendigung_fristgerecht(
-        uez,
-        beginn,
-        HolidayCalendar::BdewMaKo,
-    ))
+    announced_answer(ankuendigung::eog_ankuendigung_fristgerecht(uez, beginn, cal))
 }

@@ -1,6 +1,7 @@
 -- What the proofs cite: each rule's premises have the form in which a proof has them, so that `search` finds the rule.
 --   call-rules    for every host call: its answer is what a definition gives, so what `reply` promises of the answer
 --                 holds of the definition
+--   bytes-are     for `record_bytes`, whose seconds went through `bits_of`
 --   reply-rules   for `reply`: a slice of another length; one byte more is copied; all are copied
 -- Assumes nothing.
 use Prim.Native.Nat.{ℕ, _+_, _≤_, _<_}
@@ -9,10 +10,15 @@ use mathlib.Core.List.{List}
 use native.Mathlib.Omega.{arith}
 use native.Mathlib.Numerals.{add-one}
 use borrow.Author.Tests.{eq-eqb, ne-eqb}
+use mir.Syntax.{w64}
+use mir.Val.{SFits}
+use mir.Facts.{toZ-ofZ}
 use lib.ListN.{length, getD, set, take, length-set}
 use lib.Seq.{take-all, take-suc, take-suc-set}
+use Rattle.datum.proofs.Signed.{back}
+use Rattle.zahlen.specs.TwosComplement.{bitsOf}
 use Rattle.antwortsatz.specs.declared.Answer.{Answer}
-use Rattle.antwortsatz.specs.Bytes.{bytesOf, repliedTo}
+use Rattle.antwortsatz.specs.Bytes.{laid, bytesOf, repliedTo}
 use Rattle.antwortsatz.proofs.AnswerBytes.{bytes-length}
 
 pub call-replied :
@@ -21,6 +27,10 @@ pub call-replied :
 call-replied l l′ a b r e p = rw (← e) p
 
 pub ruleset call-rules = (call-replied)
+
+pub bytes-are : (a : Answer) (s : ℕ) → SFits w64 (a .seconds) → s ≡ bitsOf (back (a .seconds)) → laid a s ≡ bytesOf a
+unfolding bytesOf
+bytes-are a s f e = rw (e, toZ-ofZ f)
 
 pub reply-other : (l : List ℕ) (a : Answer) → (length l ≡ 32 → ⊥) → (1, l) ≡ repliedTo l a
 unfolding repliedTo

@@ -1,43 +1,51 @@
--- The answers of the host calls that fill one field, an instant, a verdict or a span, and of those that refuse.
---   zeroDate       = the date of a field that is not used: zero
---   zeroAnswer     = every field zero
---   refusedWith x  = refusal x, all else zero: "A refusal leaves bytes 1 to 31 zero"
---   kindAnswer k   = kind k alone: "a day test has kind 1 for a Werktag, else 0"
---   countAnswer n  = count n alone: "a count [fills] the count"
---   dateAnswer d   = date d alone: "A step fills the date"
---   instantAnswer k s x = seconds s and nanoseconds x beside kind k: "a Gas due instant [has] kind 1 for the initial process, else 0"
---   verdictAnswer k n d = kind k, count n and date d: "A verdict has its Werktage in the count and its earliest date in the date"
---   spanAnswer k d e    = kind k, date d and last date e: "24 to 27 the span's last date"
--- Source: document 01, "Host calls and their refusals"; "Unused fields are zero".
+-- The answers of the host calls by name: those that fill one field, an instant, a verdict or a span, and those that
+-- refuse.
+--   filled r k n s x u v w = the answer of all its fields, in the order of their bytes
+--   zeroDate          = the date of a field that is not used
+--   dateWord d        = the date d as a word: year, month, day from the lowest byte up
+--   refused x         = refusal x, all else zero: 'A refusal leaves bytes 1 to 31 zero'
+--   ofKind k          = kind k alone: 'a day test has kind 1 for a Werktag, else 0'
+--   counted n         = count n alone: 'a count [fills] the count'
+--   dated d           = date d alone: 'A step fills the date'
+--   atInstant k s x = seconds s and nanoseconds x beside kind k: 'a Gas due instant [has] kind 1 for the initial
+--       process, else 0'
+--   judged k n d = kind k, count n and date d: 'A verdict has its Werktage in the count and its earliest date in the
+--       date'
+--   spanned k d e     = kind k, date d and last date e: '24 to 27 the span's last date'
+-- Source: document 01, 'Host calls and their refusals'; 'Unused fields are zero'.
 -- Assumes nothing.
-use Prim.Native.Nat.{ℕ}
+use Prim.Native.Nat.{ℕ, _+_, _*_}
 use lib.IntN.{ℤ, pos}
 use Rattle.datum.specs.declared.Date.{Date}
 use Rattle.antwortsatz.specs.declared.Answer.{Answer}
 
+abbrev pub filled : ℕ → ℕ → ℕ → ℤ → ℕ → ℕ → ℕ → ℕ → Answer
+filled r k n s x u v w =
+    record { refusal = r; kind = k; count = n; seconds = s; nanos = x; word20 = u; word24 = v; word28 = w }
+
 abbrev pub zeroDate : Date
 zeroDate = record { year = 0; month = 0; day = 0 }
 
-unfoldable pub zeroAnswer : Answer
-zeroAnswer = record { refusal = 0; kind = 0; count = 0; seconds = pos 0; nanos = 0; date = zeroDate; last = zeroDate }
+abbrev pub dateWord : Date → ℕ
+dateWord d = d .year + 65536 * d .month + 16777216 * d .day
 
-unfoldable pub refusedWith : ℕ → Answer
-refusedWith x = record { refusal = x; kind = 0; count = 0; seconds = pos 0; nanos = 0; date = zeroDate; last = zeroDate }
+unfoldable pub refused : ℕ → Answer
+refused x = filled x 0 0 (pos 0) 0 0 0 0
 
-unfoldable pub kindAnswer : ℕ → Answer
-kindAnswer k = record { refusal = 0; kind = k; count = 0; seconds = pos 0; nanos = 0; date = zeroDate; last = zeroDate }
+unfoldable pub ofKind : ℕ → Answer
+ofKind k = filled 0 k 0 (pos 0) 0 0 0 0
 
-unfoldable pub countAnswer : ℕ → Answer
-countAnswer n = record { refusal = 0; kind = 0; count = n; seconds = pos 0; nanos = 0; date = zeroDate; last = zeroDate }
+unfoldable pub counted : ℕ → Answer
+counted n = filled 0 0 n (pos 0) 0 0 0 0
 
-unfoldable pub dateAnswer : Date → Answer
-dateAnswer d = record { refusal = 0; kind = 0; count = 0; seconds = pos 0; nanos = 0; date = d; last = zeroDate }
+unfoldable pub dated : Date → Answer
+dated d = filled 0 0 0 (pos 0) 0 (dateWord d) 0 0
 
-unfoldable pub instantAnswer : ℕ → ℤ → ℕ → Answer
-instantAnswer k s x = record { refusal = 0; kind = k; count = 0; seconds = s; nanos = x; date = zeroDate; last = zeroDate }
+unfoldable pub atInstant : ℕ → ℤ → ℕ → Answer
+atInstant k s x = filled 0 k 0 s x 0 0 0
 
-unfoldable pub verdictAnswer : ℕ → ℕ → Date → Answer
-verdictAnswer k n d = record { refusal = 0; kind = k; count = n; seconds = pos 0; nanos = 0; date = d; last = zeroDate }
+unfoldable pub judged : ℕ → ℕ → Date → Answer
+judged k n d = filled 0 k n (pos 0) 0 (dateWord d) 0 0
 
-unfoldable pub spanAnswer : ℕ → Date → Date → Answer
-spanAnswer k d e = record { refusal = 0; kind = k; count = 0; seconds = pos 0; nanos = 0; date = d; last = e }
+unfoldable pub spanned : ℕ → Date → Date → Answer
+spanned k d e = filled 0 k 0 (pos 0) 0 (dateWord d) (dateWord e) 0

@@ -1,155 +1,138 @@
 // The answer of a host call: its fields, its 32 bytes, and the one function that writes them. It knows no calendar.
 ghost use mathlib.Core.Path.{_≡_};
-ghost use Rattle.antwortsatz.specs.Bytes.{bitsOf, signedOf, bytesOf, repliedTo};
-ghost use Rattle.antwortsatz.specs.Answers.{zeroAnswer, refusedWith, kindAnswer, countAnswer, dateAnswer, instantAnswer, verdictAnswer, spanAnswer};
+ghost use Rattle.antwortsatz.specs.Bytes.{bytesOf, repliedTo};
+ghost use Rattle.antwortsatz.specs.Answers.{zeroDate, dateWord, filled, refused, ofKind, counted, dated};
+ghost use Rattle.antwortsatz.specs.Answers.{atInstant, judged, spanned};
 use datum::Date;
 
-// The refusals of document 01, "Host calls and their refusals".
+// The refusals of document 01, "Host calls and their refusals", by the host's names.
 
 /// The answer isn't 32 bytes long.
-pub const WRONG_LENGTH: u8 = 1;
+pub const ANSWER_LENGTH: u8 = 1;
 /// A code is unknown.
 pub const UNKNOWN_CODE: u8 = 2;
 /// A given date is no date of the range.
 pub const NO_DATE: u8 = 3;
 /// An instant lies outside its limits.
-pub const NO_INSTANT: u8 = 4;
+pub const INSTANT_OUTSIDE: u8 = 4;
 /// Hour over 23, minute or second over 59, nanoseconds over 999,999,999.
 pub const NO_CLOCK: u8 = 5;
 /// The local time is absent.
-pub const ABSENT_TIME: u8 = 6;
+pub const LOCAL_TIME_ABSENT: u8 = 6;
 /// The instant is not the beginning of a day in that Sparte.
-pub const NO_TAGESBEGINN: u8 = 7;
+pub const NO_BEGINNING: u8 = 7;
 /// A result leaves the calendar.
-pub const LEFT_CALENDAR: u8 = 8;
+pub const LEAVES_CALENDAR: u8 = 8;
 
 /// The answer's length in bytes.
 const ANSWER_BYTES: usize = 32;
 
-/// The fields of an answer, in the order of their bytes. A field that a call does not use is 0.
+/// The fields of an answer, in the order of their bytes. A field that a call does not use is 0. Bytes 20 to 31 are
+/// three words, named by their first byte: a date is one, and a number, a signed one's bits or an instant have room
+/// there too.
 pub struct Answer {
     pub refusal: u8,
     pub kind: u8,
     pub count: u32,
     pub seconds: i64,
     pub nanos: u32,
-    pub date: Date,
-    pub last: Date,
+    pub word20: u32,
+    pub word24: u32,
+    pub word28: u32,
 }
 
-/// "Unused fields are zero": where every answer starts.
-fn blank() -> Answer
-    ensures { λ r. ⌜ r ≡ zeroAnswer ⌝ }
+/// An answer of all its fields: what every named answer is made by.
+pub fn filled(
+    refusal: u8,
+    kind: u8,
+    count: u32,
+    seconds: i64,
+    nanos: u32,
+    word20: u32,
+    word24: u32,
+    word28: u32,
+) -> Answer
+    ensures { λ r. ⌜ r ≡ filled refusal kind count seconds nanos word20 word24 word28 ⌝ }
 {
     Answer {
-        refusal: 0,
-        kind: 0,
-        count: 0,
-        seconds: 0,
-        nanos: 0,
-        date: Date {
-            year: 0,
-            month: 0,
-            day: 0,
-        },
-        last: Date {
-            year: 0,
-            month: 0,
-            day: 0,
-        },
+        refusal,
+        kind,
+        count,
+        seconds,
+        nanos,
+        word20,
+        word24,
+        word28,
     }
 }
 
-/// "A refusal leaves bytes 1 to 31 zero."
+/// The date of a field that is not used.
+pub fn zero_date() -> Date
+    ensures { λ r. ⌜ r ≡ zeroDate ⌝ }
+{
+    Date {
+        year: 0,
+        month: 0,
+        day: 0,
+    }
+}
+
+/// A date as a word: "year 2 bytes, month, day", from the lowest byte up. 7 April 2026 is 0x070407ea: bytes ea 07 04
+/// 07.
+pub fn date_word(date: Date) -> u32
+    ensures { λ r. ⌜ r ≡ dateWord date ⌝ }
+{
+    (date.year as u32) + 65536 * (date.month as u32) + 16777216 * (date.day as u32)
+}
+
+/// "A refusal leaves bytes 1 to 31 zero": `refused(NO_DATE)` has 3 in byte 0.
 pub fn refused(number: u8) -> Answer
-    ensures { λ r. ⌜ r ≡ refusedWith number ⌝ }
+    ensures { λ r. ⌜ r ≡ refused number ⌝ }
 {
-    let mut a = blank();
-    a.refusal = number;
-    a
+    filled(number, 0, 0, 0, 0, 0, 0, 0)
 }
 
-/// A kind alone: a day test, a deregistration reason.
+/// A kind alone: "a day test has kind 1 for a Werktag, else 0", "a deregistration reason the code of its case".
 pub fn of_kind(kind: u8) -> Answer
-    ensures { λ r. ⌜ r ≡ kindAnswer kind ⌝ }
+    ensures { λ r. ⌜ r ≡ ofKind kind ⌝ }
 {
-    let mut a = blank();
-    a.kind = kind;
-    a
+    filled(0, kind, 0, 0, 0, 0, 0, 0)
 }
 
-/// A count alone.
+/// A count alone: "a count [fills] the count".
 pub fn counted(count: u32) -> Answer
-    ensures { λ r. ⌜ r ≡ countAnswer count ⌝ }
+    ensures { λ r. ⌜ r ≡ counted count ⌝ }
 {
-    let mut a = blank();
-    a.count = count;
-    a
+    filled(0, 0, count, 0, 0, 0, 0, 0)
 }
 
-/// A date alone: a step.
+/// A date alone: "A step fills the date".
 pub fn dated(date: Date) -> Answer
-    ensures { λ r. ⌜ r ≡ dateAnswer date ⌝ }
+    ensures { λ r. ⌜ r ≡ dated date ⌝ }
 {
-    let mut a = blank();
-    a.date = date;
-    a
+    filled(0, 0, 0, 0, 0, date_word(date), 0, 0)
 }
 
-/// An instant beside a kind: a clock on a date, a due instant.
+/// An instant beside a kind: a clock on a date, a due instant. "A Gas due instant [has] kind 1 for the initial process,
+/// else 0", as has every other instant.
 pub fn at_instant(kind: u8, seconds: i64, nanos: u32) -> Answer
-    ensures { λ r. ⌜ r ≡ instantAnswer kind seconds nanos ⌝ }
+    ensures { λ r. ⌜ r ≡ atInstant kind seconds nanos ⌝ }
 {
-    let mut a = blank();
-    a.kind = kind;
-    a.seconds = seconds;
-    a.nanos = nanos;
-    a
+    filled(0, kind, 0, seconds, nanos, 0, 0, 0)
 }
 
-/// A kind, a count of Werktage and a date: a verdict.
+/// A kind, a count of Werktage and a date: "A verdict has its Werktage in the count and its earliest date in the date."
 pub fn judged(kind: u8, count: u32, date: Date) -> Answer
-    ensures { λ r. ⌜ r ≡ verdictAnswer kind count date ⌝ }
+    ensures { λ r. ⌜ r ≡ judged kind count date ⌝ }
 {
-    let mut a = blank();
-    a.kind = kind;
-    a.count = count;
-    a.date = date;
-    a
+    filled(0, kind, count, 0, 0, date_word(date), 0, 0)
 }
 
-/// A kind and two dates: a span.
+/// A kind and two dates: a span, "24 to 27 the span's last date".
 pub fn spanned(kind: u8, first: Date, last: Date) -> Answer
-    ensures { λ r. ⌜ r ≡ spanAnswer kind first last ⌝ }
+    ensures { λ r. ⌜ r ≡ spanned kind first last ⌝ }
 {
-    let mut a = blank();
-    a.kind = kind;
-    a.date = first;
-    a.last = last;
-    a
-}
-
-/// The 64 bits of a signed number, two's complement: what its eight bytes are made of. Only a cast that loses nothing is
-/// allowed, so a negative number -(y + 1) goes through y.
-pub fn bits_of(x: i64) -> u64
-    ensures { λ r. ⌜ r ≡ bitsOf x ⌝ }
-{
-    if x < 0 {
-        let y = -(x + 1);
-        return u64::MAX - (y as u64);
-    }
-    x as u64
-}
-
-/// The signed number of 64 bits: what `bits_of` undoes.
-pub fn signed_of(bits: u64) -> i64
-    ensures { λ r. ⌜ r ≡ signedOf bits ⌝ }
-{
-    if bits < 9223372036854775808 {
-        return bits as i64;
-    }
-    let y = (u64::MAX - bits) as i64;
-    -y - 1
+    filled(0, kind, 0, 0, 0, date_word(first), date_word(last), 0)
 }
 
 /// The 32 bytes of an answer, little-endian, no header.
@@ -157,10 +140,11 @@ pub fn record_bytes(a: Answer) -> [u8; 32]
     ensures { λ r. ⌜ r ≡ bytesOf a ⌝ }
 {
     let c = a.count;
-    let s = bits_of(a.seconds);
+    let s = zahlen::bits_of(a.seconds);
     let n = a.nanos;
-    let y = a.date.year;
-    let z = a.last.year;
+    let x = a.word20;
+    let y = a.word24;
+    let z = a.word28;
     [
         a.refusal,
         a.kind,
@@ -182,18 +166,18 @@ pub fn record_bytes(a: Answer) -> [u8; 32]
         (n / 256 % 256) as u8,
         (n / 65536 % 256) as u8,
         (n / 16777216 % 256) as u8,
+        (x % 256) as u8,
+        (x / 256 % 256) as u8,
+        (x / 65536 % 256) as u8,
+        (x / 16777216 % 256) as u8,
         (y % 256) as u8,
         (y / 256 % 256) as u8,
-        a.date.month,
-        a.date.day,
+        (y / 65536 % 256) as u8,
+        (y / 16777216 % 256) as u8,
         (z % 256) as u8,
         (z / 256 % 256) as u8,
-        a.last.month,
-        a.last.day,
-        0,
-        0,
-        0,
-        0,
+        (z / 65536 % 256) as u8,
+        (z / 16777216 % 256) as u8,
     ]
 }
 
@@ -203,7 +187,7 @@ pub fn reply(answer: &mut [u8], a: Answer) -> u8
     ensures { λ r. ⌜ (r, now (answer .exit)) ≡ repliedTo (now (answer .entry)) a ⌝ }
 {
     if answer.len() != ANSWER_BYTES {
-        return WRONG_LENGTH;
+        return ANSWER_LENGTH;
     }
     let b = record_bytes(a);
     let mut i = 0;

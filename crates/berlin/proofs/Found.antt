@@ -7,7 +7,7 @@
 --   Repeated i c                two instants show the time
 --   repeated-when when-repeated that is so exactly from 02:00 to before 03:00 of the last Sunday of October
 -- Assumes nothing.
-use Prim.Native.Nat.{ℕ, _+_, _-_, _/_, _≤_, _<_}
+use Prim.Native.Nat.{ℕ, _+_, _-_, _≤_, _<_}
 use mathlib.Core.Path.{_≡_, refl, sym, ap, _∙_}
 use mathlib.Core.Logic.{_⊎_, inl, inr, ⊎-elim}
 use native.Mathlib.Omega.{arith}
@@ -16,18 +16,19 @@ use Rattle.datum.specs.Calendar.{yearOf, dateOf}
 use Rattle.berlin.specs.declared.Moment.{Moment}
 use Rattle.berlin.specs.declared.Clock.{Clock}
 use Rattle.berlin.specs.declared.Resolved.the-variants.{At, Absent}
-use Rattle.berlin.specs.Berlin.{dayStart, momentOf, secondsOf, first, ProperClock, lastSunday, offset, berlinClock, berlinAt}
+use Rattle.berlin.specs.Berlin.{dayStart, momentOf, secondsOf, lastSunday, offsetAt, berlinClock, berlinAt}
+use Rattle.berlin.specs.Inside.{ProperClock}
 use Rattle.berlin.proofs.SummerTime.{parts, own-year, year-name}
-use Rattle.berlin.proofs.LocalTime.{offset-cases, early, gap, summer, twice, late, by-stretch, at-two, at-one, at-none, clock-first}
+use Rattle.berlin.proofs.LocalTime.{offset-cases, early, gap, summer, twice, late, by-stretch}
+use Rattle.berlin.proofs.LocalTime.{at-two, at-one, at-none}
 
-pub moment-seconds : (s x : ℕ) → first ≤ s → secondsOf (momentOf s x) ≡ s
-moment-seconds s x h = omega arith
+pub moment-seconds : (s x : ℕ) → secondsOf (momentOf s x) ≡ s
+moment-seconds s x = omega arith
 
 pub seconds-moment : (m : Moment) → m .second < 86400 → momentOf (secondsOf m) (m .nanos) ≡ m
 seconds-moment m h =
-    let q = parts (secondsOf m) (m .day + 9495) (m .second) refl h in
-    let a : secondsOf m / 86400 - 9495 ≡ m .day = omega arith in
-    rw (a, q .1)
+    let q = parts (secondsOf m) (m .utcday) (m .second) refl h in
+    rw (q .0, q .1)
 
 pub record Earliest (i : ℕ) (c : Clock) (m : Moment) : Type 0 where
   pub shown : berlinClock (secondsOf m) ≡ dayStart i + c .second
@@ -40,9 +41,9 @@ module _ (i : ℕ) (c : Clock) where
   l = dayStart i + c .second
 
   -- s shows the time, and no earlier instant does
-  earliest-of : (s : ℕ) (m : Moment) → first ≤ s → berlinClock s ≡ l → ((t : ℕ) → berlinClock t ≡ l → s ≤ t) → m ≡ momentOf s (c .nanos) → Earliest i c m
-  earliest-of s m f h g e =
-      let a = moment-seconds s (c .nanos) f in
+  earliest-of : (s : ℕ) (m : Moment) → berlinClock s ≡ l → ((t : ℕ) → berlinClock t ≡ l → s ≤ t) → m ≡ momentOf s (c .nanos) → Earliest i c m
+  earliest-of s m h g e =
+      let a = moment-seconds s (c .nanos) in
       rw e
       (record {
         shown = ap berlinClock a ∙ h;
@@ -54,8 +55,8 @@ module _ (i : ℕ) (c : Clock) where
   -- the three answers, by the offset at the two instants that may show the time
   pub data Answer : Type 0 where
     two : berlinClock (l - 7200) ≡ l → berlinAt i c ≡ At (momentOf (l - 7200) (c .nanos)) → Answer
-    one : offset (l - 7200) ≡ 3600 → berlinClock (l - 3600) ≡ l → berlinAt i c ≡ At (momentOf (l - 3600) (c .nanos)) → Answer
-    none : offset (l - 7200) ≡ 3600 → offset (l - 3600) ≡ 7200 → berlinAt i c ≡ Absent → Answer
+    one : offsetAt (l - 7200) ≡ 3600 → berlinClock (l - 3600) ≡ l → berlinAt i c ≡ At (momentOf (l - 3600) (c .nanos)) → Answer
+    none : offsetAt (l - 7200) ≡ 3600 → offsetAt (l - 3600) ≡ 7200 → berlinAt i c ≡ Absent → Answer
 
   pub answer : Answer
   answer =
@@ -70,22 +71,19 @@ module _ (i : ℕ) (c : Clock) where
   two-least : (t : ℕ) → berlinClock t ≡ l → l - 7200 ≤ t
   two-least t h = ⊎-elim (λ e. omega arith) (λ e. omega arith) (candidate t h)
 
-  one-least : offset (l - 7200) ≡ 3600 → (t : ℕ) → berlinClock t ≡ l → l - 3600 ≤ t
-  one-least a t h = ⊎-elim (λ e. let b = ap offset e in absurd (omega arith)) (λ e. omega arith) (candidate t h)
+  one-least : offsetAt (l - 7200) ≡ 3600 → (t : ℕ) → berlinClock t ≡ l → l - 3600 ≤ t
+  one-least a t h = ⊎-elim (λ e. let b = ap offsetAt e in absurd (omega arith)) (λ e. omega arith) (candidate t h)
 
-  none-shows : offset (l - 7200) ≡ 3600 → offset (l - 3600) ≡ 7200 → (t : ℕ) → berlinClock t ≡ l → ⊥
-  none-shows a b t h = ⊎-elim (λ e. let d = ap offset e in omega arith) (λ e. let d = ap offset e in omega arith) (candidate t h)
+  none-shows : offsetAt (l - 7200) ≡ 3600 → offsetAt (l - 3600) ≡ 7200 → (t : ℕ) → berlinClock t ≡ l → ⊥
+  none-shows a b t h = ⊎-elim (λ e. let d = ap offsetAt e in omega arith) (λ e. let d = ap offsetAt e in omega arith) (candidate t h)
 
   module _ (h : i ≤ last) (u : ProperClock c) where
-    inside : (s : ℕ) → berlinClock s ≡ l → first ≤ s
-    inside s e = clock-first s (omega (arith, u .second-lt))
-
     pub is-earliest : (m : Moment) → berlinAt i c ≡ At m → Earliest i c m
     is-earliest m e = go answer
       where
         go : Answer → Earliest i c m
-        go (two a p) = earliest-of (l - 7200) m (inside (l - 7200) a) a two-least (cc)
-        go (one a b p) = earliest-of (l - 3600) m (inside (l - 3600) b) b (one-least a) (cc)
+        go (two a p) = earliest-of (l - 7200) m a two-least (cc)
+        go (one a b p) = earliest-of (l - 3600) m b (one-least a) (cc)
         go (none a b p) = let z : _≡_ {A = ℕ} 0 1 = cc in absurd (omega arith)
 
     pub earliest-is : (m : Moment) → Earliest i c m → berlinAt i c ≡ At m
@@ -162,13 +160,13 @@ module _ (i : ℕ) (c : Clock) (h : i ≤ last) (u : ProperClock c) where
   w = dayStart i + c .second
 
   -- two instants that show it are an hour apart
-  both : Repeated i c → (offset (w - 7200) ≡ 7200) × (offset (w - 3600) ≡ 3600)
+  both : Repeated i c → (offsetAt (w - 7200) ≡ 7200) × (offsetAt (w - 3600) ≡ 3600)
   both r =
       ⊎-elim
       (λ a.
       ⊎-elim
       (λ b. absurd (omega (arith, r .apart)))
-      (λ b. let x = ap offset a in let y = ap offset b in (omega (arith, r .earlier-shown), omega (arith, r .later-shown)))
+      (λ b. let x = ap offsetAt a in let y = ap offsetAt b in (omega (arith, r .earlier-shown), omega (arith, r .later-shown)))
       (candidate i c (r .later) (r .later-shown)))
       (λ a.
       ⊎-elim

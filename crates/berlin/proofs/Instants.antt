@@ -1,113 +1,174 @@
--- A host's signed seconds, taken apart: what the proofs of `split_instant`, `read_instant` and `seconds_of` cite.
+-- A host's signed seconds, taken apart: what the proofs of `split_instant`, `in_limits`, `read_instant` and
+-- `seconds_of` cite.
 --   by-86400     the facts of the divisor 86,400, for floor division
---   InLimits     seconds inside the limits: they are a natural number, and day and second are those of unsigned division
+--   not-below    from 1970 on the machine's remainder is not negative
+--   limit-rules  inside the first and the last day of the limits the second decides
+--   Natural      seconds from the first day on: they are a natural number, and day and second are those of unsigned division
+--   read-rules   a lemma for each return of `read_instant`
 -- Assumes nothing.
-use Prim.Native.Nat.{ℕ, _+_, _-_, _*_, _/_, _%_, _≤_, _<_}
-use mathlib.Core.Bool.{true, false}
+use Prim.Native.Nat.{ℕ, _+_, _*_, _/_, _%_, _≤_, _<_}
+use mathlib.Core.Bool.{Bool, true, false, not}
 use mathlib.Core.Path.{_≡_, refl, sym, ap, _∙_}
 use native.Mathlib.Omega.{arith}
-use lib.Dec.{T}
-use lib.IntN.{ℤ, pos, negsuc, natAbs, _-ℤ_}
-use lib.Signed.{ltZ, nonNeg}
-use borrow.Author.Tests.{ltb-true, ltb-false, le-leb, lt-leb}
+use native.Mathlib.Decide.{decLe, decLt}
+use lib.Dec.{T, leb, ltb}
+use lib.IntN.{ℤ, pos, negsuc, natAbs}
+use lib.Signed.{ltZ, leZ, remZ, mag-rem, nonNeg}
+use borrow.Author.Tests.{ltb-true, ltb-false, lt-ltb, le-ltb, le-leb, lt-leb, not-true, not-false}
 use mir.Syntax.{w32, w64}
 use mir.Val.{Fits, SFits, toZ}
 use mir.Facts.{toZ-ofZ}
+use mir.ValLaws.{sfits-le}
 use Rattle.datum.specs.Floor.{floorDiv, floorMod}
-use Rattle.datum.proofs.Signed.{back, clash, back-pos, sub-pos, sub-fits}
-use Rattle.datum.proofs.FloorLaws.{Steps}
+use Rattle.datum.proofs.Signed.{back, clash, back-pos}
+use Rattle.datum.proofs.FloorLaws.{Steps, mag-floor}
 use Rattle.berlin.specs.declared.Moment.{Moment}
 use Rattle.berlin.specs.declared.Reading.the-variants.{At, NoInstant}
-use Rattle.berlin.specs.Berlin.{momentOf, secondsOf, first, final, Proper, readInstant}
+use Rattle.berlin.specs.Berlin.{momentOf, secondsOf, firstSecond, lastSecond, inLimits, readInstant}
+use Rattle.berlin.specs.Inside.{Proper}
 
 pub by-86400 : Steps 86400
 by-86400 = record { some = omega arith; fits = omega arith; full = λ a h. omega arith; part = λ a y h. omega arith; less = λ a. omega arith; down = λ a. omega arith; rest = λ a. omega arith }
 
--- z is the number in the local s
-early-at : (z : ℤ) (x : ℕ) → ltZ z (pos first) ≡ true → NoInstant ≡ readInstant z x
-unfolding readInstant
-early-at (pos a) x h = rw (lt-leb first a (ltb-true a first h))
+-- split_instant: from 1970 on the machine's remainder is not negative
+rest-at : (z : ℤ) → leZ (pos 0) z ≡ true → ltZ (remZ z (pos 86400)) (pos 0) ≡ false
+rest-at (pos a) h = le-ltb (a % 86400) 0 (omega arith)
+rest-at (negsuc a) h = clash false h refl
+
+pub not-below : (s : ℤ) → SFits w64 s → leZ (pos 0) (back s) ≡ true → ltZ (back (remZ (back s) (pos 86400))) (pos 0) ≡ false
+not-below s f h =
+    rw (toZ-ofZ f, toZ-ofZ (sfits-le (mag-rem s (pos 86400)) f)) (rest-at s (rw (toZ-ofZ f) at h))
+
+-- in_limits: inside the first and the last day the second decides
+module _ (d t : ℕ) (h : t < 86400) where
+  pub too-early : d < 9495 → false ≡ inLimits (d * 86400 + t)
+  unfolding inLimits
+  too-early g = rw (lt-leb firstSecond (d * 86400 + t) (omega arith))
+
+  pub first-day : d ≤ 9495 → 9495 ≤ d → leb 82800 t ≡ inLimits (d * 86400 + t)
+  unfolding inLimits
+  first-day f g =
+      elim (decLe 82800 t) [
+        | yes l ↦ rw (le-leb 82800 t l, le-leb firstSecond (d * 86400 + t) (omega arith), le-leb (d * 86400 + t) lastSecond (omega arith))
+        | no l ↦ rw (lt-leb 82800 t (omega arith), lt-leb firstSecond (d * 86400 + t) (omega arith))
+      ]
+
+  pub too-late : 339675 < d → false ≡ inLimits (d * 86400 + t)
+  unfolding inLimits
+  too-late g = rw (le-leb firstSecond (d * 86400 + t) (omega arith), lt-leb (d * 86400 + t) lastSecond (omega arith))
+
+  pub last-day : 339675 ≤ d → d ≤ 339675 → ltb t 82800 ≡ inLimits (d * 86400 + t)
+  unfolding inLimits
+  last-day f g =
+      elim (decLt t 82800) [
+        | yes l ↦ rw (lt-ltb t 82800 l, le-leb firstSecond (d * 86400 + t) (omega arith), le-leb (d * 86400 + t) lastSecond (omega arith))
+        | no l ↦ rw (le-ltb t 82800 (omega arith), le-leb firstSecond (d * 86400 + t) (omega arith), lt-leb (d * 86400 + t) lastSecond (omega arith))
+      ]
+
+  pub between : 9495 < d → d < 339675 → true ≡ inLimits (d * 86400 + t)
+  unfolding inLimits
+  between f g = rw (le-leb firstSecond (d * 86400 + t) (omega arith), le-leb (d * 86400 + t) lastSecond (omega arith))
+
+pub ruleset limit-rules = (too-early, first-day, too-late, last-day, between)
+
+-- read_instant: z is the number in the local s; day 9,495 is the first that has an instant, day 339,675 the last
+early-at : (z : ℤ) (x : ℕ) → ltZ (floorDiv z 86400) (pos 9495) ≡ true → NoInstant ≡ readInstant z x
+unfolding readInstant inLimits floorDiv
+early-at (pos a) x h = let l = ltb-true (a / 86400) 9495 h in rw (lt-leb firstSecond a (omega arith))
 early-at (negsuc a) x h = refl
 
-late-at : (z : ℤ) (x : ℕ) → ltZ z (pos first) ≡ false → ltZ (pos final) z ≡ true → NoInstant ≡ readInstant z x
-unfolding readInstant
-late-at (pos a) x h g = rw (le-leb first a (ltb-false a first h), lt-leb a final (ltb-true final a g))
-late-at (negsuc a) x h g = refl
+late-at : (z : ℤ) (x : ℕ) → ltZ (pos 339675) (floorDiv z 86400) ≡ true → NoInstant ≡ readInstant z x
+unfolding readInstant inLimits floorDiv
+late-at (pos a) x h =
+    let l = ltb-true 339675 (a / 86400) h in
+    rw (le-leb firstSecond a (omega arith), lt-leb a lastSecond (omega arith))
+late-at (negsuc a) x h = refl
 
-nanos-at : (z : ℤ) (x : ℕ) → ltZ z (pos first) ≡ false → ltZ (pos final) z ≡ false → 999999999 < x → NoInstant ≡ readInstant z x
+outside-at : (z : ℤ) (a x : ℕ) → z ≡ pos a → inLimits a ≡ false → NoInstant ≡ readInstant z x
 unfolding readInstant
-nanos-at (pos a) x h g n = rw (le-leb first a (ltb-false a first h), le-leb a final (ltb-false final a g), lt-leb x 999999999 n)
-nanos-at (negsuc a) x h g n = refl
+outside-at z a x e h = rw (e, h)
 
-inside-at : (a x : ℕ) → first ≤ a → a ≤ final → x ≤ 999999999 → At (momentOf a x) ≡ readInstant (pos a) x
+nanos-at : (z : ℤ) (a x : ℕ) → z ≡ pos a → inLimits a ≡ true → 999999999 < x → NoInstant ≡ readInstant z x
 unfolding readInstant
-inside-at a x h g n = rw (le-leb first a h, le-leb a final g, le-leb x 999999999 n)
+nanos-at z a x e h n = rw (e, h, lt-leb x 999999999 n)
 
-pub record InLimits (s d r : ℤ) : Type 0 where
+inside-at : (z : ℤ) (a x : ℕ) → z ≡ pos a → inLimits a ≡ true → x ≤ 999999999 → At (momentOf a x) ≡ readInstant z x
+unfolding readInstant
+inside-at z a x e h n = rw (e, h, le-leb x 999999999 n)
+
+-- d and r are day and second of s
+pub record Natural (s d r : ℤ) : Type 0 where
   pub seconds : ℕ
   pub is : s ≡ pos seconds
   pub day : back d ≡ pos (seconds / 86400)
   pub second : back r ≡ pos (seconds % 86400)
-  pub from : first ≤ seconds
-  pub to : seconds ≤ final
+  pub to : seconds / 86400 ≤ 339675
 
-limits-at : (s d r z : ℤ) → s ≡ z → d ≡ floorDiv z 86400 → r ≡ floorMod z 86400 → ltZ z (pos first) ≡ false → ltZ (pos final) z ≡ false → InLimits s d r
+natural-at : (s d r z : ℤ) → s ≡ z → d ≡ floorDiv z 86400 → r ≡ floorMod z 86400 → ltZ (floorDiv z 86400) (pos 9495) ≡ false → ltZ (pos 339675) (floorDiv z 86400) ≡ false → Natural s d r
 unfolding floorDiv floorMod
-limits-at s d r (pos a) q e f h g =
-    let k = ltb-false a first h in
-    let l = ltb-false final a g in
+natural-at s d r (pos a) q e f h g =
+    let l = ltb-false 339675 (a / 86400) g in
     record {
       seconds = a;
       is = q;
       day = rw e (back-pos (a / 86400) (omega arith));
       second = rw f (back-pos (a % 86400) (omega arith));
-      from = k;
       to = l;
     }
-limits-at s d r (negsuc a) q e f h g = clash true refl h
+natural-at s d r (negsuc a) q e f h g = clash true refl h
 
-module _ (s : ℤ) (x : ℕ) (f : SFits w64 s) where
-  pub read-early : ltZ (back s) (pos 820450800) ≡ true → NoInstant ≡ readInstant s x
-  read-early h = early-at s x (rw (toZ-ofZ f) at h)
+-- d and r are what `split_instant` returned, b what `in_limits` returned
+module _ (s : ℤ) (x : ℕ) (f : SFits w64 s) (d : ℤ) (e : d ≡ floorDiv (back s) 86400) where
+  day-is : back d ≡ floorDiv s 86400
+  day-is = rw (e, toZ-ofZ f) (toZ-ofZ (sfits-le (mag-floor 86400 by-86400 s) f))
 
-  pub read-late : ltZ (back s) (pos 820450800) ≡ false → ltZ (pos 29348002799) (back s) ≡ true → NoInstant ≡ readInstant s x
-  read-late h g = late-at s x (rw (toZ-ofZ f) at h) (rw (toZ-ofZ f) at g)
+  pub read-early : ltZ (back d) (pos 9495) ≡ true → NoInstant ≡ readInstant s x
+  read-early h = early-at s x (rw day-is at h)
 
-  pub read-nanos : ltZ (back s) (pos 820450800) ≡ false → ltZ (pos 29348002799) (back s) ≡ false → 999999999 < x → NoInstant ≡ readInstant s x
-  read-nanos h g n = nanos-at s x (rw (toZ-ofZ f) at h) (rw (toZ-ofZ f) at g) n
+  pub read-late : ltZ (pos 339675) (back d) ≡ true → NoInstant ≡ readInstant s x
+  read-late h = late-at s x (rw day-is at h)
 
-  -- d and r are what `split_instant` returned
-  module _ (d r : ℤ) (e : d ≡ floorDiv (back s) 86400) (k : r ≡ floorMod (back s) 86400) (h : ltZ (back s) (pos 820450800) ≡ false) (g : ltZ (pos 29348002799) (back s) ≡ false) where
-    limits : InLimits s d r
-    limits = limits-at s d r s refl (rw (toZ-ofZ f) at e) (rw (toZ-ofZ f) at k) (rw (toZ-ofZ f) at h) (rw (toZ-ofZ f) at g)
+  module _ (r : ℤ) (k : r ≡ floorMod (back s) 86400) (h : ltZ (back d) (pos 9495) ≡ false) (g : ltZ (pos 339675) (back d) ≡ false) where
+    natural : Natural s d r
+    natural =
+        natural-at s d r s refl (rw (toZ-ofZ f) at e) (rw (toZ-ofZ f) at k) (rw day-is at h) (rw day-is at g)
 
-    day-back : back (back d -ℤ pos 9495) ≡ pos (limits .seconds / 86400 - 9495)
-    day-back =
-        let q = limits in
-        rw (q .day, sub-pos (q .seconds / 86400) 9495 (omega arith)) (back-pos (q .seconds / 86400 - 9495) (omega arith))
+    pub day-sign : T (nonNeg (back d))
+    day-sign = rw (natural .day) tt
 
-    pub day-fits : SFits w64 (back d -ℤ pos 9495)
-    day-fits = let q = limits in rw (q .day) (sub-fits (q .seconds / 86400) 9495 (omega arith) (omega arith))
-
-    pub day-sign : T (nonNeg (back (back d -ℤ pos 9495)))
-    day-sign = rw day-back tt
-
-    pub day-small : Fits w32 (natAbs (back (back d -ℤ pos 9495)))
-    day-small = let q = limits in rw day-back (record { fits = omega arith })
+    pub day-small : Fits w32 (natAbs (back d))
+    day-small = let q = natural in rw (q .day) (record { fits = omega arith })
 
     pub second-sign : T (nonNeg (back r))
-    second-sign = rw (limits .second) tt
+    second-sign = rw (natural .second) tt
 
     pub second-small : Fits w32 (natAbs (back r))
-    second-small = let q = limits in rw (q .second) (record { fits = omega arith })
+    second-small = let q = natural in rw (q .second) (record { fits = omega arith })
 
-    pub read-at : x ≤ 999999999 → At (record { day = natAbs (back (back d -ℤ pos 9495)); second = natAbs (back r); nanos = x }) ≡ readInstant s x
-    read-at n =
-        let q = limits in
-        let a : At (record { day = natAbs (back (back d -ℤ pos 9495)); second = natAbs (back r); nanos = x }) ≡ At (momentOf (q .seconds) x) = rw (day-back, q .second) in
-        a ∙ inside-at (q .seconds) x (q .from) (q .to) n ∙ ap (λ (z : ℤ). readInstant z x) (sym (q .is))
+    pub second-less : natAbs (back r) < 86400
+    second-less = let q = natural in rw (q .second) (omega arith)
 
-pub seconds-are : (m : Moment) → Proper m → toZ w64 ((m .day + 9495) * 86400 + m .second) ≡ pos (secondsOf m)
+    sum-is : natAbs (back d) * 86400 + natAbs (back r) ≡ natural .seconds
+    sum-is = let q = natural in rw (q .day, q .second) (omega arith)
+
+    module _ (b : Bool) (l : b ≡ inLimits (natAbs (back d) * 86400 + natAbs (back r))) where
+      limits-are : (y : Bool) → b ≡ y → inLimits (natural .seconds) ≡ y
+      limits-are y p = ap inLimits (sym sum-is) ∙ sym l ∙ p
+
+      pub read-outside : not b ≡ true → NoInstant ≡ readInstant s x
+      read-outside p = outside-at s (natural .seconds) x (natural .is) (limits-are false (not-true b p))
+
+      pub read-nanos : not b ≡ false → 999999999 < x → NoInstant ≡ readInstant s x
+      read-nanos p n = nanos-at s (natural .seconds) x (natural .is) (limits-are true (not-false b p)) n
+
+      pub read-at : not b ≡ false → x ≤ 999999999 → At (record { utcday = natAbs (back d); second = natAbs (back r); nanos = x }) ≡ readInstant s x
+      read-at p n =
+          let q = natural in
+          let a : At (record { utcday = natAbs (back d); second = natAbs (back r); nanos = x }) ≡ At (momentOf (q .seconds) x) = rw (q .day, q .second) in
+          a ∙ inside-at s (q .seconds) x (q .is) (limits-are true (not-false b p)) n
+
+pub ruleset read-rules = (read-early, read-late, day-sign, day-small, second-sign, second-small, second-less, read-outside, read-nanos, read-at)
+
+-- seconds_of
+pub seconds-are : (m : Moment) → Proper m → toZ w64 (m .utcday * 86400 + m .second) ≡ pos (secondsOf m)
 seconds-are m p = back-pos (secondsOf m) (omega (arith, p .to))
-
-pub ruleset read-rules = (read-early, read-late, read-nanos, day-fits, day-sign, day-small, second-sign, second-small, read-at, seconds-are)

@@ -20,7 +20,8 @@ use Rattle.datum.specs.Calendar.{yearLen, yearOf}
 use Rattle.datum.proofs.Years.{start-all, start-none}
 use Rattle.berlin.specs.declared.Clock.{Clock}
 use Rattle.berlin.specs.declared.Resolved.the-variants.{At, Absent}
-use Rattle.berlin.specs.Berlin.{dayStart, momentOf, first, final, lastSunday, summerFrom, summerTo, yearAt, offset, berlinClock, berlinAt}
+use Rattle.berlin.specs.Berlin.{dayStart, momentOf, firstSecond, lastSecond, lastSunday, summerFrom, summerTo}
+use Rattle.berlin.specs.Berlin.{yearAt, offsetAt, berlinClock, berlinAt}
 use Rattle.berlin.proofs.SummerTime.{sundays, in-year, Near, year-name, year-at, after-summer, summer-in, winter-late, winter-early}
 
 -- the offset is one or two hours
@@ -28,9 +29,9 @@ by-test : {A : Type 0} (b : Bool) (x : ℕ) → x ≡ cond b 7200 3600 → (x �
 by-test true x e f g = g e
 by-test false x e f g = f e
 
-pub offset-cases : {A : Type 0} (s : ℕ) → (offset s ≡ 3600 → A) → (offset s ≡ 7200 → A) → A
-unfolding offset
-offset-cases s f g = by-test (leb (summerFrom (yearAt s)) s && ltb s (summerTo (yearAt s))) (offset s) refl f g
+pub offset-cases : {A : Type 0} (s : ℕ) → (offsetAt s ≡ 3600 → A) → (offsetAt s ≡ 7200 → A) → A
+unfolding offsetAt
+offset-cases s f g = by-test (leb (summerFrom (yearAt s)) s && ltb s (summerTo (yearAt s))) (offsetAt s) refl f g
 
 -- k is the year of the day, or one beside it
 module _ (i t k : ℕ) (h : i ≤ last) (n : Near i k) (u : t < 86400) where
@@ -43,33 +44,33 @@ module _ (i t k : ℕ) (h : i ≤ last) (n : Near i k) (u : t < 86400) where
   abbrev october : ℕ
   october = dayStart (lastSunday (1996 + k) 10)
 
-  pub early : w < march + 7200 → (offset (w - 7200) ≡ 3600) × (offset (w - 3600) ≡ 3600)
+  pub early : w < march + 7200 → (offsetAt (w - 7200) ≡ 3600) × (offsetAt (w - 3600) ≡ 3600)
   early a = (
     winter-early k (w - 7200) (n .few) (omega arith) (omega arith),
     winter-early k (w - 3600) (n .few) (omega arith) (omega arith),
   )
 
-  pub gap : march + 7200 ≤ w → w < march + 10800 → (offset (w - 7200) ≡ 3600) × (offset (w - 3600) ≡ 7200)
+  pub gap : march + 7200 ≤ w → w < march + 10800 → (offsetAt (w - 7200) ≡ 3600) × (offsetAt (w - 3600) ≡ 7200)
   gap a b =
       let m = sundays k in (
         winter-early k (w - 7200) (n .few) (omega arith) (omega arith),
         summer-in k (w - 3600) (n .few) (omega arith) (omega arith),
       )
 
-  pub summer : march + 10800 ≤ w → w < october + 7200 → (offset (w - 7200) ≡ 7200) × (offset (w - 3600) ≡ 7200)
+  pub summer : march + 10800 ≤ w → w < october + 7200 → (offsetAt (w - 7200) ≡ 7200) × (offsetAt (w - 3600) ≡ 7200)
   summer a b = (
     summer-in k (w - 7200) (n .few) (omega arith) (omega arith),
     summer-in k (w - 3600) (n .few) (omega arith) (omega arith),
   )
 
-  pub twice : october + 7200 ≤ w → w < october + 10800 → (offset (w - 7200) ≡ 7200) × (offset (w - 3600) ≡ 3600)
+  pub twice : october + 7200 ≤ w → w < october + 10800 → (offsetAt (w - 7200) ≡ 7200) × (offsetAt (w - 3600) ≡ 3600)
   twice a b =
       let m = sundays k in (
         summer-in k (w - 7200) (n .few) (omega arith) (omega arith),
         winter-late k (w - 3600) (n .few) (omega arith) (omega arith) (omega arith),
       )
 
-  pub late : october + 10800 ≤ w → (offset (w - 7200) ≡ 3600) × (offset (w - 3600) ≡ 3600)
+  pub late : october + 10800 ≤ w → (offsetAt (w - 7200) ≡ 3600) × (offsetAt (w - 3600) ≡ 3600)
   late a = (
     winter-late k (w - 7200) (n .few) (omega arith) (omega arith) (omega arith),
     winter-late k (w - 3600) (n .few) (omega arith) (omega arith) (omega arith),
@@ -95,22 +96,22 @@ module _ (i : ℕ) (c : Clock) where
   abbrev l : ℕ
   l = dayStart i + c .second
 
-  pub at-two : offset (l - 7200) ≡ 7200 → berlinAt i c ≡ At (momentOf (l - 7200) (c .nanos))
+  pub at-two : offsetAt (l - 7200) ≡ 7200 → berlinAt i c ≡ At (momentOf (l - 7200) (c .nanos))
   unfolding berlinAt
   at-two a = rw (eq-eqb (berlinClock (l - 7200)) l (omega arith))
 
-  pub at-one : offset (l - 7200) ≡ 3600 → offset (l - 3600) ≡ 3600 → berlinAt i c ≡ At (momentOf (l - 3600) (c .nanos))
+  pub at-one : offsetAt (l - 7200) ≡ 3600 → offsetAt (l - 3600) ≡ 3600 → berlinAt i c ≡ At (momentOf (l - 3600) (c .nanos))
   unfolding berlinAt
   at-one a b = rw (ne-eqb (berlinClock (l - 7200)) l (λ z. omega arith), eq-eqb (berlinClock (l - 3600)) l (omega arith))
 
-  pub at-none : offset (l - 7200) ≡ 3600 → offset (l - 3600) ≡ 7200 → berlinAt i c ≡ Absent
+  pub at-none : offsetAt (l - 7200) ≡ 3600 → offsetAt (l - 3600) ≡ 7200 → berlinAt i c ≡ Absent
   unfolding berlinAt
   at-none a b = rw (ne-eqb (berlinClock (l - 7200)) l (λ z. omega arith), ne-eqb (berlinClock (l - 3600)) l (λ z. omega arith))
 
-pub clock-from : (s : ℕ) → first ≤ s → dayStart 0 ≤ berlinClock s
+pub clock-from : (s : ℕ) → firstSecond ≤ s → dayStart 0 ≤ berlinClock s
 clock-from s h = offset-cases s (λ e. omega arith) (λ e. omega arith)
 
-pub clock-to : (s : ℕ) → first ≤ s → s ≤ final → berlinClock s < dayStart 330180
+pub clock-to : (s : ℕ) → firstSecond ≤ s → s ≤ lastSecond → berlinClock s < dayStart 330180
 clock-to s h g =
     let i : ℕ = (s + 3600) / 86400 - 9496 in
     let k : ℕ = yearOf i .0 in
@@ -124,9 +125,9 @@ clock-to s h g =
     ]
 
 -- the converses: no instant outside the limits has a Berlin day of the calendar
-pub clock-first : (s : ℕ) → dayStart 0 ≤ berlinClock s → first ≤ s
+pub clock-first : (s : ℕ) → dayStart 0 ≤ berlinClock s → firstSecond ≤ s
 clock-first s h =
-    elim (decLe first s) [
+    elim (decLe firstSecond s) [
       | yes l ↦ l
       | no l ↦
           offset-cases s
@@ -134,5 +135,5 @@ clock-first s h =
           (λ e. let n = sundays 0 in let w = winter-early 0 s (omega arith) (omega (arith, start-none)) (omega arith) in omega arith)
     ]
 
-pub clock-final : (s : ℕ) → berlinClock s < dayStart 330180 → s ≤ final
+pub clock-final : (s : ℕ) → berlinClock s < dayStart 330180 → s ≤ lastSecond
 clock-final s h = offset-cases s (λ e. omega arith) (λ e. omega arith)

@@ -1,4 +1,5 @@
--- What the proofs of this crate's functions cite: a lemma for each return, with premises in the form in which they stand there.
+-- What the proofs of this crate's functions cite: a lemma for each return, with premises in the form in which they
+-- stand there.
 -- Assumes nothing.
 use Prim.Native.Nat.{ℕ, _+_, _-_, _*_, _/_, _%_, _≤_, _<_}
 use mathlib.Core.Bool.{Bool, true, false}
@@ -19,9 +20,12 @@ use Rattle.berlin.specs.declared.Resolved.the-variants.{At, Absent}
 use Rattle.berlin.specs.declared.Sparte.{Sparte}
 use Rattle.berlin.specs.declared.Sparte.the-variants.{Strom, Gas}
 use Rattle.berlin.specs.declared.Beginn.the-variants.{Day, NoBeginning}
-use Rattle.berlin.specs.Berlin.{dayStart, momentOf, secondsOf, Proper, ProperClock, readClock, lastSunday, offset, berlinDay, localOf, berlinAt, resolvedOr, berlinMidnight, endOfDayBerlin, tagesbeginnUtc, tagDesBeginns}
+use Rattle.berlin.specs.Berlin.{oClock, dayStart, momentOf, secondsOf, readClock, lastSunday, offsetAt, localOf}
+use Rattle.berlin.specs.Berlin.{berlinDate, berlinAt, resolvedOr, berlinMidnight, endOfDayBerlin}
+use Rattle.berlin.specs.Berlin.{tagesbeginnUtc, tagDesBeginns}
+use Rattle.berlin.specs.Inside.{Proper, ProperClock, guessedYear}
 use Rattle.berlin.proofs.SummerTime.{parts, start-3, start-10, guessed, summer-in, winter-late}
-use Rattle.berlin.proofs.LocalTime.{early, gap, late, at-two, at-one, at-none, clock-to}
+use Rattle.berlin.proofs.LocalTime.{early, gap, late, at-two, at-one, at-none, clock-from, clock-to}
 
 -- read_clock
 module _ (h m s x : ℕ) where
@@ -51,7 +55,7 @@ abbrev guess : ℕ → ℕ
 guess i = i * 400 / 146097
 
 -- switches_by: n is what `days_before` returned for 31 March, a and b what `sunday_by` returned
-guess-few : (i : ℕ) → i ≤ last → 1996 + i * 400 / 146097 ≤ 2899
+guess-few : (i : ℕ) → i ≤ last → guessedYear i ≤ 2899
 guess-few i h = let n = guessed i h in omega (arith, n .few)
 
 len-3 : (l : Bool) → daysInMonth l 3 ≡ 31
@@ -63,7 +67,7 @@ march-valid y h g =
     is-valid (record { year = y; month = 3; day = 31 })
     (record { from = h; to = g; month-from = omega arith; month-to = omega arith; day-from = omega arith; day-to = omega (arith, len-3 (isLeap y)) })
 
-pub guess-valid : (i : ℕ) → i ≤ last → isDate (record { year = 1996 + i * 400 / 146097; month = 3; day = 31 }) ≡ true
+pub guess-valid : (i : ℕ) → i ≤ last → isDate (record { year = guessedYear i; month = 3; day = 31 }) ≡ true
 guess-valid i h = march-valid (1996 + guess i) (omega arith) (guess-few i h)
 
 module _ (y n : ℕ) (e : n ≡ daysBefore (record { year = y; month = 3; day = 31 })) where
@@ -79,7 +83,7 @@ module _ (y n : ℕ) (e : n ≡ daysBefore (record { year = y; month = 3; day = 
 
 pub ruleset switch-rules = (guess-valid, march-is, october-is)
 
--- is_before
+-- is_shown_before
 pub before-is : (i t j u : ℕ) → ltb (i * 86400 + t) (j * 86400 + u) ≡ ltb (dayStart i + t) (dayStart j + u)
 before-is i t j u =
     elim (decLt (i * 86400 + t) (j * 86400 + u)) [
@@ -87,71 +91,72 @@ before-is i t j u =
       | no l ↦ le-ltb (i * 86400 + t) (j * 86400 + u) (omega arith) ∙ sym (le-ltb (dayStart i + t) (dayStart j + u) (omega arith))
     ]
 
--- offset_at: a and b are what `switches_by` returned, f and g what `is_before` returned
+-- offset_at: a and b are what `switches_by` returned, f and g what `is_shown_before` returned
 module _ (i t : ℕ) (h : i ≤ last) (v : t < 86400) where
-  pub offset-early : (a : ℕ) (f : Bool) → a ≡ lastSunday (1996 + i * 400 / 146097) 3 → f ≡ ltb (dayStart i + t) (dayStart a + 7200) → f ≡ true → 3600 ≡ offset (dayStart i + t - 3600)
+  pub offset-early : (a : ℕ) (f : Bool) → a ≡ lastSunday (guessedYear i) 3 → f ≡ ltb (dayStart i + t) (dayStart a + 7200) → f ≡ true → 3600 ≡ offsetAt (dayStart i + t - 3600)
   offset-early a f p q y =
       let l = ltb-true (dayStart i + t) (dayStart a + 7200) (sym q ∙ y) in
       sym (early i t (guess i) h (guessed i h) v (omega arith) .1)
 
-  pub offset-summer : (a b : ℕ) (f g : Bool) → a ≡ lastSunday (1996 + i * 400 / 146097) 3 → f ≡ ltb (dayStart i + t) (dayStart a + 7200) → f ≡ false → b ≡ lastSunday (1996 + i * 400 / 146097) 10 → g ≡ ltb (dayStart i + t) (dayStart b + 7200) → g ≡ true → 7200 ≡ offset (dayStart i + t - 3600)
+  pub offset-summer : (a b : ℕ) (f g : Bool) → a ≡ lastSunday (guessedYear i) 3 → f ≡ ltb (dayStart i + t) (dayStart a + 7200) → f ≡ false → b ≡ lastSunday (guessedYear i) 10 → g ≡ ltb (dayStart i + t) (dayStart b + 7200) → g ≡ true → 7200 ≡ offsetAt (dayStart i + t - 3600)
   offset-summer a b f g p q y r s z =
       let k = ltb-false (dayStart i + t) (dayStart a + 7200) (sym q ∙ y) in
       let l = ltb-true (dayStart i + t) (dayStart b + 7200) (sym s ∙ z) in
       sym (summer-in (guess i) (dayStart i + t - 3600) (guessed i h .few) (omega arith) (omega arith))
 
-  pub offset-late : (b : ℕ) (g : Bool) → b ≡ lastSunday (1996 + i * 400 / 146097) 10 → g ≡ ltb (dayStart i + t) (dayStart b + 7200) → g ≡ false → 3600 ≡ offset (dayStart i + t - 3600)
+  pub offset-late : (b : ℕ) (g : Bool) → b ≡ lastSunday (guessedYear i) 10 → g ≡ ltb (dayStart i + t) (dayStart b + 7200) → g ≡ false → 3600 ≡ offsetAt (dayStart i + t - 3600)
   offset-late b g p q y =
       let n = guessed i h in
       let l = ltb-false (dayStart i + t) (dayStart b + 7200) (sym q ∙ y) in
       sym (winter-late (guess i) (dayStart i + t - 3600) (n .few) (omega arith) (omega arith) (omega arith))
 
 -- local_of: w is what the clock shows that never changes, o what `offset_at` returned, r what the Berlin clock shows
-pub local-is : (m : Moment) (w r : Local) (o : ℕ) → dayStart (w .day) + w .second ≡ secondsOf m + 3600 → o ≡ offset (dayStart (w .day) + w .second - 3600) → dayStart (r .day) + r .second ≡ secondsOf m + o → r .second < 86400 → r ≡ localOf (secondsOf m)
-local-is m w r o e p f h =
-    let z : dayStart (w .day) + w .second - 3600 ≡ secondsOf m = omega arith in
-    let k : dayStart (r .day) + r .second ≡ secondsOf m + offset (secondsOf m) = f ∙ ap (λ (x : ℕ). secondsOf m + x) (p ∙ ap offset z) in
-    let q = parts (secondsOf m + offset (secondsOf m)) (r .day + 9496) (r .second) (sym k) h in
-    let a : berlinDay (secondsOf m) ≡ r .day = omega arith in
-    rw (a, q .1)
+pub local-is : (m : Moment) (w r : Local) (o : ℕ) → Proper m → w .berlinday * 86400 + w .second ≡ secondsOf m + 3600 → w .second < 86400 → o ≡ offsetAt (dayStart (w .berlinday - 9496) + w .second - 3600) → r .berlinday * 86400 + r .second ≡ secondsOf m + o → r .second < 86400 → r ≡ localOf (secondsOf m)
+local-is m w r o u e v p f h =
+    let z : dayStart (w .berlinday - 9496) + w .second - 3600 ≡ secondsOf m = omega (arith, u .from) in
+    let k : r .berlinday * 86400 + r .second ≡ secondsOf m + offsetAt (secondsOf m) = f ∙ ap (λ (x : ℕ). secondsOf m + x) (p ∙ ap offsetAt z) in
+    let q = parts (secondsOf m + offsetAt (secondsOf m)) (r .berlinday) (r .second) (sym k) h in
+    rw (q .0, q .1)
 
 -- berlin_date
-pub date-is : (m : Moment) (r : Local) → r ≡ localOf (secondsOf m) → r .day ≡ berlinDay (secondsOf m)
-date-is m r e = ap (λ (x : Local). x .day) e
+module _ (m : Moment) (r : Local) (p : Proper m) (e : r ≡ localOf (secondsOf m)) where
+  day-is : r .berlinday ≡ localOf (secondsOf m) .berlinday
+  day-is = ap (λ (x : Local). x .berlinday) e
 
-pub date-le : (m : Moment) (r : Local) → Proper m → r ≡ localOf (secondsOf m) → r .day ≤ last
-date-le m r p e =
-    let q = date-is m r e in
-    let a = clock-to (secondsOf m) (p .from) (p .to) in
-    omega arith
+  pub date-from : 9496 ≤ r .berlinday
+  date-from = let q = day-is in let a = clock-from (secondsOf m) (p .from) in omega arith
 
-pub ruleset local-rules = (local-is, date-is, date-le)
+  pub date-is : r .berlinday - 9496 ≡ berlinDate m
+  date-is = let q = day-is in omega arith
+
+  pub date-le : r .berlinday - 9496 ≤ last
+  date-le = let q = day-is in let a = clock-to (secondsOf m) (p .from) (p .to) in omega arith
+
+pub ruleset local-rules = (local-is, date-from, date-is, date-le)
 
 -- behind
 module _ (i a : ℕ) (c : Clock) (f : c .second < 86400) (g : a ≤ 7200) where
-  pub day-before : c .second < a → _≡_ {A = Moment} (record { day = i; second = c .second + 86400 - a; nanos = c .nanos }) (momentOf (dayStart i + c .second - a) (c .nanos))
+  pub day-before : c .second < a → _≡_ {A = Moment} (record { utcday = i + 9496 - 1; second = c .second + 86400 - a; nanos = c .nanos }) (momentOf (dayStart i + c .second - a) (c .nanos))
   day-before h =
-      let q = parts (dayStart i + c .second - a) (i + 9495) (c .second + 86400 - a) (omega arith) (omega arith) in
-      let k : (dayStart i + c .second - a) / 86400 - 9495 ≡ i = omega arith in
-      rw (k, q .1)
+      let q = parts (dayStart i + c .second - a) (i + 9496 - 1) (c .second + 86400 - a) (omega arith) (omega arith) in
+      rw (q .0, q .1)
 
-  pub day-same : a ≤ c .second → _≡_ {A = Moment} (record { day = i + 1; second = c .second - a; nanos = c .nanos }) (momentOf (dayStart i + c .second - a) (c .nanos))
+  pub day-same : a ≤ c .second → _≡_ {A = Moment} (record { utcday = i + 9496; second = c .second - a; nanos = c .nanos }) (momentOf (dayStart i + c .second - a) (c .nanos))
   day-same h =
       let q = parts (dayStart i + c .second - a) (i + 9496) (c .second - a) (omega arith) (omega arith) in
-      let k : (dayStart i + c .second - a) / 86400 - 9495 ≡ i + 1 = omega arith in
-      rw (k, q .1)
+      rw (q .0, q .1)
 
 pub ruleset behind-rules = (day-before, day-same)
 
--- berlin_at: a and b are what `switches_by` returned, f and g what `is_before` returned, m what `behind` returned
+-- berlin_at: a and b are what `switches_by` returned, f and g what `is_shown_before` returned, m what `behind` returned
 module _ (i : ℕ) (c : Clock) (h : i ≤ last) (u : ProperClock c) where
-  pub at-early : (a : ℕ) (f : Bool) (m : Moment) → a ≡ lastSunday (1996 + i * 400 / 146097) 3 → f ≡ ltb (dayStart i + c .second) (dayStart a + 7200) → f ≡ true → m ≡ momentOf (dayStart i + c .second - 3600) (c .nanos) → At m ≡ berlinAt i c
+  pub at-early : (a : ℕ) (f : Bool) (m : Moment) → a ≡ lastSunday (guessedYear i) 3 → f ≡ ltb (dayStart i + c .second) (dayStart a + 7200) → f ≡ true → m ≡ momentOf (dayStart i + c .second - 3600) (c .nanos) → At m ≡ berlinAt i c
   at-early a f m p q y e =
       let l = ltb-true (dayStart i + c .second) (dayStart a + 7200) (sym q ∙ y) in
       let v = early i (c .second) (guess i) h (guessed i h) (u .second-lt) (omega arith) in
       rw e (sym (at-one i c (v .0) (v .1)))
 
-  pub at-gap : (a : ℕ) (f g : Bool) → a ≡ lastSunday (1996 + i * 400 / 146097) 3 → f ≡ ltb (dayStart i + c .second) (dayStart a + 7200) → f ≡ false → g ≡ ltb (dayStart i + c .second) (dayStart a + 10800) → g ≡ true → Absent ≡ berlinAt i c
+  pub at-gap : (a : ℕ) (f g : Bool) → a ≡ lastSunday (guessedYear i) 3 → f ≡ ltb (dayStart i + c .second) (dayStart a + 7200) → f ≡ false → g ≡ ltb (dayStart i + c .second) (dayStart a + 10800) → g ≡ true → Absent ≡ berlinAt i c
   at-gap a f g p q y s z =
       let k = ltb-false (dayStart i + c .second) (dayStart a + 7200) (sym q ∙ y) in
       let l = ltb-true (dayStart i + c .second) (dayStart a + 10800) (sym s ∙ z) in
@@ -159,34 +164,38 @@ module _ (i : ℕ) (c : Clock) (h : i ≤ last) (u : ProperClock c) where
       sym (at-none i c (v .0) (v .1))
 
   -- x is 03:00, or earlier: up to then the earlier instant is the one by UTC+2
-  pub at-summer : (a b x : ℕ) (f g : Bool) (m : Moment) → a ≡ lastSunday (1996 + i * 400 / 146097) 3 → f ≡ ltb (dayStart i + c .second) (dayStart a + 10800) → f ≡ false → b ≡ lastSunday (1996 + i * 400 / 146097) 10 → g ≡ ltb (dayStart i + c .second) (dayStart b + x) → g ≡ true → x ≤ 10800 → m ≡ momentOf (dayStart i + c .second - 7200) (c .nanos) → At m ≡ berlinAt i c
+  pub at-summer : (a b x : ℕ) (f g : Bool) (m : Moment) → a ≡ lastSunday (guessedYear i) 3 → f ≡ ltb (dayStart i + c .second) (dayStart a + 10800) → f ≡ false → b ≡ lastSunday (guessedYear i) 10 → g ≡ ltb (dayStart i + c .second) (dayStart b + x) → g ≡ true → x ≤ 10800 → m ≡ momentOf (dayStart i + c .second - 7200) (c .nanos) → At m ≡ berlinAt i c
   at-summer a b x f g m p q y r s z w e =
       let k = ltb-false (dayStart i + c .second) (dayStart a + 10800) (sym q ∙ y) in
       let l = ltb-true (dayStart i + c .second) (dayStart b + x) (sym s ∙ z) in
       rw e (sym (at-two i c (summer-in (guess i) (dayStart i + c .second - 7200) (guessed i h .few) (omega arith) (omega arith))))
 
-  pub at-late : (b : ℕ) (g : Bool) (m : Moment) → b ≡ lastSunday (1996 + i * 400 / 146097) 10 → g ≡ ltb (dayStart i + c .second) (dayStart b + 10800) → g ≡ false → m ≡ momentOf (dayStart i + c .second - 3600) (c .nanos) → At m ≡ berlinAt i c
+  pub at-late : (b : ℕ) (g : Bool) (m : Moment) → b ≡ lastSunday (guessedYear i) 10 → g ≡ ltb (dayStart i + c .second) (dayStart b + 10800) → g ≡ false → m ≡ momentOf (dayStart i + c .second - 3600) (c .nanos) → At m ≡ berlinAt i c
   at-late b g m p q y e =
       let l = ltb-false (dayStart i + c .second) (dayStart b + 10800) (sym q ∙ y) in
       let v = late i (c .second) (guess i) h (guessed i h) (u .second-lt) (omega arith) in
       rw e (sym (at-one i c (v .0) (v .1)))
 
--- resolved_or, berlin_midnight, end_of_day_berlin, tagesbeginn_utc: f is what `berlin_at` returned, m what `resolved_or` returned
-pub none-given : (f : Resolved) → f ≡ Absent → _≡_ {A = Moment} (record { day = 0; second = 0; nanos = 0 }) (resolvedOr f)
+-- resolved_or, berlin_midnight, end_of_day_berlin, tagesbeginn_utc: c is what `o_clock` returned, f what `berlin_at`
+-- returned, m what `resolved_or` returned
+pub none-given : (f : Resolved) → f ≡ Absent → _≡_ {A = Moment} (record { utcday = 0; second = 0; nanos = 0 }) (resolvedOr f)
 none-given f e = rw e
 
-module _ (i : ℕ) (f : Resolved) (m : Moment) (e : m ≡ resolvedOr f) where
-  pub midnight-is : f ≡ berlinAt i (record { second = 0; nanos = 0 }) → m ≡ berlinMidnight i
+module _ (i : ℕ) (c : Clock) (f : Resolved) (m : Moment) (g : f ≡ berlinAt i c) (e : m ≡ resolvedOr f) where
+  resolved : (d : Clock) → c ≡ d → m ≡ resolvedOr (berlinAt i d)
+  resolved d p = rw (← p, ← g) e
+
+  pub midnight-is : c ≡ oClock 0 → m ≡ berlinMidnight i
   unfolding berlinMidnight
-  midnight-is p = e ∙ ap resolvedOr p
+  midnight-is p = resolved (oClock 0) p
 
-  pub end-is : f ≡ berlinAt i (record { second = 86399; nanos = 999999999 }) → m ≡ endOfDayBerlin i
-  unfolding endOfDayBerlin
-  end-is p = e ∙ ap resolvedOr p
-
-  pub gas-is : (sp : Sparte) → sp ≡ Gas → f ≡ berlinAt i (record { second = 21600; nanos = 0 }) → m ≡ tagesbeginnUtc i sp
+  pub gas-is : (sp : Sparte) → sp ≡ Gas → c ≡ oClock 6 → m ≡ tagesbeginnUtc i sp
   unfolding tagesbeginnUtc
-  gas-is sp q p = rw q (e ∙ ap resolvedOr p)
+  gas-is sp q p = rw q (resolved (oClock 6) p)
+
+pub end-is : (i : ℕ) (f : Resolved) (m : Moment) → f ≡ berlinAt i (record { second = 86399; nanos = 999999999 }) → m ≡ resolvedOr f → m ≡ endOfDayBerlin i
+unfolding endOfDayBerlin
+end-is i f m p e = e ∙ ap resolvedOr p
 
 pub strom-is : (i : ℕ) (m : Moment) (sp : Sparte) → sp ≡ Strom → m ≡ berlinMidnight i → m ≡ tagesbeginnUtc i sp
 unfolding tagesbeginnUtc
@@ -195,19 +204,19 @@ strom-is i m sp q e = rw q e
 pub ruleset begin-rules = (none-given, midnight-is, end-is, gas-is, strom-is)
 
 -- tag_des_beginns: i is what `berlin_date` returned, b what `tagesbeginn_utc` returned
-module _ (m b : Moment) (i : ℕ) (sp : Sparte) (e : i ≡ berlinDay (secondsOf m)) (p : b ≡ tagesbeginnUtc i sp) where
-  pub other-day : (b .day ≡ m .day → ⊥) → NoBeginning ≡ tagDesBeginns m sp
+module _ (m b : Moment) (i : ℕ) (sp : Sparte) (e : i ≡ berlinDate m) (p : b ≡ tagesbeginnUtc i sp) where
+  pub other-day : (b .utcday ≡ m .utcday → ⊥) → NoBeginning ≡ tagDesBeginns m sp
   unfolding tagDesBeginns
-  other-day h = rw (← e, ← p, ne-eqb (b .day) (m .day) h)
+  other-day h = rw (← e, ← p, ne-eqb (b .utcday) (m .utcday) h)
 
-  pub other-second : b .day ≡ m .day → (b .second ≡ m .second → ⊥) → NoBeginning ≡ tagDesBeginns m sp
+  pub other-second : b .utcday ≡ m .utcday → (b .second ≡ m .second → ⊥) → NoBeginning ≡ tagDesBeginns m sp
   unfolding tagDesBeginns
-  other-second h k = rw (← e, ← p, eq-eqb (b .day) (m .day) h, ne-eqb (b .second) (m .second) k)
+  other-second h k = rw (← e, ← p, eq-eqb (b .utcday) (m .utcday) h, ne-eqb (b .second) (m .second) k)
 
-  pub other-nanos : b .day ≡ m .day → b .second ≡ m .second → (b .nanos ≡ m .nanos → ⊥) → NoBeginning ≡ tagDesBeginns m sp
+  pub other-nanos : b .utcday ≡ m .utcday → b .second ≡ m .second → (b .nanos ≡ m .nanos → ⊥) → NoBeginning ≡ tagDesBeginns m sp
   unfolding tagDesBeginns
-  other-nanos h k l = rw (← e, ← p, eq-eqb (b .day) (m .day) h, eq-eqb (b .second) (m .second) k, ne-eqb (b .nanos) (m .nanos) l)
+  other-nanos h k l = rw (← e, ← p, eq-eqb (b .utcday) (m .utcday) h, eq-eqb (b .second) (m .second) k, ne-eqb (b .nanos) (m .nanos) l)
 
-  pub begins : b .day ≡ m .day → b .second ≡ m .second → b .nanos ≡ m .nanos → Day i ≡ tagDesBeginns m sp
+  pub begins : b .utcday ≡ m .utcday → b .second ≡ m .second → b .nanos ≡ m .nanos → Day i ≡ tagDesBeginns m sp
   unfolding tagDesBeginns
-  begins h k l = rw (← e, ← p, eq-eqb (b .day) (m .day) h, eq-eqb (b .second) (m .second) k, eq-eqb (b .nanos) (m .nanos) l)
+  begins h k l = rw (← e, ← p, eq-eqb (b .utcday) (m .utcday) h, eq-eqb (b .second) (m .second) k, eq-eqb (b .nanos) (m .nanos) l)

@@ -1,5 +1,5 @@
--- The two last Sundays of a year, and the offset on each side of the two switches. From here on all is linear arithmetic in the indexes of these
--- two days.
+-- The two last Sundays of a year, and the offset on each side of the two switches. From here on all is linear
+-- arithmetic in the indexes of these two days.
 --   parts        quotient and remainder of a number of seconds that is given as days and seconds
 --   Sundays k    where the last Sundays of March and October of the year 1996 + k lie
 --   InYear i k   the day with index i lies in the year 1996 + k; Near i k: in it or at most two days beside it
@@ -18,7 +18,7 @@ use Rattle.zaehlung.proofs.BlockLaws.{start-suc, at-is, at-sum, at-below}
 use Rattle.datum.proofs.Dates.{yearLen-at}
 use Rattle.datum.specs.Calendar.{isLeap, yearLen, yearStart, yearOf, daysInMonth, monthStart, daysBefore, dateIn, dateOf}
 use Rattle.datum.proofs.Years.{closed, yearLen-bounds, start-all, start-none}
-use Rattle.berlin.specs.Berlin.{dayStart, lastSunday, summerFrom, summerTo, yearAt, offset}
+use Rattle.berlin.specs.Berlin.{dayStart, lastSunday, summerFrom, summerTo, yearAt, offsetAt}
 
 pub parts : (x q r : ℕ) → x ≡ q * 86400 + r → r < 86400 → (x / 86400 ≡ q) × (x % 86400 ≡ r)
 parts x q r e h = (omega arith, omega arith)
@@ -100,16 +100,16 @@ year-at s i t k e h g =
 
 -- the offset by the year's two switches
 module _ (s y : ℕ) (e : yearAt s ≡ y) where
-  pub before-summer : s < summerFrom y → offset s ≡ 3600
-  unfolding offset
+  pub before-summer : s < summerFrom y → offsetAt s ≡ 3600
+  unfolding offsetAt
   before-summer h = rw (e, lt-leb (summerFrom y) s h)
 
-  pub in-summer : summerFrom y ≤ s → s < summerTo y → offset s ≡ 7200
-  unfolding offset
+  pub in-summer : summerFrom y ≤ s → s < summerTo y → offsetAt s ≡ 7200
+  unfolding offsetAt
   in-summer h g = rw (e, le-leb (summerFrom y) s h, lt-ltb s (summerTo y) g)
 
-  pub after-summer : summerFrom y ≤ s → summerTo y ≤ s → offset s ≡ 3600
-  unfolding offset
+  pub after-summer : summerFrom y ≤ s → summerTo y ≤ s → offsetAt s ≡ 3600
+  unfolding offsetAt
   after-summer h g = rw (e, le-leb (summerFrom y) s h, le-ltb s (summerTo y) g)
 
 -- the year of an instant by UTC+1
@@ -129,15 +129,15 @@ year-first s h =
     ap (λ (x : ℕ). dateOf x .year) q ∙ year-is 0 0 (record { few = omega arith; from = omega (arith, start-none); to = omega (arith, start-none, start-suc yearLen 0) })
 
 module _ (k s : ℕ) (f : k ≤ 903) where
-  pub summer-in : summerFrom (1996 + k) ≤ s → s < summerTo (1996 + k) → offset s ≡ 7200
+  pub summer-in : summerFrom (1996 + k) ≤ s → s < summerTo (1996 + k) → offsetAt s ≡ 7200
   summer-in h g = let n = sundays k in in-summer s (1996 + k) (year-by s k f (omega arith) (omega arith)) h g
 
   -- to the year's end
-  winter-end : summerTo (1996 + k) ≤ s → s + 3600 < dayStart (yearStart (suc k)) → offset s ≡ 3600
+  winter-end : summerTo (1996 + k) ≤ s → s + 3600 < dayStart (yearStart (suc k)) → offsetAt s ≡ 3600
   winter-end h g = let n = sundays k in after-summer s (1996 + k) (year-by s k f (omega arith) g) (omega arith) h
 
 -- from some days before the year
-pub winter-early : (k s : ℕ) → k ≤ 903 → dayStart (yearStart k) ≤ s + 604800 → s < summerFrom (1996 + k) → offset s ≡ 3600
+pub winter-early : (k s : ℕ) → k ≤ 903 → dayStart (yearStart k) ≤ s + 604800 → s < summerFrom (1996 + k) → offsetAt s ≡ 3600
 winter-early k s f a h =
     let n = sundays k in
     elim (decLe (dayStart (yearStart k)) (s + 3600)) [
@@ -145,12 +145,12 @@ winter-early k s f a h =
       | no l ↦ go k f a h (omega arith)
     ]
   where
-    go : (k : ℕ) → k ≤ 903 → dayStart (yearStart k) ≤ s + 604800 → s < summerFrom (1996 + k) → s + 3600 < dayStart (yearStart k) → offset s ≡ 3600
+    go : (k : ℕ) → k ≤ 903 → dayStart (yearStart k) ≤ s + 604800 → s < summerFrom (1996 + k) → s + 3600 < dayStart (yearStart k) → offsetAt s ≡ 3600
     go zero f a h l = before-summer s 1996 (year-first s (omega (arith, start-none))) h
     go (suc k) f a h l = let n = sundays k in winter-end k s (omega arith) (omega arith) l
 
 -- to some days after the year, but inside the calendar
-pub winter-late : (k s : ℕ) → k ≤ 903 → summerTo (1996 + k) ≤ s → s + 3600 < dayStart (yearStart (suc k)) + 604800 → s + 3600 < dayStart 330180 → offset s ≡ 3600
+pub winter-late : (k s : ℕ) → k ≤ 903 → summerTo (1996 + k) ≤ s → s + 3600 < dayStart (yearStart (suc k)) + 604800 → s + 3600 < dayStart 330180 → offsetAt s ≡ 3600
 winter-late k s f h g b =
     elim (decLt (s + 3600) (dayStart (yearStart (suc k)))) [
       | yes l ↦ winter-end k s f h l

@@ -1,4 +1,5 @@
--- Days tile the time line: no instant before the midnight of a day shows that day or a later one, every instant from then on does.
+-- Days tile the time line: no instant before the midnight of a day shows that day or a later one, every instant from
+-- then on does.
 --   Begins i m     at second m the day with index i begins
 --   midnight-begins   that is so of `berlinMidnight`
 --   end-last       no instant of a day is in a later second than its end
@@ -9,7 +10,7 @@ use native.Mathlib.Omega.{arith}
 use native.Mathlib.Decide.{decLe, decLt}
 use Rattle.zaehlung.specs.Walk.{last}
 use Rattle.datum.specs.Calendar.{yearOf}
-use Rattle.berlin.specs.Berlin.{dayStart, secondsOf, offset, berlinClock, berlinMidnight, endOfDayBerlin}
+use Rattle.berlin.specs.Berlin.{dayStart, secondsOf, offsetAt, berlinClock, berlinMidnight, endOfDayBerlin}
 use Rattle.berlin.proofs.SummerTime.{sundays, own-year, summer-in, winter-late, winter-early}
 use Rattle.berlin.proofs.LocalTime.{offset-cases, by-stretch}
 use Rattle.berlin.proofs.Proper.{midnight-earliest, end-earliest}
@@ -21,7 +22,7 @@ pub record Begins (i m : ℕ) : Type 0 where
 -- m shows midnight of day i
 module _ (i m : ℕ) (h : i ≤ last) (e : berlinClock m ≡ dayStart i) where
   -- midnight by UTC+1: the hour before it has that offset too
-  at-winter : offset m ≡ 3600 → ((s : ℕ) → dayStart i ≤ s + 7200 → s + 3600 < dayStart i → offset s ≡ 3600) → Begins i m
+  at-winter : offsetAt m ≡ 3600 → ((s : ℕ) → dayStart i ≤ s + 7200 → s + 3600 < dayStart i → offsetAt s ≡ 3600) → Begins i m
   at-winter a f =
       record {
         before = λ s b. elim (decLt (s + 7200) (dayStart i)) [
@@ -32,7 +33,7 @@ module _ (i m : ℕ) (h : i ≤ last) (e : berlinClock m ≡ dayStart i) where
       }
 
   -- midnight by UTC+2: the hour after it has that offset too
-  at-summer : offset m ≡ 7200 → ((s : ℕ) → dayStart i ≤ s + 7200 → s + 3600 < dayStart i → offset s ≡ 7200) → Begins i m
+  at-summer : offsetAt m ≡ 7200 → ((s : ℕ) → dayStart i ≤ s + 7200 → s + 3600 < dayStart i → offsetAt s ≡ 7200) → Begins i m
   at-summer a f =
       record {
         before = λ s b. offset-cases s (λ x. omega arith) (λ x. omega arith);

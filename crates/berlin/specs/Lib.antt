@@ -1,1 +1,2 @@
 pub mod Berlin
+pub mod Inside

@@ -1,130 +1,240 @@
 // Instants, the Berlin clock by the rule of Directive 2000/84/EC, and the instants at which days begin.
 //
-// Document 01, lib.rs (Berlin) and tagesbeginn.rs. A host's signed seconds are taken apart once, at the edge; behind it an instant is its UTC day
-// and the second of that day.
+// Document 01, lib.rs (Berlin) and tagesbeginn.rs. A host's signed seconds are taken apart once, at the edge; behind it
+// an instant is its UTC day, counted from 1 January 1970 as its seconds are, and the second of that day. A day of the
+// calendar is its index from 1 January 1996: the two differ by `CALENDAR_START`, which stands where the clock meets the
+// calendar.
 ghost use mathlib.Core.Path.{_≡_};
-ghost use Prim.Native.Nat.{_+_, _-_, _*_, _/_, _%_, _≤_, _<_};
+ghost use Prim.Native.Nat.{_+_, _-_, _*_, _%_, _≤_, _<_};
 ghost use lib.Dec.{ltb};
 ghost use lib.IntN.{pos};
 ghost use Rattle.zaehlung.specs.Walk.{last};
 ghost use Rattle.datum.specs.Calendar.{weekday};
 ghost use Rattle.datum.specs.Floor.{floorDiv, floorMod};
-ghost use Rattle.berlin.specs.Berlin.{dayStart, momentOf, secondsOf, Proper, ProperClock, lastSunday, offset, readInstant, readClock, localOf, berlinDay, berlinAt, resolvedOr, berlinMidnight, endOfDayBerlin, tagesbeginnUtc, tagDesBeginns};
+ghost use Rattle.berlin.specs.Berlin.{daySeconds, hours, oClock, dayStart, momentOf, secondsOf};
+ghost use Rattle.berlin.specs.Berlin.{isBefore, inLimits, readInstant, readClock, lastSunday, offsetAt, localOf};
+ghost use Rattle.berlin.specs.Berlin.{berlinDate, berlinAt, resolvedOr, berlinMidnight, endOfDayBerlin};
+ghost use Rattle.berlin.specs.Berlin.{tagesbeginnUtc, tagDesBeginns};
+ghost use Rattle.berlin.specs.Inside.{Proper, ProperClock, guessedYear};
 use datum::Date;
+use datum::FIRST_YEAR;
+use zaehlung::LAST;
 
-// An instant inside the limits: its UTC day, counted from 31 December 1995, the second of that day and the nanoseconds.
+/// An instant: its UTC day, counted from 1 January 1970, the second of that day and the nanoseconds.
+///
+/// 1 January 2026 00:00 in Berlin, 31 December 23:00 UTC, is day 20,453 and second 82,800.
 pub struct Moment {
-    pub day: u32,
+    pub utcday: u32,
     pub second: u32,
     pub nanos: u32,
 }
 
-// What an instant reads as; refusal 4 else.
+/// What an instant reads as: 'seconds from 820,450,800 to 29,348,002,799', else refusal 4.
 pub enum Reading {
     At(Moment),
     NoInstant,
 }
 
-// A local time: the second of the day and the nanoseconds.
+/// A local time: the second of the day and the nanoseconds. 13:00 is second 46,800.
 pub struct Clock {
     pub second: u32,
     pub nanos: u32,
 }
 
-// What a clock reads as; refusal 5 else.
+/// What a clock reads as: hour to 23, minute and second to 59, else refusal 5.
 pub enum ClockReading {
     At(Clock),
     NoClock,
 }
 
-// The instant of a local time on a day; refusal 6 where the clock never shows it.
+/// The instant of a local time on a day; refusal 6 where the clock never shows it.
 pub enum Resolved {
     At(Moment),
     Absent,
 }
 
-// The Berlin day, by its index, and the second of that day.
+/// What the Berlin clock shows: the day, counted from 1 January 1970 too, and the second of that day.
 pub struct Local {
-    pub day: u32,
+    pub berlinday: u32,
     pub second: u32,
 }
 
-// It decides where the day begins.
+/// It decides where the day begins: 'Strom begins at 00:00, Gas at 06:00 Berlin'.
 pub enum Sparte {
     Strom,
     Gas,
 }
 
-// The day that an instant begins, or none: refusal 7.
+/// The day that an instant begins, by its index, or none: refusal 7.
 pub enum Beginn {
     Day(u32),
     NoBeginning,
 }
 
-const DAY: u32 = 86400;
+/// The seconds of a minute.
+pub const MINUTE: u32 = 60;
 
-// How far Berlin is ahead of UTC.
-const WINTER: u32 = 3600;
+/// The seconds of an hour.
+pub const HOUR: u32 = 60 * MINUTE;
 
-const SUMMER: u32 = 7200;
+/// The seconds of a day.
+pub const DAY: u32 = 24 * HOUR;
 
-// In March the clock jumps from 02:00 to 03:00, in October from 03:00 to 02:00.
-const TWO: u32 = 7200;
+/// The same, for sums that don't fit 32 bits, and for seconds before 1970.
+const DAY_64: u64 = DAY as u64;
 
-const THREE: u32 = 10800;
+const DAY_SIGNED: i64 = DAY as i64;
 
-const GASTAG_BEGINN: u32 = 21600;
-
-const FIRST: i64 = 820450800;
-
-const FINAL: i64 = 29348002799;
-
+/// 'nanoseconds 0 to 999,999,999'.
 const MOST_NANOS: u32 = 999999999;
 
-// Days since 1970 of 31 December 1995.
-const DAY_ZERO: i64 = 9495;
+/// Days from 1 January 1970 to 1 January 1996, the day with index 0.
+const CALENDAR_START: u32 = 9496;
 
-// Days since 1970 and the second of the day.
+/// The calendar's first day begins in Berlin at 23:00 UTC of the day before, and its last ends at 23:00 UTC.
+const FIRST_UTC_DAY: u32 = CALENDAR_START - 1;
+
+const LAST_UTC_DAY: u32 = CALENDAR_START + LAST;
+
+const FIRST_SIGNED: i64 = FIRST_UTC_DAY as i64;
+
+const LAST_SIGNED: i64 = LAST_UTC_DAY as i64;
+
+const EDGE: u32 = 23 * HOUR;
+
+/// How far Berlin is ahead of UTC.
+const WINTER: u32 = HOUR;
+
+const SUMMER: u32 = 2 * HOUR;
+
+/// In March the clock jumps from 02:00 to 03:00, in October from 03:00 to 02:00.
+const TWO: u32 = 2 * HOUR;
+
+const THREE: u32 = 3 * HOUR;
+
+/// 06:00: 'the beginning of the Gastag in gesetzlicher deutscher Zeit'.
+const GASTAG_BEGINN: u32 = 6;
+
+/// The full hour of the clock: 13 is 13:00:00.
+pub fn o_clock(hour: u32) -> Clock
+    requires { ⌜ hour ≤ 23 ⌝ }
+    ensures { λ r. ⌜ (r ≡ oClock hour) × ProperClock r ⌝ }
+{
+    Clock {
+        second: hour * HOUR,
+        nanos: 0,
+    }
+}
+
+/// Whether an instant is earlier than another: 'instants are compared', to the nanosecond.
+///
+/// Two equal instants: no, either way. 9 January 2026 13:00 is before a nanosecond later.
+pub fn is_before(a: Moment, b: Moment) -> bool
+    requires { ⌜ (a .second < daySeconds) × (b .second < daySeconds) ⌝ }
+    ensures { λ r. ⌜ r ≡ isBefore a b ⌝ }
+{
+    if a.utcday < b.utcday {
+        return true;
+    }
+    if b.utcday < a.utcday {
+        return false;
+    }
+    if a.second < b.second {
+        return true;
+    }
+    if b.second < a.second {
+        return false;
+    }
+    a.nanos < b.nanos
+}
+
+/// Days since 1970, below zero too, and the second of the day.
 pub struct Split {
-    pub day: i64,
+    pub utcday: i64,
     pub second: i64,
 }
 
-// Division that rounds down, below zero too: one second before 1970 is the last second of day -1.
+/// Division that rounds down, of any seconds: one second before 1970 is the last second of day -1. From 1970 on the
+/// machine's division rounds down as it is, and is cheaper for a number that is known not to be negative.
+///
+/// 820,450,800, the first instant of the calendar, is second 82,800 of day 9,495.
 pub fn split_instant(s: i64) -> Split
-    ensures { λ r. ⌜ (r .day ≡ floorDiv s 86400) × (r .second ≡ floorMod s 86400) ⌝ }
+    ensures { λ r. ⌜ (r .utcday ≡ floorDiv s daySeconds) × (r .second ≡ floorMod s daySeconds) ⌝ }
 {
-    let day = s / 86400;
-    let second = s % 86400;
-    if second < 0 {
+    if 0 <= s {
         return Split {
-            day: day - 1,
-            second: second + 86400,
+            utcday: s / DAY_SIGNED,
+            second: s % DAY_SIGNED,
         };
     }
-    Split { day, second }
+    let utcday = s / DAY_SIGNED;
+    let second = s % DAY_SIGNED;
+    if second < 0 {
+        let below = utcday - 1;
+        return Split {
+            utcday: below,
+            second: second + DAY_SIGNED,
+        };
+    }
+    Split { utcday, second }
 }
 
+/// Whether an instant, by its UTC day and second, has a Berlin day of the calendar: from 31 December 1995 23:00 UTC to
+/// before 31 December 2899 23:00 UTC.
+///
+/// Day 9,495 counts from second 82,800 on, day 339,675 up to second 82,799.
+pub fn in_limits(utcday: u32, second: u32) -> bool
+    requires { ⌜ second < daySeconds ⌝ }
+    ensures { λ r. ⌜ r ≡ inLimits (utcday * daySeconds + second) ⌝ }
+{
+    if utcday <= FIRST_UTC_DAY {
+        if utcday < FIRST_UTC_DAY {
+            return false;
+        }
+        return EDGE <= second;
+    }
+    if LAST_UTC_DAY <= utcday {
+        if LAST_UTC_DAY < utcday {
+            return false;
+        }
+        return second < EDGE;
+    }
+    true
+}
+
+/// The instant of a host's numbers: 'signed whole seconds since 1970-01-01T00:00Z and nanoseconds 0 to 999,999,999;
+/// seconds from 820,450,800 to 29,348,002,799'.
+///
+/// Seconds of any sign are split first, and the limits are tested on day and second: -1 is second 86,399 of day -1, so
+/// none. 1,767,956,400 is 9 January 2026 11:00 UTC.
 pub fn read_instant(seconds: i64, nanos: u32) -> Reading
     ensures { λ r. ⌜ r ≡ readInstant seconds nanos ⌝ }
 {
-    if seconds < FIRST {
+    let at = split_instant(seconds);
+    if at.utcday < FIRST_SIGNED {
         return Reading::NoInstant;
     }
-    if FINAL < seconds {
+    if LAST_SIGNED < at.utcday {
+        return Reading::NoInstant;
+    }
+    let utcday = at.utcday as u32;
+    let second = at.second as u32;
+    if !in_limits(utcday, second) {
         return Reading::NoInstant;
     }
     if MOST_NANOS < nanos {
         return Reading::NoInstant;
     }
-    let at = split_instant(seconds);
     Reading::At(Moment {
-        day: (at.day - DAY_ZERO) as u32,
-        second: at.second as u32,
+        utcday,
+        second,
         nanos,
     })
 }
 
+/// The time of day of a host's numbers: '5, hour over 23, minute or second over 59, nanoseconds over 999,999,999'.
+///
+/// 23:59:59 is second 86,399; 24:00 is no time of day.
 pub fn read_clock(hour: u8, minute: u8, second: u8, nanos: u32) -> ClockReading
     ensures { λ r. ⌜ r ≡ readClock hour minute second nanos ⌝ }
 {
@@ -141,20 +251,23 @@ pub fn read_clock(hour: u8, minute: u8, second: u8, nanos: u32) -> ClockReading
         return ClockReading::NoClock;
     }
     ClockReading::At(Clock {
-        second: (hour as u32) * 3600 + (minute as u32) * 60 + (second as u32),
+        second: (hour as u32) * HOUR + (minute as u32) * MINUTE + (second as u32),
         nanos,
     })
 }
 
+/// The seconds of an instant since 1970-01-01T00:00Z, as a host's numbers have them: the inverse of `read_instant`.
+///
+/// Day 20,462 and second 39,600, 9 January 2026 11:00 UTC: 1,767,956,400.
 pub fn seconds_of(at: Moment) -> i64
     requires { ⌜ Proper at ⌝ }
     ensures { λ r. ⌜ r ≡ pos (secondsOf at) ⌝ }
 {
-    let seconds = ((at.day as u64) + 9495) * 86400 + (at.second as u64);
+    let seconds = (at.utcday as u64) * DAY_64 + (at.second as u64);
     seconds as i64
 }
 
-// The Sunday on or before a day.
+/// The Sunday on or before a day.
 fn sunday_by(day: u32) -> u32
     requires { ⌜ 6 ≤ day ⌝ }
     ensures { λ r. ⌜ (r ≡ day - (weekday day + 1) % 7) × (r ≤ day) ⌝ }
@@ -162,19 +275,29 @@ fn sunday_by(day: u32) -> u32
     day - (datum::weekday(day) + 1) % 7
 }
 
-// The days on which the clock changes.
+/// The days on which the clock changes.
 struct Switches {
     march: u32,
     october: u32,
 }
 
-// The last Sundays of March and October; the two months end 214 days apart. The year is guessed by the average length of a year. Near the turn of a
-// year the guess can be the year beside: there it is winter by either.
+const CALENDAR_YEAR: u32 = FIRST_YEAR as u32;
+
+/// 400 years of the Gregorian calendar, and their days.
+const CYCLE_YEARS: u32 = 400;
+
+const CYCLE_DAYS: u32 = 146097;
+
+/// From the last day of March to the last of October.
+const MARCH_TO_OCTOBER: u32 = 214;
+
+/// The last Sundays of March and October. The year is guessed by the average length of a year. Near the turn of a year
+/// the guess can be the year beside: there it is winter by either.
 fn switches_by(day: u32) -> Switches
     requires { ⌜ day ≤ last ⌝ }
-    ensures { λ r. ⌜ (r .march ≡ lastSunday (1996 + day * 400 / 146097) 3) × (r .october ≡ lastSunday (1996 + day * 400 / 146097) 10) ⌝ }
+    ensures { λ r. ⌜ (r .march ≡ lastSunday (guessedYear day) 3) × (r .october ≡ lastSunday (guessedYear day) 10) ⌝ }
 {
-    let year = 1996 + day * 400 / 146097;
+    let year = CALENDAR_YEAR + day * CYCLE_YEARS / CYCLE_DAYS;
     let end = datum::days_before(Date {
         year: year as u16,
         month: 3,
@@ -182,127 +305,143 @@ fn switches_by(day: u32) -> Switches
     });
     Switches {
         march: sunday_by(end),
-        october: sunday_by(end + 214),
+        october: sunday_by(end + MARCH_TO_OCTOBER),
     }
 }
 
-// Whether a time of one day is before a time of another.
-fn is_before(day: u32, second: u32, other: u32, until: u32) -> bool
+/// Whether a clock shows a time of one day before it shows a time of another.
+fn is_shown_before(day: u32, second: u32, other: u32, until: u32) -> bool
     ensures { λ r. ⌜ r ≡ ltb (dayStart day + second) (dayStart other + until) ⌝ }
 {
-    (day as u64) * 86400 + (second as u64) < (other as u64) * 86400 + (until as u64)
+    (day as u64) * DAY_64 + (second as u64) < (other as u64) * DAY_64 + (until as u64)
 }
 
-// What a clock shows that is so many seconds ahead of UTC.
+/// What a clock shows that is so many seconds ahead of UTC.
 fn on_clock(at: Moment, ahead: u32) -> Local
-    requires { ⌜ (Proper at) × (3600 ≤ ahead) × (ahead ≤ 7200) ⌝ }
-    ensures { λ r. ⌜ (dayStart (r .day) + r .second ≡ secondsOf at + ahead) × (r .second < 86400) ⌝ }
+    requires { ⌜ (Proper at) × (hours 1 ≤ ahead) × (ahead ≤ hours 2) ⌝ }
+    ensures { λ r. ⌜ (r .berlinday * daySeconds + r .second ≡ secondsOf at + ahead) × (r .second < daySeconds) ⌝ }
 {
     let second = at.second + ahead;
     if second < DAY {
         return Local {
-            day: at.day - 1,
+            berlinday: at.utcday,
             second,
         };
     }
     Local {
-        day: at.day,
+        berlinday: at.utcday + 1,
         second: second - DAY,
     }
 }
 
-// How far Berlin is ahead of UTC; winter is what a clock shows that never goes over to summer time.
-fn offset_at(winter: Local) -> u32
-    requires { ⌜ (winter .day ≤ last) × (winter .second < 86400) ⌝ }
-    ensures { λ r. ⌜ (r ≡ offset (dayStart (winter .day) + winter .second - 3600)) × (3600 ≤ r) × (r ≤ 7200) ⌝ }
+/// How far Berlin is ahead of UTC when a clock that never goes over to summer time shows a second of a day.
+fn offset_at(day: u32, second: u32) -> u32
+    requires { ⌜ (day ≤ last) × (second < daySeconds) ⌝ }
+    ensures { λ r. ⌜ (r ≡ offsetAt (dayStart day + second - hours 1)) × (hours 1 ≤ r) × (r ≤ hours 2) ⌝ }
 {
-    let sundays = switches_by(winter.day);
-    if is_before(winter.day, winter.second, sundays.march, TWO) {
+    let sundays = switches_by(day);
+    if is_shown_before(day, second, sundays.march, TWO) {
         return WINTER;
     }
-    if is_before(winter.day, winter.second, sundays.october, TWO) {
+    if is_shown_before(day, second, sundays.october, TWO) {
         return SUMMER;
     }
     WINTER
 }
 
+/// What the Berlin clock shows at an instant: 'UTC+1; UTC+2 from the last Sunday of March 01:00 UTC to the last Sunday
+/// of October 01:00 UTC'.
+///
+/// At 29 March 2026 00:59:59 UTC it shows 01:59:59, a second later 03:00:00.
 pub fn local_of(at: Moment) -> Local
     requires { ⌜ Proper at ⌝ }
     ensures { λ r. ⌜ r ≡ localOf (secondsOf at) ⌝ }
 {
-    on_clock(at, offset_at(on_clock(at, WINTER)))
+    let winter = on_clock(at, WINTER);
+    on_clock(
+        at,
+        offset_at(winter.berlinday - CALENDAR_START, winter.second),
+    )
 }
 
+/// The Berlin day of an instant, by its index: never its UTC day, which is the day before for one or two hours a night.
+///
+/// 31 January 2026 23:30 UTC: 1 February.
 pub fn berlin_date(at: Moment) -> u32
     requires { ⌜ Proper at ⌝ }
-    ensures { λ r. ⌜ (r ≡ berlinDay (secondsOf at)) × (r ≤ last) ⌝ }
+    ensures { λ r. ⌜ (r ≡ berlinDate at) × (r ≤ last) ⌝ }
 {
-    local_of(at).day
+    local_of(at).berlinday - CALENDAR_START
 }
 
-// The instant at which a clock that is so many seconds ahead of UTC shows a time.
+/// The instant at which a clock that is so many seconds ahead of UTC shows a time.
 fn behind(day: u32, at: Clock, ahead: u32) -> Moment
-    requires { ⌜ (day ≤ last) × (at .second < 86400) × (ahead ≤ 7200) ⌝ }
+    requires { ⌜ (day ≤ last) × (at .second < daySeconds) × (ahead ≤ hours 2) ⌝ }
     ensures { λ r. ⌜ r ≡ momentOf (dayStart day + at .second - ahead) (at .nanos) ⌝ }
 {
+    let since_1970 = day + CALENDAR_START;
     if at.second < ahead {
         return Moment {
-            day,
+            utcday: since_1970 - 1,
             second: at.second + DAY - ahead,
             nanos: at.nanos,
         };
     }
     Moment {
-        day: day + 1,
+        utcday: since_1970,
         second: at.second - ahead,
         nanos: at.nanos,
     }
 }
 
+/// The instant at which the Berlin clock shows a time of a day.
+///
+/// 'A repeated local time means its earlier instant': 25 October 2026 02:30 is 00:30 UTC. 'An absent one, where the
+/// Rust panics, is refusal 6': 29 March 2026 02:30.
 pub fn berlin_at(day: u32, at: Clock) -> Resolved
     requires { ⌜ (day ≤ last) × ProperClock at ⌝ }
     ensures { λ r. ⌜ r ≡ berlinAt day at ⌝ }
 {
     let sundays = switches_by(day);
-    if is_before(day, at.second, sundays.march, TWO) {
+    if is_shown_before(day, at.second, sundays.march, TWO) {
         return Resolved::At(behind(day, at, WINTER));
     }
-    if is_before(day, at.second, sundays.march, THREE) {
+    if is_shown_before(day, at.second, sundays.march, THREE) {
         return Resolved::Absent;
     }
-    if is_before(day, at.second, sundays.october, THREE) {
+    if is_shown_before(day, at.second, sundays.october, THREE) {
         return Resolved::At(behind(day, at, SUMMER));
     }
     Resolved::At(behind(day, at, WINTER))
 }
 
-// The instant of a time that is never absent.
+/// The instant of a time that is never absent, such as midnight; 1 January 1970 00:00 UTC stands for none.
 pub fn resolved_or(found: Resolved) -> Moment
     ensures { λ r. ⌜ r ≡ resolvedOr found ⌝ }
 {
     match found {
         Resolved::At(at) => at,
         Resolved::Absent => Moment {
-            day: 0,
+            utcday: 0,
             second: 0,
             nanos: 0,
         },
     }
 }
 
+/// The instant at which a day begins in Berlin. The clock changes at 02:00 or 03:00, so midnight is never absent.
+///
+/// 1 July 2027: 30 June 22:00 UTC.
 pub fn berlin_midnight(day: u32) -> Moment
     requires { ⌜ day ≤ last ⌝ }
     ensures { λ r. ⌜ r ≡ berlinMidnight day ⌝ }
 {
-    resolved_or(berlin_at(
-        day,
-        Clock {
-            second: 0,
-            nanos: 0,
-        },
-    ))
+    resolved_or(berlin_at(day, o_clock(0)))
 }
 
+/// The last instant of a day in Berlin: 'An end of day is 23:59:59.999999999.'
+///
+/// 31 December 2026: 22:59:59.999999999 UTC.
 pub fn end_of_day_berlin(day: u32) -> Moment
     requires { ⌜ day ≤ last ⌝ }
     ensures { λ r. ⌜ r ≡ endOfDayBerlin day ⌝ }
@@ -316,30 +455,30 @@ pub fn end_of_day_berlin(day: u32) -> Moment
     ))
 }
 
+/// The instant at which a day begins in a Sparte: 'Strom begins at 00:00, Gas at 06:00 Berlin.'
+///
+/// The Gas day 29 March 2026, on which the clock is put forward, begins at 04:00 UTC.
 pub fn tagesbeginn_utc(day: u32, sparte: Sparte) -> Moment
     requires { ⌜ day ≤ last ⌝ }
     ensures { λ r. ⌜ r ≡ tagesbeginnUtc day sparte ⌝ }
 {
     match sparte {
         Sparte::Strom => berlin_midnight(day),
-        Sparte::Gas => resolved_or(berlin_at(
-            day,
-            Clock {
-                second: GASTAG_BEGINN,
-                nanos: 0,
-            },
-        )),
+        Sparte::Gas => resolved_or(berlin_at(day, o_clock(GASTAG_BEGINN))),
     }
 }
 
-// The day that an instant begins. An instant that begins none is refused, never rounded.
+/// The day that an instant begins in a Sparte: the inverse of `tagesbeginn_utc`. An instant that begins none is
+/// refused, never rounded.
+///
+/// 31 December 2026 23:00 UTC begins 1 January 2027 in Strom; a nanosecond later begins no day.
 pub fn tag_des_beginns(at: Moment, sparte: Sparte) -> Beginn
     requires { ⌜ Proper at ⌝ }
     ensures { λ r. ⌜ r ≡ tagDesBeginns at sparte ⌝ }
 {
     let day = berlin_date(at);
     let begin = tagesbeginn_utc(day, sparte);
-    if begin.day != at.day {
+    if begin.utcday != at.utcday {
         return Beginn::NoBeginning;
     }
     if begin.second != at.second {

@@ -26,7 +26,8 @@ use Rattle.zaehlung.proofs.Every.{run, run-at}
 use Rattle.zaehlung.specs.Blocks.{start, at}
 use Rattle.zaehlung.proofs.BlockLaws.{start-suc, start-mono, at-is, at-sum, at-below}
 use Rattle.datum.specs.declared.Date.{Date}
-use Rattle.datum.specs.Calendar.{isLeap, yearLen, yearStart, yearOf, months, daysInMonth, monthStart, monthOf, dateIn, dateOf, daysBefore, isDate}
+use Rattle.datum.specs.Calendar.{isLeap, yearLen, yearStart, yearOf, months, daysInMonth, monthStart, monthOf}
+use Rattle.datum.specs.Calendar.{dateIn, dateOf, daysBefore, isDate}
 use Rattle.datum.proofs.Years.{start-all, start-none}
 
 pub and-left : (a b : Bool) → (a && b) ≡ true → a ≡ true
@@ -112,7 +113,9 @@ pub start-month : (l : Bool) (j : ℕ) → monthStart l (suc j) ≤ 31 * j
 start-month l zero = omega (arith, month-first l)
 start-month l (suc j) = omega (arith, start-month l j, start-suc (daysInMonth l) (suc j), len-le l (suc j))
 
-pub month-found : (l : Bool) (r m : ℕ) → 1 ≤ m → m ≤ 12 → monthStart l m ≤ r → r < monthStart l (m + 1) → monthOf l r ≡ (m, r - monthStart l m)
+pub month-found :
+    (l : Bool) (r m : ℕ) → 1 ≤ m → m ≤ 12 → monthStart l m ≤ r → r < monthStart l (m + 1) →
+    monthOf l r ≡ (m, r - monthStart l m)
 month-found l r m g h a b =
     let n = start-suc (daysInMonth l) m in
     let c : r < monthStart l (suc m) = rw add-one at b in

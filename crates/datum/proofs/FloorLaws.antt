@@ -1,6 +1,8 @@
--- Floor division by a fixed divisor, from the machine's division, which rounds toward zero: one theory for every divisor.
+-- Floor division by a fixed divisor, from the machine's division, which rounds toward zero: one theory for every
+-- divisor.
 --   Steps d            a divisor's own facts, which omega proves at a numeral; by-12 for the months of a year
---   floor-same         where the machine's remainder is not negative, quotient and remainder are those of floor division
+--   floor-same         where the machine's remainder is not negative, quotient and remainder are those of floor
+--                      division
 --   floor-down         where it is, the quotient less 1 and the remainder and d are
 --   split-..           the same of signed locals, in the form in which a function that splits by d asks for them
 -- Assumes nothing.
@@ -48,21 +50,29 @@ module _ (d : ℕ) (D : Steps d) where
   mag-floor (pos a) = D .less a
   mag-floor (negsuc a) = D .less a
 
-  pub floor-same : (s : ℤ) → ltZ (remZ s (pos d)) (pos 0) ≡ false → (quotZ s (pos d) ≡ floorDiv s d) × (remZ s (pos d) ≡ floorMod s d)
+  pub floor-same :
+      (s : ℤ) → ltZ (remZ s (pos d)) (pos 0) ≡ false →
+      (quotZ s (pos d) ≡ floorDiv s d) × (remZ s (pos d) ≡ floorMod s d)
   unfolding floorDiv floorMod
   floor-same (pos a) h = (refl, refl)
   floor-same (negsuc a) h = go (suc a % d) refl
     where
-      go : (x : ℕ) → suc a % d ≡ x → (negℤ (pos (suc a / d)) ≡ negsuc (a / d)) × (negℤ (pos (suc a % d)) ≡ pos (d - 1 - a % d))
+      go :
+          (x : ℕ) → suc a % d ≡ x →
+          (negℤ (pos (suc a / d)) ≡ negsuc (a / d)) × (negℤ (pos (suc a % d)) ≡ pos (d - 1 - a % d))
       go zero e = let q = D .full a e in (rw (q .0), rw (e, q .1))
       go (suc y) e = clash true refl (rw e at h)
 
-  pub floor-down : (s : ℤ) → ltZ (remZ s (pos d)) (pos 0) ≡ true → (quotZ s (pos d) -ℤ pos 1 ≡ floorDiv s d) × (remZ s (pos d) +ℤ pos d ≡ floorMod s d)
+  pub floor-down :
+      (s : ℤ) → ltZ (remZ s (pos d)) (pos 0) ≡ true →
+      (quotZ s (pos d) -ℤ pos 1 ≡ floorDiv s d) × (remZ s (pos d) +ℤ pos d ≡ floorMod s d)
   unfolding floorDiv floorMod
   floor-down (pos a) h = absurd (omega (arith, ltb-true (a % d) 0 h))
   floor-down (negsuc a) h = go (suc a % d) refl
     where
-      go : (x : ℕ) → suc a % d ≡ x → (negℤ (pos (suc a / d)) -ℤ pos 1 ≡ negsuc (a / d)) × (negℤ (pos (suc a % d)) +ℤ pos d ≡ pos (d - 1 - a % d))
+      go :
+          (x : ℕ) → suc a % d ≡ x →
+          (negℤ (pos (suc a / d)) -ℤ pos 1 ≡ negsuc (a / d)) × (negℤ (pos (suc a % d)) +ℤ pos d ≡ pos (d - 1 - a % d))
       go zero e = clash true refl (sym (rw e at h))
       go (suc y) e = let q = D .part a y e in (rw (q .0) (below (a / d)), rw (e, q .1) (up y d (q .2)))
 
@@ -91,16 +101,20 @@ module _ (d : ℕ) (D : Steps d) where
     test : (b : Bool) → ltZ (back (remZ (back s) (pos d))) (pos 0) ≡ b → ltZ (remZ s (pos d)) (pos 0) ≡ b
     test b h = rw (toZ-ofZ f, toZ-ofZ rem-fits) at h
 
-    pub split-day-fits : ltZ (back (remZ (back s) (pos d))) (pos 0) ≡ true → SFits w64 (back (quotZ (back s) (pos d)) -ℤ pos 1)
+    pub split-day-fits :
+        ltZ (back (remZ (back s) (pos d))) (pos 0) ≡ true → SFits w64 (back (quotZ (back s) (pos d)) -ℤ pos 1)
     split-day-fits h = rw (toZ-ofZ f, toZ-ofZ quot-fits, floor-down s (test true h) .0) floor-fits
 
-    pub split-second-fits : ltZ (back (remZ (back s) (pos d))) (pos 0) ≡ true → SFits w64 (back (remZ (back s) (pos d)) +ℤ pos d)
+    pub split-second-fits :
+        ltZ (back (remZ (back s) (pos d))) (pos 0) ≡ true → SFits w64 (back (remZ (back s) (pos d)) +ℤ pos d)
     split-second-fits h = rw (toZ-ofZ f, toZ-ofZ rem-fits, floor-down s (test true h) .1) mod-fits
 
-    pub split-day-down : ltZ (back (remZ (back s) (pos d))) (pos 0) ≡ true → back (back (quotZ (back s) (pos d)) -ℤ pos 1) ≡ floorDiv s d
+    pub split-day-down :
+        ltZ (back (remZ (back s) (pos d))) (pos 0) ≡ true → back (back (quotZ (back s) (pos d)) -ℤ pos 1) ≡ floorDiv s d
     split-day-down h = rw (toZ-ofZ f, toZ-ofZ quot-fits, floor-down s (test true h) .0, toZ-ofZ floor-fits)
 
-    pub split-second-down : ltZ (back (remZ (back s) (pos d))) (pos 0) ≡ true → back (back (remZ (back s) (pos d)) +ℤ pos d) ≡ floorMod s d
+    pub split-second-down :
+        ltZ (back (remZ (back s) (pos d))) (pos 0) ≡ true → back (back (remZ (back s) (pos d)) +ℤ pos d) ≡ floorMod s d
     split-second-down h = rw (toZ-ofZ f, toZ-ofZ rem-fits, floor-down s (test true h) .1, toZ-ofZ mod-fits)
 
     pub split-day : ltZ (back (remZ (back s) (pos d))) (pos 0) ≡ false → back (quotZ (back s) (pos d)) ≡ floorDiv s d

@@ -5,4 +5,6 @@ pub mod Signed
 pub mod FloorLaws
 pub mod Rules
 pub mod MonthRules
+pub mod Months
+pub mod MonthStepRules
 pub mod OutsideValues

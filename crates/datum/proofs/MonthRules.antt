@@ -55,7 +55,9 @@ module _ (t y m : ℤ) (x : ℕ) (f : SFits w64 t) (ey : y ≡ floorDiv (back t)
   pub early : ltZ (back y) (pos 1996) ≡ true → Outside ≡ onMonth t x
   early = early-at t f (rw (toZ-ofZ f) at ey)
 
-  in-range-at : (z : ℤ) → SFits w64 z → y ≡ floorDiv z 12 → m ≡ floorMod z 12 → t ≡ z → ltZ (back y) (pos 1996) ≡ false → ltZ (pos 2899) (back y) ≡ false → InRange t y m
+  in-range-at :
+      (z : ℤ) → SFits w64 z → y ≡ floorDiv z 12 → m ≡ floorMod z 12 → t ≡ z → ltZ (back y) (pos 1996) ≡ false →
+      ltZ (pos 2899) (back y) ≡ false → InRange t y m
   unfolding floorDiv floorMod
   in-range-at (pos a) k e g q h i =
       let b = back-pos (a / 12) (omega (arith, k .sfits)) in
@@ -99,7 +101,8 @@ module _ {t y m : ℤ} (r : InRange t y m) where
   pub within : (1996 ≤ natAbs (back y)) × (natAbs (back y) ≤ 2899) × (1 ≤ natAbs (back (back m +ℤ pos 1))) × (natAbs (back (back m +ℤ pos 1)) ≤ 12)
   within = rw (r .year, month-back) (r .from, r .to, omega arith, omega arith)
 
-  pub on-it : (x : ℕ) (s : Shifted) → s ≡ inMonth (natAbs (back y)) (natAbs (back (back m +ℤ pos 1))) x → s ≡ onMonth t x
+  pub on-it :
+      (x : ℕ) (s : Shifted) → s ≡ inMonth (natAbs (back y)) (natAbs (back (back m +ℤ pos 1))) x → s ≡ onMonth t x
   unfolding onMonth
   on-it x s e = rw (r .is) (rw (r .year, month-back) at e)
 

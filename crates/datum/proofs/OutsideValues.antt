@@ -1,5 +1,6 @@
--- The calendar's definitions against values from outside: weekdays of known days, month lengths, and month shifts by BGB §188 as commentaries
--- work them out (Palandt/Ellenberger, §188: a Frist of a month from 31 January ends with the last day of February).
+-- The calendar's definitions against values from outside: weekdays of known days, month lengths, and month shifts by
+-- BGB §188 as commentaries work them out (Palandt/Ellenberger, §188: a Frist of a month from 31 January ends with the
+-- last day of February).
 -- Assumes nothing.
 use Prim.Native.Nat.{ℕ}
 use mathlib.Core.List.{[], _∷_}
@@ -21,7 +22,7 @@ pub edges :
 unfolding indexOf isDate start yearLen daysInMonth isLeap
 edges = refl
 
--- February in 2023, 2024, 2100 (of the full hundreds, only every fourth is a isLeap year) and 2400
+-- February in 2023, 2024, 2100 (of the full hundreds, only every fourth is a leap year) and 2400
 pub februaries : daysInMonth (isLeap 2023) 2 ∷ daysInMonth (isLeap 2024) 2 ∷ daysInMonth (isLeap 2100) 2 ∷ daysInMonth (isLeap 2400) 2 ∷ [] ≡ 28 ∷ 29 ∷ 28 ∷ 29 ∷ []
 unfolding daysInMonth isLeap
 februaries = refl

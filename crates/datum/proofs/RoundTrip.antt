@@ -24,7 +24,7 @@ at-invalid : (d : Date) → isDate d ≡ false → indexOf d ≡ NoDate
 unfolding indexOf
 at-invalid d t = rw t
 
--- a date with an index is isDate, and the index is the number of days before it
+-- a date with an index is one of the range, and the index is the number of days before it
 pub has-index : (d : Date) (i : ℕ) → indexOf d ≡ Day i → Valid d × (daysBefore d ≡ i)
 has-index d i e = go (isDate d) refl
   where

@@ -1,4 +1,5 @@
--- What the proofs of this crate's functions cite: a lemma for each return and each turn of a loop, with premises in the form in which they stand there.
+-- What the proofs of this crate's functions cite: a lemma for each return and each turn of a loop, with premises in the
+-- form in which they stand there.
 -- Assumes nothing.
 use Prim.Native.Nat.{ℕ, zero, suc, _+_, _*_, _-_, _/_, _%_, _≤_, _<_}
 use mathlib.Core.Bool.{Bool, true, false}
@@ -16,10 +17,12 @@ use Rattle.zaehlung.specs.Blocks.{start}
 use Rattle.zaehlung.proofs.BlockLaws.{at-sum, at-below}
 use Rattle.datum.specs.declared.Date.{Date}
 use Rattle.datum.specs.declared.Index.the-variants.{Day, NoDate}
-use Rattle.datum.specs.Calendar.{isLeap, yearStart, yearOf, months, daysInMonth, monthStart, monthOf, dateIn, dateOf, daysBefore, indexOf, isDate}
+use Rattle.datum.specs.Calendar.{isLeap, yearStart, yearOf, months, daysInMonth, monthStart, monthOf, dateIn}
+use Rattle.datum.specs.Calendar.{dateOf, daysBefore, indexOf, isDate}
 use Rattle.zaehlung.proofs.Every.{run, run-at}
 use Rattle.datum.proofs.Years.{closed, year-found, year-le, start-none}
-use Rattle.datum.proofs.Dates.{all-le, at-most, len-le, months-sum, month-first, start-month, month-found, valid-is, is-valid, len-ge, index-below, year-below}
+use Rattle.datum.proofs.Dates.{all-le, at-most, len-le, months-sum, month-first, start-month, month-found}
+use Rattle.datum.proofs.Dates.{valid-is, is-valid, len-ge, index-below, year-below}
 
 -- is_leap
 pub leap-not4 : (y : ℕ) → (y % 4 ≡ 0 → ⊥) → false ≡ isLeap y
@@ -47,14 +50,16 @@ pub len-february : (l : Bool) (m : ℕ) → m ≡ 2 → l ≡ false → 28 ≡ d
 unfolding daysInMonth
 len-february l m e t = rw (e, t)
 
-pub len-other : (l : Bool) (m : ℕ) → (m ≡ 2 → ⊥) → getD (0 ∷ 31 ∷ 28 ∷ 31 ∷ 30 ∷ 31 ∷ 30 ∷ 31 ∷ 31 ∷ 30 ∷ 31 ∷ 30 ∷ 31 ∷ []) m 0 ≡ daysInMonth l m
+pub len-other :
+    (l : Bool) (m : ℕ) → (m ≡ 2 → ⊥) →
+    getD (0 ∷ 31 ∷ 28 ∷ 31 ∷ 30 ∷ 31 ∷ 30 ∷ 31 ∷ 31 ∷ 30 ∷ 31 ∷ 30 ∷ 31 ∷ []) m 0 ≡ daysInMonth l m
 unfolding daysInMonth
 len-other l zero h = refl
 len-other l (suc zero) h = refl
 len-other l (suc (suc zero)) h = absurd (h refl)
 len-other l (suc (suc (suc m))) h = refl
 
--- month_start: the table of a common year, one more after a isLeap year's February
+-- month_start: the table of a common year, one more after a leap year's February
 abbrev pub before : List ℕ
 before = 0 ∷ 0 ∷ 31 ∷ 59 ∷ 90 ∷ 120 ∷ 151 ∷ 181 ∷ 212 ∷ 243 ∷ 273 ∷ 304 ∷ 334 ∷ 365 ∷ []
 
@@ -123,7 +128,8 @@ again i k s h e g = year-le i (k + 1) h (omega arith)
 pub year-is : (i k s : ℕ) → i ≤ last → yearStart k ≤ i → s ≡ yearStart (k + 1) → i < s → k ≡ yearOf i .0
 year-is i k s h a e b = sym (ap (λ (p : ℕ × ℕ). p .0) (year-found i k h a (omega arith)))
 
-pub year-day : (i k s t : ℕ) → i ≤ last → yearStart k ≤ i → s ≡ yearStart (k + 1) → i < s → t ≡ yearStart k → i - t ≡ yearOf i .1
+pub year-day :
+    (i k s t : ℕ) → i ≤ last → yearStart k ≤ i → s ≡ yearStart (k + 1) → i < s → t ≡ yearStart k → i - t ≡ yearOf i .1
 year-day i k s t h a e b f = let q = ap (λ (p : ℕ × ℕ). p .1) (year-found i k h a (omega arith)) in omega arith
 
 pub ruleset year-rules = (not-first, falls, again, year-is, year-day)
@@ -143,10 +149,12 @@ pub month-again : (l : Bool) (r m s : ℕ) → r < 365 + bit l → m ≤ 12 → 
 month-again l r m s h g e a =
     elim (decLe (m + 1) 12) [ yes y ↦ y | no y ↦ absurd (let z : m + 1 ≡ 13 = omega arith in omega (arith, ap (monthStart l) z, months-sum l)) ]
 
-pub month-less : (l : Bool) (r m s : ℕ) → r < 365 + bit l → m ≤ 12 → s ≡ monthStart l (m + 1) → s ≤ r → 12 - (m + 1) < 12 - m
+pub month-less :
+    (l : Bool) (r m s : ℕ) → r < 365 + bit l → m ≤ 12 → s ≡ monthStart l (m + 1) → s ≤ r → 12 - (m + 1) < 12 - m
 month-less l r m s h g e a = let k = month-again l r m s h g e a in omega arith
 
-pub month-is : (l : Bool) (r m s : ℕ) → 1 ≤ m → m ≤ 12 → monthStart l m ≤ r → s ≡ monthStart l (m + 1) → r < s → m ≡ monthOf l r .0
+pub month-is :
+    (l : Bool) (r m s : ℕ) → 1 ≤ m → m ≤ 12 → monthStart l m ≤ r → s ≡ monthStart l (m + 1) → r < s → m ≡ monthOf l r .0
 month-is l r m s g h a e b = sym (ap (λ (p : ℕ × ℕ). p .0) (month-found l r m g h a (omega arith)))
 
 pub ruleset month-rules = (guess-by, guess-le, month-again, month-less, month-is)
@@ -165,10 +173,14 @@ module _ (d : Date) (v : isDate d ≡ true) where
   pub day-some : 1 ≤ d .day
   day-some = valid-is d v .day-from
 
-  pub days-are : (l : Bool) (s t : ℕ) → l ≡ isLeap (d .year) → s ≡ yearStart (d .year - 1996) → t ≡ monthStart l (d .month) → s + t + (d .day - 1) ≡ daysBefore d
+  pub days-are :
+      (l : Bool) (s t : ℕ) → l ≡ isLeap (d .year) → s ≡ yearStart (d .year - 1996) → t ≡ monthStart l (d .month) →
+      s + t + (d .day - 1) ≡ daysBefore d
   days-are l s t g p q = rw (← g, p, q)
 
-  pub days-few : (l : Bool) (s t : ℕ) → l ≡ isLeap (d .year) → s ≡ yearStart (d .year - 1996) → t ≡ monthStart l (d .month) → s + t + (d .day - 1) ≤ last
+  pub days-few :
+      (l : Bool) (s t : ℕ) → l ≡ isLeap (d .year) → s ≡ yearStart (d .year - 1996) → t ≡ monthStart l (d .month) →
+      s + t + (d .day - 1) ≤ last
   days-few l s t g p q = omega (arith, days-are l s t g p q, index-below d (valid-is d v))
 
 pub ruleset days-rules = (year-by, year-few, month-by-13, day-some, days-are, days-few)
@@ -202,7 +214,9 @@ module _ (d : Date) where
           sym (is-valid d (record { from = a; to = b; month-from = c; month-to = e; day-from = f; day-to = omega (arith, len-ge (isLeap (d .year)) (d .month) c e) }))
 
       -- l and n are what `is_leap` and `days_in_month` returned
-      pub by-length : (l : Bool) (n : ℕ) → 1 ≤ d .day → l ≡ isLeap (d .year) → n ≡ daysInMonth l (d .month) → leb (d .day) n ≡ isDate d
+      pub by-length :
+          (l : Bool) (n : ℕ) → 1 ≤ d .day → l ≡ isLeap (d .year) → n ≡ daysInMonth l (d .month) →
+          leb (d .day) n ≡ isDate d
       unfolding isDate
       by-length l n f g h = rw (le-leb 1996 (d .year) a, le-leb (d .year) 2899 b, le-leb 1 (d .month) c, le-leb (d .month) 12 e, le-leb 1 (d .day) f, ← g, h)
 

@@ -1,4 +1,5 @@
--- A signed local holds bits: the number that it was given, read back, and sums and differences of naturals by their sign.
+-- A signed local holds bits: the number that it was given, read back, and sums and differences of naturals by their
+-- sign.
 --   back z      = what a local of 64 bits reads as that was given z
 --   pos-fits    a natural below 2^63 fits; neg-fits the same below zero
 --   back-pos    such a natural is read back as itself

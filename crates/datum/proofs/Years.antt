@@ -1,5 +1,5 @@
 -- The first day of a year in closed form, and the year of a day.
---   closed         the days before a year, by the years' isLeap days
+--   closed         the days before a year, by the years' leap days
 --   yearLen-bounds a year has 365 or 366 days
 --   start-all      the 904 years have 330,180 days
 --   year-found     a year that starts by a day, and whose next starts after it, is the day's
@@ -39,11 +39,15 @@ by400 : (y : ℕ) → y % 400 ≡ 0 → y % 100 ≡ 0
 by400 y h = omega arith
 
 -- the sum, with the quotients as unknowns
-cancel : (p q r p′ q′ r′ : ℕ) (a b c : Bool) → p ≡ p′ + bit a → q ≡ q′ + bit b → r ≡ r′ + bit c → bit (a && (not b || c)) + bit b ≡ bit a + bit c → bit (a && (not b || c)) + (p′ + r′) + q ≡ p + r + q′
+cancel :
+    (p q r p′ q′ r′ : ℕ) (a b c : Bool) → p ≡ p′ + bit a → q ≡ q′ + bit b → r ≡ r′ + bit c →
+    bit (a && (not b || c)) + bit b ≡ bit a + bit c → bit (a && (not b || c)) + (p′ + r′) + q ≡ p + r + q′
 cancel p q r p′ q′ r′ a b c e f g h = omega arith
 
--- isLeap days up to and including a year, less those up to the year before: one, if it is a isLeap year
-leap-tests : (y : ℕ) (a b c : Bool) → eqb (suc y % 4) 0 ≡ a → eqb (suc y % 100) 0 ≡ b → eqb (suc y % 400) 0 ≡ c → bit (a && (not b || c)) + (y / 4 + y / 400) + suc y / 100 ≡ suc y / 4 + suc y / 400 + y / 100
+-- leap days up to and including a year, less those up to the year before: one, if it is a leap year
+leap-tests :
+    (y : ℕ) (a b c : Bool) → eqb (suc y % 4) 0 ≡ a → eqb (suc y % 100) 0 ≡ b → eqb (suc y % 400) 0 ≡ c →
+    bit (a && (not b || c)) + (y / 4 + y / 400) + suc y / 100 ≡ suc y / 4 + suc y / 400 + y / 100
 leap-tests y true true true p q r = cancel (suc y / 4) (suc y / 100) (suc y / 400) (y / 4) (y / 100) (y / 400) true true true (step4 y true p) (step100 y true q) (step400 y true r) refl
 leap-tests y true true false p q r = cancel (suc y / 4) (suc y / 100) (suc y / 400) (y / 4) (y / 100) (y / 400) true true false (step4 y true p) (step100 y true q) (step400 y false r) refl
 leap-tests y true false true p q r = absurd (eqb-false (suc y % 100) 0 q (by400 (suc y) (eqb-true (suc y % 400) 0 r)))
@@ -57,7 +61,9 @@ leap-step : (y : ℕ) → bit (isLeap (suc y)) + (y / 4 + y / 400) + suc y / 100
 unfolding isLeap
 leap-step y = leap-tests y (eqb (suc y % 4) 0) (eqb (suc y % 100) 0) (eqb (suc y % 400) 0) refl refl refl
 
-join : (s b k p q r p′ q′ r′ : ℕ) → s + 483 + q ≡ 365 * k + (p + r) → b + (p + r) + q′ ≡ p′ + r′ + q → s + (365 + b) + 483 + q′ ≡ 365 * suc k + (p′ + r′)
+join :
+    (s b k p q r p′ q′ r′ : ℕ) → s + 483 + q ≡ 365 * k + (p + r) → b + (p + r) + q′ ≡ p′ + r′ + q →
+    s + (365 + b) + 483 + q′ ≡ 365 * suc k + (p′ + r′)
 join s b k p q r p′ q′ r′ e f = omega arith
 
 yearLen-is : (k : ℕ) → yearLen k ≡ 365 + bit (isLeap (suc (k + 1995)))
@@ -99,5 +105,6 @@ year-found i k h a b =
     let c : i < yearStart (suc k) = rw add-one at b in
     at-is yearLen 903 0 k i (i - yearStart k) (omega arith) (year-le i k h a) (omega (arith, start-none)) (omega arith)
 
-pub year-rest : (i : ℕ) → (yearStart (yearOf i .0) ≤ i) × (yearOf i .1 ≡ i - yearStart (yearOf i .0)) × (yearOf i .0 ≤ 903)
+pub year-rest :
+    (i : ℕ) → (yearStart (yearOf i .0) ≤ i) × (yearOf i .1 ≡ i - yearStart (yearOf i .0)) × (yearOf i .0 ≤ 903)
 year-rest i = omega (arith, at-sum yearLen 903 0 i, start-none)

@@ -1,15 +1,17 @@
 -- The Gregorian calendar from 1 January 1996 to 31 December 2899.
---   isLeap y          = whether y is a isLeap year
---   daysInMonth l m    = days of month m, counted from 1, in a isLeap (l) or a common year; 0 for no month
---   monthStart l m  = days of the year before month m
---   yearLen k       = days of the year 1996 + k
---   yearStart k     = days from 1 January 1996 to 1 January of the year 1996 + k
+--   isLeap y         = whether y is a leap year
+--   daysInMonth l m  = days of month m, counted from 1, in a leap (l) or a common year; 0 for no month
+--   monthStart l m   = days of the year before month m
+--   yearLen k        = days of the year 1996 + k
+--   yearStart k      = days from 1 January 1996 to 1 January of the year 1996 + k
 --   isDate d         = whether d is a date of the range
---   indexOf d       = the index of a date, counted from 1 January 1996, or NoDate
---   yearOf i        = the year of the day with index i, counted from 1996, and the day in it, counted from 0
---   monthOf l r     = the month of day r of a year, and the day in it, counted from 0
---   dateOf i        = the date of the day with index i
---   weekday i     = the weekday of that day, Monday 0 to Sunday 6
+--   daysBefore d     = the days from 1 January 1996 to a date of the range: its index
+--   indexOf d        = the index of a date, or NoDate
+--   yearOf i         = the year of the day with index i, counted from 1996, and the day in it, counted from 0
+--   monthOf l r      = the month of day r of a year, and the day in it, counted from 0
+--   dateIn k r       = the date of day r of the year 1996 + k
+--   dateOf i         = the date of the day with index i
+--   weekday i        = the weekday of that day, Monday 0 to Sunday 6
 -- Source: document 01, first paragraph; the Gregorian calendar.
 use Prim.Native.Nat.{ℕ, _+_, _-_, _%_}
 use mathlib.Core.Bool.{Bool, not, _&&_, _||_, cond}
@@ -43,7 +45,9 @@ yearStart k = start yearLen k
 
 unfoldable pub isDate : Date → Bool
 isDate d =
-    leb 1996 (d .year) && (leb (d .year) 2899 && (leb 1 (d .month) && (leb (d .month) 12 && (leb 1 (d .day) && leb (d .day) (daysInMonth (isLeap (d .year)) (d .month))))))
+    leb 1996 (d .year) && (leb (d .year) 2899
+    && (leb 1 (d .month) && (leb (d .month) 12
+    && (leb 1 (d .day) && leb (d .day) (daysInMonth (isLeap (d .year)) (d .month))))))
 
 -- the days of the years, of the months and of the month before a date
 abbrev pub daysBefore : Date → ℕ

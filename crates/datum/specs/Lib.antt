@@ -1,3 +1,5 @@
 pub mod Calendar
 pub mod Floor
 pub mod MonthShift
+pub mod Monate
+pub mod Inside

@@ -1,5 +1,5 @@
 -- A date shifted by months, BGB §188: the day of the same number, or the month's last day where the month lacks it.
---   ordinalOf d           = the number of a date's month, counted from January of year 0
+--   ordinalOf d         = the number of a date's month, counted from January of year 0
 --   onMonth t x         = day x of the month numbered t, as above, or Outside where the calendar lacks that month
 --   addMonths d n       = n months later
 --   subtractMonths d n  = n months earlier
@@ -19,7 +19,9 @@ ordinalOf d = d .year * 12 + (d .month - 1)
 -- the day in month m of year y
 unfoldable pub inMonth : ℕ → ℕ → ℕ → Shifted
 inMonth y m x =
-    cond (leb 1996 y && leb y 2899) (On (record { year = y; month = m; day = min x (daysInMonth (isLeap y) m) })) Outside
+    cond (leb 1996 y && leb y 2899)
+    (On (record { year = y; month = m; day = min x (daysInMonth (isLeap y) m) }))
+    Outside
 
 unfoldable pub onMonth : ℤ → ℕ → Shifted
 onMonth (pos t) x = inMonth (t / 12) (t % 12 + 1) x

@@ -6,13 +6,39 @@ ghost use mathlib.Core.Path.{_≡_};
 ghost use Prim.Native.Nat.{_+_, _-_, _*_, _≤_, _<_};
 ghost use lib.IntN.{pos};
 ghost use Rattle.zaehlung.specs.Walk.{last, bit};
-ghost use Rattle.datum.specs.Calendar.{isLeap, yearStart, yearOf, daysInMonth, monthStart, monthOf, isDate, daysBefore, indexOf, dateOf, weekday};
+ghost use Rattle.datum.specs.Calendar.{isLeap, yearStart, yearOf, daysInMonth, monthStart, monthOf};
+ghost use Rattle.datum.specs.Calendar.{isDate, daysBefore, indexOf, dateOf, weekday};
 ghost use Rattle.datum.specs.Floor.{floorDiv, floorMod};
 ghost use Rattle.datum.specs.MonthShift.{ordinalOf, inMonth, onMonth, addMonths, subtractMonths};
 
+pub mod monate;
+
+/// The calendar's first year and its last.
 pub const FIRST_YEAR: u16 = 1996;
 
 pub const LAST_YEAR: u16 = 2899;
+
+/// The months of a year; and the widths in which months and years are counted.
+const MONTHS: u8 = 12;
+
+const MONTHS_32: u32 = MONTHS as u32;
+
+const MONTHS_64: i64 = MONTHS as i64;
+
+const FIRST_YEAR_32: u32 = FIRST_YEAR as u32;
+
+const FIRST_YEAR_64: i64 = FIRST_YEAR as i64;
+
+const LAST_YEAR_64: i64 = LAST_YEAR as i64;
+
+/// Every month has these days: a date with no later day needs no look at its month's length.
+const SHORTEST_MONTH: u8 = 28;
+
+/// The days of February in a leap year.
+const LEAP_FEBRUARY: u8 = SHORTEST_MONTH + 1;
+
+/// The days of a week; Monday is 0.
+const WEEK: u32 = 7;
 
 /// A date by value. Any three numbers may stand in it; `index_of` says which are a date of the range.
 pub struct Date {
@@ -33,7 +59,9 @@ pub enum Shifted {
     Outside,
 }
 
-/// Every fourth year, of the full hundreds every fourth: 2000 was one, 2100 is none.
+/// Whether a year has a 29 February: every fourth year, of the full hundreds every fourth.
+///
+/// 2024 and 2000 are leap years, 2023 and 2100 are none.
 pub fn is_leap(year: u16) -> bool
     ensures { λ r. ⌜ r ≡ isLeap year ⌝ }
 {
@@ -46,25 +74,31 @@ pub fn is_leap(year: u16) -> bool
     year % 400 == 0
 }
 
+/// The days of each month of a common year; no month is numbered 0.
 const DAYS_IN_MONTH: [u8; 13] = [0, 31, 28, 31, 30, 31, 30, 31, 31, 30, 31, 30, 31];
 
+/// The days of a month, January being 1, in a leap or a common year.
+///
 /// Months 0 and above 12 have no days.
+///
+/// February of 2024 has 29 days, of 2026 it has 28, and April always 30.
 pub fn days_in_month(leap: bool, month: u8) -> u8
     ensures { λ r. ⌜ (r ≡ daysInMonth leap month) × (r ≤ 31) ⌝ }
 {
-    if 12 < month {
+    if MONTHS < month {
         return 0;
     }
     if month == 2 {
         if leap {
-            return 29;
+            return LEAP_FEBRUARY;
         }
-        return 28;
+        return SHORTEST_MONTH;
     }
     let at = month as usize;
     DAYS_IN_MONTH[at]
 }
 
+/// The days of a common year before each month; 13 stands for the year's end.
 const DAYS_BEFORE_MONTH: [u32; 14] = [
     0,
     0,
@@ -97,13 +131,18 @@ fn month_start(leap: bool, month: u32) -> u32
     common
 }
 
+/// The year before the calendar's first, and the leap days of the years up to it.
+const YEAR_BEFORE: u32 = FIRST_YEAR_32 - 1;
+
+const LEAP_DAYS_BEFORE: u32 = YEAR_BEFORE / 4 + YEAR_BEFORE / 400 - YEAR_BEFORE / 100;
+
 /// The index of 1 January of the year 1996 + k, without a loop.
 fn year_start(k: u32) -> u32
     requires { ⌜ k ≤ 904 ⌝ }
     ensures { λ r. ⌜ (r ≡ yearStart k) × (r ≤ 331000) ⌝ }
 {
-    let y = k + 1995;
-    365 * k + (y / 4 + y / 400 - y / 100) - 483
+    let y = k + YEAR_BEFORE;
+    365 * k + (y / 4 + y / 400 - y / 100) - LEAP_DAYS_BEFORE
 }
 
 /// A year, counted from 1996, and a day of it, counted from 0.
@@ -112,7 +151,7 @@ struct YearDay {
     day: u32,
 }
 
-/// The year of a day. The guess is never proved to be good: the two loops set it right.
+/// The year of a day. The guess, 146,097 days in 400 years, is never proved to be good: the two loops set it right.
 fn year_of(index: u32) -> YearDay
     requires { ⌜ index ≤ last ⌝ }
     ensures { λ r. ⌜ (r .year ≡ yearOf index .0) × (r .day ≡ yearOf index .1) × (r .year ≤ 903) ⌝ }
@@ -142,7 +181,11 @@ fn month_of(leap: bool, day: u32) -> u32
     month
 }
 
-/// The index of a date of the range.
+/// The index of a date of the range: the days of the years, of the months and of the month before it.
+///
+/// Only a date of the range may be given; `index_of` takes any three numbers.
+///
+/// 1 January 1996 is 0, 1 March 2026 is 11,017, 31 December 2899 is 330,179.
 pub fn days_before(date: Date) -> u32
     requires { ⌜ isDate date ≡ true ⌝ }
     ensures { λ r. ⌜ (r ≡ daysBefore date) × (r ≤ last) ⌝ }
@@ -154,10 +197,11 @@ pub fn days_before(date: Date) -> u32
     year_start(k) + month_start(leap, month) + (day - 1)
 }
 
-/// Every month has these days: a date with no later day needs no look at its month's length.
-const SHORTEST_MONTH: u8 = 28;
-
-/// Whether three numbers are a date of the range. 29 February 2026 is none.
+/// Whether three numbers are a date from 1 January 1996 to 31 December 2899.
+///
+/// Any numbers may be asked, 0 and 255 too.
+///
+/// 29 February 2024 is one, 29 February 2026 and 1 January 2900 are none.
 pub fn is_date(date: Date) -> bool
     ensures { λ r. ⌜ r ≡ isDate date ⌝ }
 {
@@ -173,7 +217,7 @@ pub fn is_date(date: Date) -> bool
     if month < 1 {
         return false;
     }
-    if 12 < month {
+    if MONTHS < month {
         return false;
     }
     if day < 1 {
@@ -185,7 +229,11 @@ pub fn is_date(date: Date) -> bool
     day <= days_in_month(is_leap(year), month)
 }
 
-/// The index of a date: 1 January 1996 is 0, 31 December 2899 is 330,179.
+/// The index of a date, counted from 1 January 1996.
+///
+/// `NoDate` for three numbers that are no date of the range, as 29 February 2026.
+///
+/// 1 January 1996 is 0, 31 December 2899 is 330,179.
 pub fn index_of(date: Date) -> Index
     ensures { λ r. ⌜ r ≡ indexOf date ⌝ }
 {
@@ -195,7 +243,9 @@ pub fn index_of(date: Date) -> Index
     Index::NoDate
 }
 
-/// The date of an index: what `index_of` undoes.
+/// The date of an index of the calendar: `index_of` undoes it.
+///
+/// 0 is 1 January 1996, 59 is 29 February 1996, 330,179 is 31 December 2899.
 pub fn date_of(index: u32) -> Date
     requires { ⌜ index ≤ last ⌝ }
     ensures { λ r. ⌜ r ≡ dateOf index ⌝ }
@@ -203,20 +253,22 @@ pub fn date_of(index: u32) -> Date
     let at = year_of(index);
     let year = at.year;
     let day = at.day;
-    let leap = is_leap((1996 + year) as u16);
+    let leap = is_leap((FIRST_YEAR_32 + year) as u16);
     let month = month_of(leap, day);
     Date {
-        year: (1996 + year) as u16,
+        year: (FIRST_YEAR_32 + year) as u16,
         month: month as u8,
         day: (day - month_start(leap, month) + 1) as u8,
     }
 }
 
-/// Monday is 0: 1 January 1996 was a Monday.
+/// The weekday of a day given by its index, Monday 0 to Sunday 6.
+///
+/// Day 0, 1 January 1996, was a Monday; day 5, the Saturday after it, is 5.
 pub fn weekday(index: u32) -> u32
     ensures { λ r. ⌜ r ≡ weekday index ⌝ }
 {
-    index % 7
+    index % WEEK
 }
 
 /// A month of a year: the month is counted from 0, and either may lie before year 0.
@@ -229,12 +281,12 @@ struct YearMonth {
 fn split_months(t: i64) -> YearMonth
     ensures { λ r. ⌜ (r .year ≡ floorDiv t 12) × (r .month ≡ floorMod t 12) ⌝ }
 {
-    let year = t / 12;
-    let month = t % 12;
+    let year = t / MONTHS_64;
+    let month = t % MONTHS_64;
     if month < 0 {
         return YearMonth {
             year: year - 1,
-            month: month + 12,
+            month: month + MONTHS_64,
         };
     }
     YearMonth { year, month }
@@ -266,10 +318,10 @@ fn on_month(t: i64, day: u8) -> Shifted
     let at = split_months(t);
     let year = at.year;
     let month = at.month;
-    if year < 1996 {
+    if year < FIRST_YEAR_64 {
         return Shifted::Outside;
     }
-    if 2899 < year {
+    if LAST_YEAR_64 < year {
         return Shifted::Outside;
     }
     in_month(year as u16, (month + 1) as u8, day)
@@ -280,11 +332,15 @@ fn ordinal_of(date: Date) -> i64
     requires { ⌜ 1 ≤ date .month ⌝ }
     ensures { λ r. ⌜ r ≡ pos (ordinalOf date) ⌝ }
 {
-    let months = (date.year as u32) * 12 + ((date.month as u32) - 1);
+    let months = (date.year as u32) * MONTHS_32 + ((date.month as u32) - 1);
     months as i64
 }
 
-/// n months later, BGB §188: 31 January 2026 and 1 month is 28 February 2026.
+/// The date n months later, BGB §188: 'a day the target month lacks becomes its last'.
+///
+/// `Outside` where the year passes 2899. With n = 0 the date itself.
+///
+/// 31 January 2026 and 1 month is 28 February 2026; 15 November 2026 and 3 months is 15 February 2027.
 pub fn add_months(date: Date, n: u32) -> Shifted
     requires { ⌜ 1 ≤ date .month ⌝ }
     ensures { λ r. ⌜ r ≡ addMonths date n ⌝ }
@@ -292,7 +348,11 @@ pub fn add_months(date: Date, n: u32) -> Shifted
     on_month(ordinal_of(date) + (n as i64), date.day)
 }
 
-/// n months earlier, BGB §188: 31 March 2024 and 1 month is 29 February 2024.
+/// The date n months earlier, BGB §188: 'a day the target month lacks becomes its last'.
+///
+/// `Outside` where the year lies before 1996, or before year 0. With n = 0 the date itself.
+///
+/// 31 March 2024 less 1 month is 29 February 2024; 15 February 2027 less 3 months is 15 November 2026.
 pub fn subtract_months(date: Date, n: u32) -> Shifted
     requires { ⌜ 1 ≤ date .month ⌝ }
     ensures { λ r. ⌜ r ≡ subtractMonths date n ⌝ }

@@ -1,5 +1,7 @@
-// The cases A to M of document 01, worked out by calling the library: a line for each, the letter, a space, `ok` or `no`.
+// The cases A to M of document 01, worked out by calling the library: a line for each, the letter, a space, `ok` or
+// `no`.
 use antwortsatz::Answer;
+use antwortsatz::LOCAL_TIME_ABSENT;
 use datum::Date;
 use libc::STDOUT_FILENO;
 
@@ -44,14 +46,6 @@ fn on(month: u8, day: u8) -> Date {
         year: 2026,
         month,
         day,
-    }
-}
-
-fn none() -> Date {
-    Date {
-        year: 0,
-        month: 0,
-        day: 0,
     }
 }
 
@@ -122,7 +116,10 @@ fn case_e() -> bool {
     if mako_fristen::mf_vorlauf_span(LATEST_WERKTAGE_BEFORE, 1, 0, 2026, 1, 10, &mut left) != 0 {
         return false;
     }
-    is_answer(&left, antwortsatz::spanned(0, on(1, 13), none()))
+    is_answer(
+        &left,
+        antwortsatz::spanned(0, on(1, 13), antwortsatz::zero_date()),
+    )
 }
 
 // 8 January: 9 January TooLate, 1, 10 January; 10 January Ok.
@@ -163,7 +160,7 @@ fn case_f() -> bool {
     {
         return false;
     }
-    is_answer(&left, antwortsatz::judged(0, 0, none()))
+    is_answer(&left, antwortsatz::judged(0, 0, antwortsatz::zero_date()))
 }
 
 // 31 January: 28 February TooLate, 2, 28 February; span from 1 March.
@@ -191,7 +188,10 @@ fn case_g() -> bool {
     if mako_fristen::mf_vorlauf_span(LATEST_MONATE_BEFORE, 1, 0, 2026, 1, 31, &mut left) != 0 {
         return false;
     }
-    is_answer(&left, antwortsatz::spanned(0, on(3, 1), none()))
+    is_answer(
+        &left,
+        antwortsatz::spanned(0, on(3, 1), antwortsatz::zero_date()),
+    )
 }
 
 // Window 1 and 1 from 10 January: empty.
@@ -221,10 +221,10 @@ fn case_i() -> bool {
 // 29 March 02:30 is absent; 25 October 02:30 is 00:30 UTC.
 fn case_j() -> bool {
     let mut left = [1u8; 32];
-    if mako_fristen::mf_berlin_at(2026, 3, 29, 2, 30, 0, 0, &mut left) != 6 {
+    if mako_fristen::mf_berlin_at(2026, 3, 29, 2, 30, 0, 0, &mut left) != LOCAL_TIME_ABSENT {
         return false;
     }
-    if !is_answer(&left, antwortsatz::refused(6)) {
+    if !is_answer(&left, antwortsatz::refused(LOCAL_TIME_ABSENT)) {
         return false;
     }
     if mako_fristen::mf_berlin_at(2026, 10, 25, 2, 30, 0, 0, &mut left) != 0 {

@@ -1,4 +1,5 @@
--- What the proofs of this crate's functions cite: a lemma for each return, with premises in the form in which they stand there.
+-- What the proofs of this crate's functions cite: a lemma for each return, with premises in the form in which they
+-- stand there.
 --   clock-rules       clock_on                          seconds-rules   contrl_seconds
 --   contrl-rules      contrl_due_at                     window-rules    in_window
 --   date-rules        the four dates of the windows     window-end-rules   toleranz_in
@@ -12,25 +13,26 @@ use Prim.Native.Nat.{ℕ, _+_, _-_, _*_, _≤_, _<_}
 use mathlib.Core.Bool.{Bool, true, false, not}
 use mathlib.Core.Path.{_≡_, refl, sym, ap, _∙_}
 use native.Mathlib.Omega.{arith}
+use native.Mathlib.Numerals.{add-one}
 use lib.Dec.{eqb}
 use lib.ListN.{getD, drop}
 use borrow.Author.Tests.{lt-ltb, le-ltb, le-leb, eq-eqb, ne-eqb, not-true, not-false}
 use Rattle.zaehlung.specs.declared.Step.{Step}
 use Rattle.zaehlung.specs.declared.Step.the-variants.{Day, Outside as Left}
-use Rattle.zaehlung.specs.Walk.{last, add}
+use Rattle.zaehlung.specs.Walk.{last, add, dayAfter}
 use Rattle.zaehlung.proofs.Laws.{add-inside}
 use Rattle.datum.specs.declared.Date.{Date}
 use Rattle.datum.specs.Calendar.{daysInMonth, isDate, dateOf, weekday}
 use Rattle.datum.proofs.Dates.{index-date}
-use Rattle.werktag.specs.declared.HolidayCalendar.{HolidayCalendar}
-use Rattle.werktag.specs.Werktag.{any, isWerktag}
+use Rattle.werktag.specs.Werktag.{any}
 use Rattle.werktag.proofs.Search.{search-hit, search-miss, search-none}
 use Rattle.berlin.specs.declared.Moment.{Moment}
 use Rattle.berlin.specs.declared.Clock.{Clock}
 use Rattle.berlin.specs.declared.Resolved.{Resolved}
 use Rattle.berlin.specs.declared.Resolved.the-variants.{At as Shown, Absent as Never}
-use Rattle.berlin.specs.Berlin.{Proper, ProperClock, berlinAt, berlinMidnight, endOfDayBerlin}
-use Rattle.berlin.proofs.Proper.{at-proper, midnight-proper, end-proper}
+use Rattle.berlin.specs.Berlin.{isBefore, berlinAt, berlinMidnight, endOfDayBerlin}
+use Rattle.berlin.specs.Inside.{Proper, ProperClock}
+use Rattle.berlin.proofs.Proper.{at-proper, shown-second, midnight-proper, end-proper}
 use Rattle.fristen.specs.declared.Due.{Due}
 use Rattle.fristen.specs.declared.Due.the-variants.{At, Absent, Outside}
 use Rattle.fristen.specs.declared.GasDue.{GasDue}
@@ -38,23 +40,21 @@ use Rattle.fristen.specs.declared.ContrlAnlass.{ContrlAnlass}
 use Rattle.fristen.specs.declared.ContrlAnlass.the-variants.{Regelfall, StromUtilmdOderOrders, GasAlocat}
 use Rattle.fristen.specs.declared.FristShape.{FristShape}
 use Rattle.fristen.specs.declared.FristShape.the-variants.{WerktagAt, EndOfWerktag, SameDayAt, SameDay}
-use Rattle.fristen.specs.Fristen.{contrlFrist, contrlStromSchnell, contrlAlocat, aperakStrom, noon, windowOpens, receiptDay, isSaturday, before, later, resolved, dayAfter, contrlSeconds, onDate, inWindow, toleratedIn, tolerated, contrlDueAt}
-use Rattle.fristen.specs.Fristen.{atLeastOne, nthWerktagAt, nextWerktagAt, endOfWerktagAfter, aperakStromDueAt, initialPids, isInitial, aperakGasDueAt, properDue}
-use Rattle.fristen.specs.Antwort.{sameDayAt, sameDay, dueAt, properShape}
-
--- the bounds of a window, and the clock on the receipt day, are compared with an instant
-pub midnight-second : (d : ℕ) (r : Moment) → d ≤ last → r ≡ berlinMidnight d → r .second < 86400
-midnight-second d r h e = midnight-proper d h r e .second-lt
-
-pub shown-second : (d : ℕ) (c : Clock) (x : Resolved) (a : Moment) → d ≤ last → ProperClock c → x ≡ berlinAt d c → x ≡ Shown a → a .second < 86400
-shown-second d c x a h p e q = at-proper d c x a h p e q .second-lt
+use Rattle.fristen.specs.Fristen.{contrlFrist, contrlStromSchnell, contrlAlocat, aperakStromUtilmdOrders, noon}
+use Rattle.fristen.specs.Fristen.{windowOpens, receiptDay, isSaturday, instantLater, clockOn, contrlSeconds}
+use Rattle.fristen.specs.Fristen.{dayOn}
+use Rattle.fristen.specs.Fristen.{inWindow, toleranzIn, formatumstellungToleranz, contrlDueAt, atLeastOne}
+use Rattle.fristen.specs.Fristen.{nthWerktagAt, nextWerktagAt, endOfWerktagAfter, aperakStromDueAt}
+use Rattle.fristen.specs.Fristen.{gasInitialprozessPids, isInitial, aperakGasDueAt}
+use Rattle.fristen.specs.FristShape.{sameDayAt, sameDay, dueAtOf}
+use Rattle.fristen.specs.Inside.{properDue, properShape}
 
 -- clock_on: x is what `berlin_at` returned
 module _ (d : ℕ) (c : Clock) (x : Resolved) (e : x ≡ berlinAt d c) where
-  pub clock-shown : (a : Moment) → x ≡ Shown a → At a ≡ resolved (berlinAt d c)
+  pub clock-shown : (a : Moment) → x ≡ Shown a → At a ≡ clockOn d c
   clock-shown a q = rw (sym e ∙ q)
 
-  pub clock-absent : x ≡ Never → Absent ≡ resolved (berlinAt d c)
+  pub clock-absent : x ≡ Never → Absent ≡ clockOn d c
   clock-absent q = rw (sym e ∙ q)
 
 pub ruleset clock-rules = (clock-shown, clock-absent, at-proper)
@@ -84,11 +84,11 @@ module _ (d : ℕ) (a : ContrlAnlass) where
 pub ruleset seconds-rules = (regelfall, strom-saturday, strom-other, alocat)
 
 -- contrl_due_at: d is the receipt day, t the seconds, u the due instant before the tolerance
-module _ (m : Moment) (a : ContrlAnlass) (d t : ℕ) (u : Due) (p : d ≡ receiptDay m) (q : t ≡ contrlSeconds d a) (e : u ≡ later m (0 * 86400 + t)) where
-  contrl-is : u ≡ later m (contrlSeconds (receiptDay m) a)
-  contrl-is = let z : 0 * 86400 + t ≡ t = omega arith in e ∙ ap (later m) (z ∙ q ∙ ap (λ (x : ℕ). contrlSeconds x a) p)
+module _ (m : Moment) (a : ContrlAnlass) (d t : ℕ) (u : Due) (p : d ≡ receiptDay m) (q : t ≡ contrlSeconds d a) (e : u ≡ instantLater m (0 * 86400 + t)) where
+  contrl-is : u ≡ instantLater m (contrlSeconds (receiptDay m) a)
+  contrl-is = let z : 0 * 86400 + t ≡ t = omega arith in e ∙ ap (instantLater m) (z ∙ q ∙ ap (λ (x : ℕ). contrlSeconds x a) p)
 
-  pub contrl-at : (x r : Moment) → u ≡ At x → r ≡ tolerated x → At r ≡ contrlDueAt m a
+  pub contrl-at : (x r : Moment) → u ≡ At x → r ≡ formatumstellungToleranz x → At r ≡ contrlDueAt m a
   unfolding contrlDueAt
   contrl-at x r k l = rw (sym contrl-is ∙ k, l)
 
@@ -107,20 +107,24 @@ due-proper Outside x p e = let z : _≡_ {A = ℕ} 0 1 = cc in absurd (omega ari
 
 pub ruleset contrl-rules = (contrl-at, contrl-absent, contrl-outside, due-proper)
 
--- in_window: x is what `berlin_at` returned, f and g what `is_before` returned, z the midnight
-module _ (a b : ℕ) (m : Moment) (x : Resolved) (e : x ≡ berlinAt a windowOpens) where
+-- in_window: c is what `o_clock` returned, x what `berlin_at` returned, f and g what `is_before` returned, z the
+-- midnight
+module _ (a b : ℕ) (m : Moment) (c : Clock) (x : Resolved) (u : c ≡ windowOpens) (e : x ≡ berlinAt a c) where
+  opens : (y : Resolved) → x ≡ y → berlinAt a windowOpens ≡ y
+  opens y q = ap (berlinAt a) (sym u) ∙ sym e ∙ q
+
   pub no-opening : x ≡ Never → false ≡ inWindow a b m
   unfolding inWindow
-  no-opening q = rw (sym e ∙ q)
+  no-opening q = rw (opens Never q)
 
-  module _ (o : Moment) (q : x ≡ Shown o) (f : Bool) (k : f ≡ before m o) where
+  module _ (o : Moment) (q : x ≡ Shown o) (f : Bool) (k : f ≡ isBefore m o) where
     pub before-window : f ≡ true → false ≡ inWindow a b m
     unfolding inWindow
-    before-window y = rw (sym e ∙ q, sym k ∙ y)
+    before-window y = rw (opens (Shown o) q, sym k ∙ y)
 
-    pub from-window : (z : Moment) (g : Bool) → f ≡ false → z ≡ berlinMidnight b → g ≡ before m z → g ≡ inWindow a b m
+    pub from-window : (z : Moment) (g : Bool) → f ≡ false → z ≡ berlinMidnight b → g ≡ isBefore m z → g ≡ inWindow a b m
     unfolding inWindow
-    from-window z g y l n = rw (sym e ∙ q, sym k ∙ y, ← l) n
+    from-window z g y l n = rw (opens (Shown o) q, sym k ∙ y, ← l) n
 
 pub ruleset window-rules = (no-opening, before-window, from-window)
 
@@ -143,18 +147,18 @@ module _ (y : ℕ) (h : 1996 ≤ y) (k : y ≤ 2899) where
   october-2 = rw (le-leb 1996 y h, le-leb y 2899 k)
 
 -- a and b, v and w are the days of the windows, f and g what `in_window` returned
-module _ (m : Moment) (y a b : ℕ) (k : a ≡ onDate y 3 31) (l : b ≡ onDate y 4 2) (f : Bool) (u : f ≡ inWindow a b m) where
-  pub spring : (r : Moment) → f ≡ true → r ≡ berlinMidnight b → r ≡ toleratedIn y m
-  unfolding toleratedIn
+module _ (m : Moment) (y a b : ℕ) (k : a ≡ dayOn y 3 31) (l : b ≡ dayOn y 4 2) (f : Bool) (u : f ≡ inWindow a b m) where
+  pub spring : (r : Moment) → f ≡ true → r ≡ berlinMidnight b → r ≡ toleranzIn y m
+  unfolding toleranzIn
   spring r t q = rw (← k, ← l, sym u ∙ t) q
 
-  module _ (v w : ℕ) (n : f ≡ false) (i : v ≡ onDate y 9 30) (j : w ≡ onDate y 10 2) (g : Bool) (o : g ≡ inWindow v w m) where
-    pub autumn : (r : Moment) → g ≡ true → r ≡ berlinMidnight w → r ≡ toleratedIn y m
-    unfolding toleratedIn
+  module _ (v w : ℕ) (n : f ≡ false) (i : v ≡ dayOn y 9 30) (j : w ≡ dayOn y 10 2) (g : Bool) (o : g ≡ inWindow v w m) where
+    pub autumn : (r : Moment) → g ≡ true → r ≡ berlinMidnight w → r ≡ toleranzIn y m
+    unfolding toleranzIn
     autumn r t q = rw (← k, ← l, sym u ∙ n, ← i, ← j, sym o ∙ t) q
 
-    pub no-window : g ≡ false → m ≡ toleratedIn y m
-    unfolding toleratedIn
+    pub no-window : g ≡ false → m ≡ toleranzIn y m
+    unfolding toleranzIn
     no-window t = rw (← k, ← l, sym u ∙ n, ← i, ← j, sym o ∙ t)
 
 pub ruleset date-rules = (march-31, april-2, september-30, october-2)
@@ -169,13 +173,13 @@ module _ (d : ℕ) (t : Date) (e : t ≡ dateOf d) where
   pub year-to : d ≤ last → t .year ≤ 2899
   year-to h = rw e (index-date d h .0 .to)
 
-  pub in-year : (m r : Moment) → d ≡ receiptDay m → r ≡ toleratedIn (t .year) m → r ≡ tolerated m
-  unfolding tolerated
+  pub in-year : (m r : Moment) → d ≡ receiptDay m → r ≡ toleranzIn (t .year) m → r ≡ formatumstellungToleranz m
+  unfolding formatumstellungToleranz
   in-year m r p q = rw (← p, ← e) q
 
 pub ruleset toleranz-rules = (year-from, year-to, in-year)
 
--- aperak_strom_due_at: d is the receipt day, b what `is_saturday` returned
+-- aperak_strom_due_at: d is the receipt day, b what `is_saturday` returned, c what `o_clock` returned
 module _ (m : Moment) (d : ℕ) (b : Bool) (p : d ≡ receiptDay m) (e : b ≡ isSaturday d) where
   saturday-is : isSaturday (receiptDay m) ≡ b
   saturday-is = ap isSaturday (sym p) ∙ sym e
@@ -184,45 +188,49 @@ module _ (m : Moment) (d : ℕ) (b : Bool) (p : d ≡ receiptDay m) (e : b ≡ i
   unfolding aperakStromDueAt dayAfter
   strom-edge y h = rw (saturday-is ∙ y, ← p, le-ltb d last h)
 
-  pub strom-sunday : (r : Due) → b ≡ true → d < last → r ≡ resolved (berlinAt (d + 1) noon) → r ≡ aperakStromDueAt m
+  pub strom-sunday : (c : Clock) (r : Due) → b ≡ true → d < last → c ≡ noon → r ≡ clockOn (d + 1) c → r ≡ aperakStromDueAt m
   unfolding aperakStromDueAt dayAfter
-  strom-sunday r y h q = rw (saturday-is ∙ y, ← p, lt-ltb d last h) q
+  strom-sunday c r y h u q = rw (saturday-is ∙ y, ← p, lt-ltb d last h, ← add-one d, ← u) q
 
-  pub strom-day : (r : Due) → b ≡ false → r ≡ later m aperakStrom → r ≡ aperakStromDueAt m
+  pub strom-day : (r : Due) → b ≡ false → r ≡ instantLater m aperakStromUtilmdOrders → r ≡ aperakStromDueAt m
   unfolding aperakStromDueAt
   strom-day r y q = rw (saturday-is ∙ y) q
 
 pub ruleset strom-rules = (strom-edge, strom-sunday, strom-day)
 
 -- is_initial
-pub pid-start : (pid : ℕ) → any (eqb pid) (drop 0 initialPids) ≡ isInitial pid
+pub pid-start : (pid : ℕ) → any (eqb pid) (drop 0 gasInitialprozessPids) ≡ isInitial pid
 unfolding isInitial
 pid-start pid = refl
 
-module _ (pid i : ℕ) (e : any (eqb pid) (drop i initialPids) ≡ isInitial pid) where
-  whole : any (eqb pid) (drop i initialPids) ≡ any (eqb pid) initialPids
+module _ (pid i : ℕ) (e : any (eqb pid) (drop i gasInitialprozessPids) ≡ isInitial pid) where
+  whole : any (eqb pid) (drop i gasInitialprozessPids) ≡ any (eqb pid) gasInitialprozessPids
   unfolding isInitial
   whole = e
 
-  pub pid-hit : i < 4 → pid ≡ getD initialPids i 0 → true ≡ isInitial pid
+  pub pid-hit : i < 4 → pid ≡ getD gasInitialprozessPids i 0 → true ≡ isInitial pid
   unfolding isInitial
-  pid-hit h q = search-hit (eqb pid) initialPids 0 i whole h (eq-eqb pid (getD initialPids i 0) q)
+  pid-hit h q = search-hit (eqb pid) gasInitialprozessPids 0 i whole h (eq-eqb pid (getD gasInitialprozessPids i 0) q)
 
-  pub pid-miss : i < 4 → (pid ≡ getD initialPids i 0 → ⊥) → any (eqb pid) (drop (i + 1) initialPids) ≡ isInitial pid
+  pub pid-miss : i < 4 → (pid ≡ getD gasInitialprozessPids i 0 → ⊥) → any (eqb pid) (drop (i + 1) gasInitialprozessPids) ≡ isInitial pid
   unfolding isInitial
-  pid-miss h q = search-miss (eqb pid) initialPids 0 i whole h (ne-eqb pid (getD initialPids i 0) q)
+  pid-miss h q = search-miss (eqb pid) gasInitialprozessPids 0 i whole h (ne-eqb pid (getD gasInitialprozessPids i 0) q)
 
   pub pid-none : 4 ≤ i → false ≡ isInitial pid
   unfolding isInitial
-  pid-none h = search-none (eqb pid) initialPids 0 i whole h
+  pid-none h = search-none (eqb pid) gasInitialprozessPids 0 i whole h
+
+-- aperak_strom_allgemein_due_at, aperak_gas_folgeprozess_due_at: c is what `o_clock` returned, r the due instant
+pub at-noon : (w : ℕ → Bool) (m : Moment) (c : Clock) (r : Due) → c ≡ noon → r ≡ nextWerktagAt w m c → r ≡ nextWerktagAt w m noon
+at-noon w m c r u q = rw u at q
 
 -- aperak_gas_due_at: b is what `is_initial` returned, r the due instant
-module _ (pid : ℕ) (m : Moment) (cal : HolidayCalendar) (b : Bool) (r : Due) (e : b ≡ isInitial pid) where
-  pub gas-initial : b ≡ true → r ≡ endOfWerktagAfter m 3 cal → _≡_ {A = GasDue} (record { initial = true; due = r }) (aperakGasDueAt pid m cal)
+module _ (w : ℕ → Bool) (pid : ℕ) (m : Moment) (b : Bool) (r : Due) (e : b ≡ isInitial pid) where
+  pub gas-initial : b ≡ true → r ≡ endOfWerktagAfter w m 3 → _≡_ {A = GasDue} (record { initial = true; due = r }) (aperakGasDueAt w pid m)
   unfolding aperakGasDueAt
   gas-initial y q = rw (sym e ∙ y, q)
 
-  pub gas-folge : b ≡ false → r ≡ nextWerktagAt m noon cal → _≡_ {A = GasDue} (record { initial = false; due = r }) (aperakGasDueAt pid m cal)
+  pub gas-folge : b ≡ false → r ≡ nextWerktagAt w m noon → _≡_ {A = GasDue} (record { initial = false; due = r }) (aperakGasDueAt w pid m)
   unfolding aperakGasDueAt
   gas-folge y q = rw (sym e ∙ y, q)
 
@@ -236,54 +244,54 @@ pub one-or-more : (n : ℕ) → (n ≡ 0 → ⊥) → n ≡ atLeastOne n
 one-or-more n h = rw (ne-eqb n 0 h)
 
 -- nth_werktag_at, end_of_werktag_after: d is the receipt day, x the step of k Werktage from it
-module _ (m : Moment) (n k d : ℕ) (cal : HolidayCalendar) (x : Step) (p : d ≡ receiptDay m) (e : x ≡ add (isWerktag cal) d k) where
+module _ (w : ℕ → Bool) (m : Moment) (n k d : ℕ) (x : Step) (p : d ≡ receiptDay m) (e : x ≡ add w d k) where
   pub reached : (y : ℕ) → d ≤ last → x ≡ Day y → y ≤ last
-  reached y h q = add-inside (isWerktag cal) d k y h (sym e ∙ q)
+  reached y h q = add-inside w d k y h (sym e ∙ q)
 
-  step-is : (y : Step) → x ≡ y → add (isWerktag cal) (receiptDay m) k ≡ y
-  step-is y q = ap (λ (z : ℕ). add (isWerktag cal) z k) (sym p) ∙ sym e ∙ q
+  step-is : (y : Step) → x ≡ y → add w (receiptDay m) k ≡ y
+  step-is y q = ap (λ (z : ℕ). add w z k) (sym p) ∙ sym e ∙ q
 
-  pub nth-out : (c : Clock) → k ≡ atLeastOne n → x ≡ Left → Outside ≡ nthWerktagAt m n c cal
+  pub nth-out : (c : Clock) → k ≡ atLeastOne n → x ≡ Left → Outside ≡ nthWerktagAt w m n c
   unfolding nthWerktagAt
   nth-out c g q = rw (← g, step-is Left q)
 
-  pub nth-day : (c : Clock) (y : ℕ) (r : Due) → k ≡ atLeastOne n → x ≡ Day y → r ≡ resolved (berlinAt y c) → r ≡ nthWerktagAt m n c cal
+  pub nth-day : (c : Clock) (y : ℕ) (r : Due) → k ≡ atLeastOne n → x ≡ Day y → r ≡ clockOn y c → r ≡ nthWerktagAt w m n c
   unfolding nthWerktagAt
   nth-day c y r g q l = rw (← g, step-is (Day y) q) l
 
-  pub end-out : x ≡ Left → Outside ≡ endOfWerktagAfter m k cal
+  pub end-out : x ≡ Left → Outside ≡ endOfWerktagAfter w m k
   unfolding endOfWerktagAfter
   end-out q = rw (step-is Left q)
 
-  pub end-day : (y : ℕ) (r : Moment) → x ≡ Day y → r ≡ endOfDayBerlin y → At r ≡ endOfWerktagAfter m k cal
+  pub end-day : (y : ℕ) (r : Moment) → x ≡ Day y → r ≡ endOfDayBerlin y → At r ≡ endOfWerktagAfter w m k
   unfolding endOfWerktagAfter
   end-day y r q l = rw (step-is (Day y) q, l)
 
 pub ruleset werktag-rules = (reached, nth-out, nth-day, end-out, end-day, end-proper)
 
 -- same_day_at: d is the receipt day, x what `berlin_at` returned, b what `is_werktag` and f what `is_before` returned
-module _ (m : Moment) (c : Clock) (cal : HolidayCalendar) (d : ℕ) (x : Resolved) (p : d ≡ receiptDay m) (e : x ≡ berlinAt d c) where
+module _ (w : ℕ → Bool) (m : Moment) (c : Clock) (d : ℕ) (x : Resolved) (p : d ≡ receiptDay m) (e : x ≡ berlinAt d c) where
   shown-is : (y : Resolved) → x ≡ y → berlinAt (receiptDay m) c ≡ y
   shown-is y q = ap (λ (z : ℕ). berlinAt z c) (sym p) ∙ sym e ∙ q
 
-  pub same-absent : x ≡ Never → Absent ≡ sameDayAt m c cal
+  pub same-absent : x ≡ Never → Absent ≡ sameDayAt w m c
   unfolding sameDayAt
   same-absent q = rw (shown-is Never q)
 
-  module _ (a : Moment) (q : x ≡ Shown a) (b : Bool) (k : b ≡ isWerktag cal d) where
-    open-is : (y : Bool) → b ≡ y → isWerktag cal (receiptDay m) ≡ y
-    open-is y z = ap (isWerktag cal) (sym p) ∙ sym k ∙ z
+  module _ (a : Moment) (q : x ≡ Shown a) (b : Bool) (k : b ≡ w d) where
+    open-is : (y : Bool) → b ≡ y → w (receiptDay m) ≡ y
+    open-is y z = ap w (sym p) ∙ sym k ∙ z
 
-    pub same-shut : (r : Due) → not b ≡ true → r ≡ nextWerktagAt m c cal → r ≡ sameDayAt m c cal
+    pub same-shut : (r : Due) → not b ≡ true → r ≡ nextWerktagAt w m c → r ≡ sameDayAt w m c
     unfolding sameDayAt
     same-shut r y g = rw (shown-is (Shown a) q, open-is false (not-true b y)) g
 
-    module _ (f : Bool) (y : not b ≡ false) (l : f ≡ before m a) where
-      pub same-day : f ≡ true → At a ≡ sameDayAt m c cal
+    module _ (f : Bool) (y : not b ≡ false) (l : f ≡ isBefore m a) where
+      pub same-day : f ≡ true → At a ≡ sameDayAt w m c
       unfolding sameDayAt
       same-day z = rw (shown-is (Shown a) q, open-is true (not-false b y), sym l ∙ z)
 
-      pub same-late : (r : Due) → f ≡ false → r ≡ nextWerktagAt m c cal → r ≡ sameDayAt m c cal
+      pub same-late : (r : Due) → f ≡ false → r ≡ nextWerktagAt w m c → r ≡ sameDayAt w m c
       unfolding sameDayAt
       same-late r z g = rw (shown-is (Shown a) q, open-is true (not-false b y), sym l ∙ z) g
 
@@ -296,23 +304,24 @@ same-end m d r p q = rw (← p, q)
 pub ruleset end-rules = (same-end, end-proper)
 
 -- due_at
-module _ (s : FristShape) (m : Moment) (cal : HolidayCalendar) where
-  pub due-werktag : (n : ℕ) (c : Clock) (r : Due) → s ≡ WerktagAt n c → r ≡ nthWerktagAt m n c cal → r ≡ dueAt s m cal
-  unfolding dueAt
+module _ (w : ℕ → Bool) (s : FristShape) (m : Moment) where
+  pub due-werktag : (n : ℕ) (c : Clock) (r : Due) → s ≡ WerktagAt n c → r ≡ nthWerktagAt w m n c → r ≡ dueAtOf w s m
+  unfolding dueAtOf
   due-werktag n c r e p = rw e p
 
-  pub due-end : (n : ℕ) (r : Due) → s ≡ EndOfWerktag n → r ≡ endOfWerktagAfter m n cal → r ≡ dueAt s m cal
-  unfolding dueAt
+  pub due-end : (n : ℕ) (r : Due) → s ≡ EndOfWerktag n → r ≡ endOfWerktagAfter w m n → r ≡ dueAtOf w s m
+  unfolding dueAtOf
   due-end n r e p = rw e p
 
-  pub due-same-at : (c : Clock) (r : Due) → s ≡ SameDayAt c → r ≡ sameDayAt m c cal → r ≡ dueAt s m cal
-  unfolding dueAt
+  pub due-same-at : (c : Clock) (r : Due) → s ≡ SameDayAt c → r ≡ sameDayAt w m c → r ≡ dueAtOf w s m
+  unfolding dueAtOf
   due-same-at c r e p = rw e p
 
-  pub due-same : (r : Due) → s ≡ SameDay → r ≡ sameDay m → r ≡ dueAt s m cal
-  unfolding dueAt
+  pub due-same : (r : Due) → s ≡ SameDay → r ≡ sameDay m → r ≡ dueAtOf w s m
+  unfolding dueAtOf
   due-same r e p = rw e p
 
+module _ (s : FristShape) where
   pub clock-of-werktag : (n : ℕ) (c : Clock) → properShape s → s ≡ WerktagAt n c → ProperClock c
   clock-of-werktag n c p e = rw e at p
 

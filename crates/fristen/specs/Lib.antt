@@ -1,2 +1,3 @@
 pub mod Fristen
-pub mod Antwort
+pub mod FristShape
+pub mod Inside

@@ -1,8 +1,8 @@
 // The host calls: read the numbers, ask for the answer, write its 32 bytes.
 //
-// Each call's promise is one equation: the number that it returns and the slice as it leaves it are what a definition gives,
-// which stands in specs/ of `antworten`, `antworten_frist` or `antworten_vorlauf`. Refusal 1 is the writer's; every other is
-// decided in the answer.
+// Each call's promise is one equation: the number that it returns and the slice as it leaves it are what a definition
+// gives, which stands in specs/ of `antworten`, `antworten_frist` or `antworten_vorlauf`. Refusal 1 is the writer's;
+// every other is decided in the answer.
 mod frist;
 mod kalender;
 mod uhrzeit;

@@ -3,10 +3,12 @@ ghost use mathlib.Core.Path.{_≡_};
 ghost use Rattle.antwortsatz.specs.Bytes.{repliedTo};
 ghost use Rattle.berlin.specs.Berlin.{readInstant, readClock};
 ghost use Rattle.antworten.specs.Reading.{dateFrom};
-ghost use Rattle.antworten.specs.Uhrzeit.{berlinAtAnswer, berlinMidnightAnswer, endOfDayBerlinAnswer, tagesbeginnUtcAnswer, berlinDateAnswer, tagDesBeginnsAnswer};
+ghost use Rattle.antworten.specs.Uhrzeit.{berlinAtAnswer, berlinMidnightAnswer, endOfDayBerlinAnswer};
+ghost use Rattle.antworten.specs.Uhrzeit.{tagesbeginnUtcAnswer, berlinDateAnswer, tagDesBeginnsAnswer};
 use datum::Date;
 
-/// The instant at which the Berlin clock shows a time on a date; a repeated time means its earlier instant.
+/// The instant at which the Berlin clock shows a time on a date. "A repeated local time means its earlier instant": 25
+/// October 2026 02:30 is 00:30 UTC. 29 March 02:30 is absent: refusal 6.
 #[no_mangle]
 pub extern "C" fn mf_berlin_at(
     year: u16,
@@ -18,7 +20,10 @@ pub extern "C" fn mf_berlin_at(
     nanos_of_second: u32,
     answer: &mut [u8],
 ) -> u8
-    ensures { λ r. ⌜ (r, now (answer .exit)) ≡ repliedTo (now (answer .entry)) (berlinAtAnswer (dateFrom year month day) (readClock hour minute second «nanos_of_second»)) ⌝ }
+    ensures { λ r. ⌜
+        (r, now (answer .exit)) ≡ repliedTo (now (answer .entry))
+        (berlinAtAnswer (dateFrom year month day) (readClock hour minute second «nanos_of_second»))
+        ⌝ }
 {
     let date = Date { year, month, day };
     let clock = berlin::read_clock(hour, minute, second, nanos_of_second);
@@ -26,27 +31,34 @@ pub extern "C" fn mf_berlin_at(
     antwortsatz::reply(answer, a)
 }
 
-/// The first instant of a Berlin day.
+/// The first instant of a Berlin day: 9 January 2026 begins on the 8th at 23:00 UTC, 9 July on the 8th at 22:00.
 #[no_mangle]
 pub extern "C" fn mf_berlin_midnight(year: u16, month: u8, day: u8, answer: &mut [u8]) -> u8
-    ensures { λ r. ⌜ (r, now (answer .exit)) ≡ repliedTo (now (answer .entry)) (berlinMidnightAnswer (dateFrom year month day)) ⌝ }
+    ensures { λ r. ⌜
+        (r, now (answer .exit)) ≡ repliedTo (now (answer .entry))
+        (berlinMidnightAnswer (dateFrom year month day))
+        ⌝ }
 {
     let date = Date { year, month, day };
     let a = antworten::uhrzeit::berlin_midnight_answer(date);
     antwortsatz::reply(answer, a)
 }
 
-/// The last instant of a Berlin day, 23:59:59.999999999.
+/// The last instant of a Berlin day, 23:59:59.999999999: that of 9 January 2026 is 22:59:59.999999999 UTC.
 #[no_mangle]
 pub extern "C" fn mf_end_of_day_berlin(year: u16, month: u8, day: u8, answer: &mut [u8]) -> u8
-    ensures { λ r. ⌜ (r, now (answer .exit)) ≡ repliedTo (now (answer .entry)) (endOfDayBerlinAnswer (dateFrom year month day)) ⌝ }
+    ensures { λ r. ⌜
+        (r, now (answer .exit)) ≡ repliedTo (now (answer .entry))
+        (endOfDayBerlinAnswer (dateFrom year month day))
+        ⌝ }
 {
     let date = Date { year, month, day };
     let a = antworten::uhrzeit::end_of_day_berlin_answer(date);
     antwortsatz::reply(answer, a)
 }
 
-/// The instant at which a day begins in a Sparte: Strom at 00:00, Gas at 06:00 Berlin.
+/// The instant at which a day begins in a Sparte: "Strom begins at 00:00, Gas at 06:00 Berlin." The Gas day 29 March
+/// 2026 begins at 04:00 UTC. Code 2 is no Sparte: refusal 2, before the date is looked at.
 #[no_mangle]
 pub extern "C" fn mf_tagesbeginn_utc(
     year: u16,
@@ -55,27 +67,37 @@ pub extern "C" fn mf_tagesbeginn_utc(
     sparte: u8,
     answer: &mut [u8],
 ) -> u8
-    ensures { λ r. ⌜ (r, now (answer .exit)) ≡ repliedTo (now (answer .entry)) (tagesbeginnUtcAnswer (dateFrom year month day) sparte) ⌝ }
+    ensures { λ r. ⌜
+        (r, now (answer .exit)) ≡ repliedTo (now (answer .entry))
+        (tagesbeginnUtcAnswer (dateFrom year month day) sparte)
+        ⌝ }
 {
     let date = Date { year, month, day };
     let a = antworten::uhrzeit::tagesbeginn_utc_answer(date, sparte);
     antwortsatz::reply(answer, a)
 }
 
-/// The Berlin date of an instant.
+/// The Berlin date of an instant, not the UTC date: 8 January 2026 23:30 UTC is 9 January.
 #[no_mangle]
 pub extern "C" fn mf_berlin_date(seconds: i64, nanos: u32, answer: &mut [u8]) -> u8
-    ensures { λ r. ⌜ (r, now (answer .exit)) ≡ repliedTo (now (answer .entry)) (berlinDateAnswer (readInstant seconds nanos)) ⌝ }
+    ensures { λ r. ⌜
+        (r, now (answer .exit)) ≡ repliedTo (now (answer .entry))
+        (berlinDateAnswer (readInstant seconds nanos))
+        ⌝ }
 {
     let instant = berlin::read_instant(seconds, nanos);
     let a = antworten::uhrzeit::berlin_date_answer(instant);
     antwortsatz::reply(answer, a)
 }
 
-/// The date of the day that begins at an instant in a Sparte.
+/// The date of the day that begins at an instant in a Sparte: 29 March 2026 04:00 UTC begins the Gas day 29 March, and
+/// no Strom day: refusal 7.
 #[no_mangle]
 pub extern "C" fn mf_tag_des_beginns(seconds: i64, nanos: u32, sparte: u8, answer: &mut [u8]) -> u8
-    ensures { λ r. ⌜ (r, now (answer .exit)) ≡ repliedTo (now (answer .entry)) (tagDesBeginnsAnswer (readInstant seconds nanos) sparte) ⌝ }
+    ensures { λ r. ⌜
+        (r, now (answer .exit)) ≡ repliedTo (now (answer .entry))
+        (tagDesBeginnsAnswer (readInstant seconds nanos) sparte)
+        ⌝ }
 {
     let instant = berlin::read_instant(seconds, nanos);
     let a = antworten::uhrzeit::tag_des_beginns_answer(instant, sparte);

@@ -1,25 +1,41 @@
 -- A turn and a return of each loop, for any test w of a day: what a loop's proof asks, with the premises in the form in
--- which it has them. x is what the walk has to give, and the invariant says that the walk from here on gives it; r is what
--- the day test returned.
---   add-edge  sub-edge  next-edge                  no day is left: Outside is what the walk gives
---   add-open  sub-open              between-open   the day tested is a Werktag
---   add-shut  sub-shut  next-shut   between-shut   it is none
---   add-done  sub-done  next-done   between-done   the loop has ended: it holds what the walk gives
+-- which it has them. x is what the walk has to give, and the invariant says that the walk from here on gives it; r is
+-- what the day test returned.
+--   add-edge  sub-edge  W-edge  next-edge                  no day is left: Outside is what the walk gives
+--   add-open  sub-open  W-open              between-open   the day tested is a Werktag
+--   add-shut  sub-shut  W-shut  next-shut   between-shut   it is none
+--   add-done  sub-done  W-done  next-done   between-done   the loop has ended: it holds what the walk gives
+--   dayAfter-edge  dayBefore-edge  dayAfter-day  dayBefore-day   the returns of `day_after` and `day_before`
 --   rules = all of them, for `search (needs, rules)`
--- Source: the definitions add, sub, next and between of zaehlung.
+-- Source: the definitions of Walk in zaehlung.
 -- Assumes nothing.
-use Prim.Native.Nat.{ℕ, suc, _+_, _-_, _≤_, _<_}
+use Prim.Native.Nat.{ℕ, zero, suc, _+_, _-_, _≤_, _<_}
 use mathlib.Core.Bool.{Bool, true, false, not}
-use mathlib.Core.Path.{_≡_, sym, ap, _∙_}
+use mathlib.Core.Path.{_≡_, refl, sym, ap, _∙_}
 use native.Mathlib.Omega.{arith}
 use native.Mathlib.Numerals.{add-one}
-use borrow.Author.Tests.{not-true, not-false}
+use borrow.Author.Tests.{not-true, not-false, lt-ltb, le-ltb}
 use Rattle.zaehlung.specs.declared.Step.{Step}
 use Rattle.zaehlung.specs.declared.Step.the-variants.{Day, Outside}
-use Rattle.zaehlung.specs.Walk.{last, bit, among, add, sub, next, between}
+use Rattle.zaehlung.specs.Walk.{last, bit, among, dayAfter, dayBefore, add, sub, next, W, between}
 use Rattle.zaehlung.proofs.Turns.{up-edge, up-open, up-shut, down-edge, down-open, down-shut}
-use Rattle.zaehlung.proofs.Turns.{first-edge, first-open, first-shut}
-use Rattle.zaehlung.proofs.Laws.{add-none, sub-none, between-later}
+use Rattle.zaehlung.proofs.Turns.{past-edge, past-open, past-shut, first-edge, first-open, first-shut}
+use Rattle.zaehlung.proofs.Laws.{add-none, sub-none, W-none, between-later}
+
+pub dayAfter-edge : (d : ℕ) → last ≤ d → Outside ≡ dayAfter d
+unfolding dayAfter
+dayAfter-edge d h = rw (le-ltb d last h)
+
+pub dayAfter-day : (d : ℕ) → d < last → Day (d + 1) ≡ dayAfter d
+unfolding dayAfter
+dayAfter-day d h = rw (lt-ltb d last h, add-one)
+
+pub dayBefore-edge : (d : ℕ) → d ≤ 0 → Outside ≡ dayBefore d
+dayBefore-edge zero h = refl
+dayBefore-edge (suc d) h = absurd (omega arith)
+
+pub dayBefore-day : (d : ℕ) → 0 < d → Day (d - 1) ≡ dayBefore d
+dayBefore-day d h = let e : d ≡ suc (d - 1) = omega arith in ap dayBefore (sym e)
 
 module _ (w : ℕ → Bool) where
   pub add-edge : (x : Step) (d n : ℕ) → x ≡ add w d n → last ≤ d → 0 < n → Outside ≡ x
@@ -80,6 +96,37 @@ module _ (w : ℕ → Bool) where
   pub sub-done : (x : Step) (d n : ℕ) → x ≡ sub w d n → n ≤ 0 → Day d ≡ x
   sub-done x d n i h = let l : n ≡ 0 = omega arith in cc (sub-none w d)
 
+  -- the day that is left is tested
+  pub W-edge : (x : Step) (d n : ℕ) → x ≡ W w d n → last ≤ d → 0 < n → Outside ≡ x
+  unfolding W
+  W-edge x d n i h m =
+      let k : last - d ≡ 0 = omega arith in
+      let l : n ≡ suc (n - 1) = omega arith in
+      cc (past-edge w d (n - 1))
+
+  pub W-open :
+      (x : Step) (d n : ℕ) (r : Bool) →
+      x ≡ W w d n → d < last → 0 < n → r ≡ w d → r ≡ true → x ≡ W w (d + 1) (n - 1)
+  unfolding W
+  W-open x d n r i h m p q =
+      let k : last - d ≡ suc (last - (d + 1)) = omega arith in
+      let l : n ≡ suc (n - 1) = omega arith in
+      let s = add-one d in
+      cc (past-open w (last - (d + 1)) d (n - 1) (cc))
+
+  pub W-shut :
+      (x : Step) (d n : ℕ) (r : Bool) →
+      x ≡ W w d n → d < last → 0 < n → r ≡ w d → r ≡ false → x ≡ W w (d + 1) n
+  unfolding W
+  W-shut x d n r i h m p q =
+      let k : last - d ≡ suc (last - (d + 1)) = omega arith in
+      let l : n ≡ suc (n - 1) = omega arith in
+      let s = add-one d in
+      cc (past-shut w (last - (d + 1)) d (n - 1) (cc))
+
+  pub W-done : (x : Step) (d n : ℕ) → x ≡ W w d n → n ≤ 0 → Day d ≡ x
+  W-done x d n i h = let l : n ≡ 0 = omega arith in cc (W-none w d)
+
   -- this loop goes on while the day is no Werktag, so its test is `not r`
   pub next-edge : (x : Step) (d : ℕ) (r : Bool) → x ≡ next w d → last ≤ d → r ≡ w d → not r ≡ true → Outside ≡ x
   unfolding next
@@ -119,6 +166,14 @@ module _ (w : ℕ → Bool) where
   between-done x c a b i h = omega (arith, between-later w a b h)
 
 pub ruleset rules = (
+  dayAfter-edge,
+  dayAfter-day,
+  dayBefore-edge,
+  dayBefore-day,
+  W-edge,
+  W-open,
+  W-shut,
+  W-done,
   add-edge,
   add-open,
   add-shut,

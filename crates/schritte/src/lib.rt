@@ -1,13 +1,38 @@
-// Steps over Werktage and the count of Werktage, day by day, as in the Rust. A day is its index from 1 January 1996, 0 to
-// LAST. What a step or a count is, is defined in zaehlung for any test of a day; here the test is the holiday list's.
+// Steps over Werktage and the count of Werktage, day by day, as in the Rust. A day is its index from 1 January 1996, 0
+// to LAST. What a step or a count is, is defined in zaehlung for any test of a day; here the test is the holiday
+// list's.
 ghost use mathlib.Core.Path.{_≡_};
 ghost use Prim.Native.Nat.{_≤_};
-ghost use Rattle.zaehlung.specs.Walk.{last, add, sub, between, next};
+ghost use Rattle.zaehlung.specs.Walk.{last, dayAfter, dayBefore, add, sub, next, W, between};
 ghost use Rattle.werktag.specs.Werktag.{isWerktag};
 use werktag::HolidayCalendar;
 use zaehlung::FIRST;
 use zaehlung::LAST;
 use zaehlung::Step;
+
+/// The day after, Werktag or not, or `Outside` past the calendar's last day.
+///
+/// After 31 December 2025: 1 January 2026.
+pub fn day_after(day: u32) -> Step
+    ensures { λ r. ⌜ r ≡ dayAfter day ⌝ }
+{
+    if LAST <= day {
+        return Step::Outside;
+    }
+    Step::Day(day + 1)
+}
+
+/// The day before, Werktag or not, or `Outside` before the calendar's first day.
+///
+/// Before 1 January 2026: 31 December 2025.
+pub fn day_before(day: u32) -> Step
+    ensures { λ r. ⌜ r ≡ dayBefore day ⌝ }
+{
+    if day <= FIRST {
+        return Step::Outside;
+    }
+    Step::Day(day - 1)
+}
 
 /// The `n`-th Werktag after `from`, or `Outside` where that would be past the calendar's last day.
 ///
@@ -15,8 +40,8 @@ use zaehlung::Step;
 ///
 /// With `n = 0`: `from` unchanged, Werktag or not. The first Werktag on or after a day is `next_werktag`.
 ///
-/// Monday 6 January 2025 and 5 Werktage: Tue 7, Wed 8, Thu 9, Fri 10, Mon 13 January. Thursday 2 April 2026 and 1 Werktag,
-/// over Easter: Tuesday 7 April.
+/// Monday 6 January 2025 and 5 Werktage: Tue 7, Wed 8, Thu 9, Fri 10, Mon 13 January. Thursday 2 April 2026 and 1
+/// Werktag, over Easter: Tuesday 7 April.
 pub fn add_werktage(from: u32, n: u32, cal: HolidayCalendar) -> Step
     requires { ⌜ from ≤ last ⌝ }
     ensures { λ r. ⌜ r ≡ add (isWerktag cal) from n ⌝ }
@@ -61,8 +86,8 @@ pub fn sub_werktage(from: u32, n: u32, cal: HolidayCalendar) -> Step
     Step::Day(current)
 }
 
-/// The Werktage after `from` up to and including `to`: the inverse of `add_werktage`, since from `from` to its `n`-th Werktag
-/// this is `n`.
+/// The Werktage after `from` up to and including `to`: the inverse of `add_werktage`, since from `from` to its `n`-th
+/// Werktag this is `n`.
 ///
 /// 0 if `to` isn't later than `from`.
 ///
@@ -99,4 +124,30 @@ pub fn next_werktag(from: u32, cal: HolidayCalendar) -> Step
         day += 1;
     }
     Step::Day(day)
+}
+
+/// W(n) of document 01: 't for n = 0, else the day after the n-th Werktag on or after t', or `Outside` where that would
+/// be past the calendar's last day. Each day that is left behind is tested.
+///
+/// With `n = 0`: `t` unchanged, Werktag or not.
+///
+/// From Saturday 10 January 2026 with 1: the Werktag is Monday 12, so Tuesday 13 January. `add_werktage` reaches the
+/// Monday.
+pub fn day_after_werktage(t: u32, n: u32, cal: HolidayCalendar) -> Step
+    requires { ⌜ t ≤ last ⌝ }
+    ensures { λ r. ⌜ r ≡ W (isWerktag cal) t n ⌝ }
+{
+    let mut current = t;
+    let mut remaining = n;
+    while 0 < remaining {
+        if LAST <= current {
+            return Step::Outside;
+        }
+        let left = current;
+        current += 1;
+        if werktag::is_werktag(left, cal) {
+            remaining -= 1;
+        }
+    }
+    Step::Day(current)
 }

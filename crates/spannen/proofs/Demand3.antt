@@ -1,5 +1,6 @@
--- Demand 3: the span of anchors says exactly which anchors a verdict accepts. For every test w of a day, so under every list
--- of holidays, every transmission day t of the calendar and, where no shape is named, every shape s. In document 01's words:
+-- Demand 3: the span of anchors says exactly which anchors a verdict accepts. For every test w of a day, so under every
+-- list of holidays, every transmission day t of the calendar and, where no shape is named, every shape s. In document
+-- 01's words:
 --   checkOf w s t a           an anchor's verdict, 'what the `check` of the shape gives for t and that anchor'
 --   checkOf w s t a ≡ Ok      'An anchor is acceptable if its verdict is Ok'
 --   checkOf w s t a ≢ Refused the verdict isn't refused: no date that is computed for it leaves the calendar
@@ -16,19 +17,21 @@ use native.Mathlib.Omega.{arith}
 use Rattle.zaehlung.specs.Walk.{last}
 use Rattle.datum.specs.Calendar.{dateOf}
 use Rattle.vorlauf.specs.declared.VorlaufShape.{VorlaufShape}
-use Rattle.vorlauf.specs.declared.VorlaufShape.the-variants.{LatestWerktageBefore, WindowWerktageBefore, LatestWerktageAfter, EarliestWerktageAfter}
-use Rattle.vorlauf.specs.declared.VorlaufShape.the-variants.{Korridor, TagVorDemLetztenWerktagVor, LatestMonateBefore}
+use Rattle.vorlauf.specs.declared.VorlaufShape.the-variants.{LatestWerktageBefore, WindowWerktageBefore}
+use Rattle.vorlauf.specs.declared.VorlaufShape.the-variants.{LatestWerktageAfter, EarliestWerktageAfter, Korridor}
+use Rattle.vorlauf.specs.declared.VorlaufShape.the-variants.{TagVorDemLetztenWerktagVor, LatestMonateBefore}
 use Rattle.vorlauf.specs.declared.VorlaufVerdict.the-variants.{Ok, TooLate, Outside as Refused}
 use Rattle.vorlauf.specs.declared.Span.the-variants.{Empty, Outside as Leaves}
 use Rattle.vorlauf.specs.Verdict.{checkOf}
 use Rattle.vorlauf.specs.Span.{spanOf, liesIn, begins}
 use Rattle.spannen.proofs.SpansShapes.{shape-spans}
 use Rattle.spannen.proofs.SpansFirst.{accepted-least, first-accepted, empty-rejects}
-use Rattle.spannen.proofs.SpansNamed.{earliest-named, tag-named, month-named, before-named, window-named, after-named, korridor-named, before-ok}
+use Rattle.spannen.proofs.SpansNamed.{earliest-named, tag-named, month-named, before-named, window-named}
+use Rattle.spannen.proofs.SpansNamed.{after-named, korridor-named, after-not, korridor-not, before-ok}
 
 module _ (w : ℕ → Bool) (t : ℕ) (ht : t ≤ last) where
-  -- Where 'the span stays inside the calendar', an anchor whose verdict isn't refused is acceptable exactly if it 'lies in the
-  -- span'.
+  -- Where 'the span stays inside the calendar', an anchor whose verdict isn't refused is acceptable exactly if it 'lies
+  -- in the span'.
   pub span-iff :
       (s : VorlaufShape) (a : ℕ) → a ≤ last → spanOf w s t ≢ Leaves → checkOf w s t a ≢ Refused →
       (checkOf w s t a ≡ Ok) ↔ liesIn (spanOf w s t) a
@@ -38,7 +41,8 @@ module _ (w : ℕ → Bool) (t : ℕ) (ht : t ≤ last) where
   pub no-earlier : (s : VorlaufShape) (f a : ℕ) → a ≤ last → begins (spanOf w s t) f → a < f → checkOf w s t a ≢ Ok
   no-earlier s f a ha b h p = omega (arith, accepted-least w t ht s f a ha b p)
 
-  -- The first day itself is acceptable if its verdict isn't refused, and is then the smallest of all acceptable anchors.
+  -- The first day itself is acceptable if its verdict isn't refused, and is then the smallest of all acceptable
+  -- anchors.
   pub first-day :
       (s : VorlaufShape) (f : ℕ) → begins (spanOf w s t) f → checkOf w s t f ≢ Refused →
       (checkOf w s t f ≡ Ok) × ((a : ℕ) → a ≤ last → checkOf w s t a ≡ Ok → f ≤ a)
@@ -51,10 +55,12 @@ module _ (w : ℕ → Bool) (t : ℕ) (ht : t ≤ last) where
   module _ (a : ℕ) (ha : a ≤ last) (b y : ℕ) where
     -- 'The Rust's date of a TooLate is the first day for `EarliestWerktageAfter` and `TagVorDemLetztenWerktagVor`'
     pub named-earliest :
-        (n : ℕ) → checkOf w (EarliestWerktageAfter n) t a ≡ TooLate b y → begins (spanOf w (EarliestWerktageAfter n) t) y
+        (n : ℕ) → checkOf w (EarliestWerktageAfter n) t a ≡ TooLate b y →
+        begins (spanOf w (EarliestWerktageAfter n) t) y
     named-earliest = earliest-named w t ht a ha b y
 
-    pub named-tag : checkOf w TagVorDemLetztenWerktagVor t a ≡ TooLate b y → begins (spanOf w TagVorDemLetztenWerktagVor t) y
+    pub named-tag :
+        checkOf w TagVorDemLetztenWerktagVor t a ≡ TooLate b y → begins (spanOf w TagVorDemLetztenWerktagVor t) y
     named-tag = tag-named w t ht a ha b y
 
     -- 'for `LatestMonateBefore` exactly if no day was cut': y, which is t and n months, has the day of the month of t
@@ -65,7 +71,8 @@ module _ (w : ℕ → Bool) (t : ℕ) (ht : t ≤ last) where
 
     -- 'for `LatestWerktageBefore`(n) exactly if n is 0 or both t and W(n) are Werktage'; W(n) is the first day f
     pub named-before :
-        (n f : ℕ) → begins (spanOf w (LatestWerktageBefore n) t) f → checkOf w (LatestWerktageBefore n) t a ≡ TooLate b y →
+        (n f : ℕ) → begins (spanOf w (LatestWerktageBefore n) t) f →
+        checkOf w (LatestWerktageBefore n) t a ≡ TooLate b y →
         begins (spanOf w (LatestWerktageBefore n) t) y ↔ ((n ≡ 0) ⊎ ((w t ≡ true) × (w f ≡ true)))
     named-before = before-named w t ht a ha b y
 
@@ -78,11 +85,22 @@ module _ (w : ℕ → Bool) (t : ℕ) (ht : t ≤ last) where
     named-window = window-named w t ht a ha b y
 
     -- 'for `LatestWerktageAfter` and `Korridor` never'
-    pub named-after : (n : ℕ) → checkOf w (LatestWerktageAfter n) t a ≡ TooLate b y → begins (spanOf w (LatestWerktageAfter n) t) y → ⊥
+    pub named-after :
+        (n : ℕ) → checkOf w (LatestWerktageAfter n) t a ≡ TooLate b y → begins (spanOf w (LatestWerktageAfter n) t) y →
+        ⊥
     named-after = after-named w t ht a ha b y
 
     pub named-korridor : (n : ℕ) → checkOf w (Korridor n) t a ≡ TooLate b y → begins (spanOf w (Korridor n) t) y → ⊥
     named-korridor = korridor-named w t ht a ha b y
+
+    -- 'Under TooLate, `LatestWerktageAfter` names the anchor itself and `Korridor` its opening day; neither is then an
+    -- acceptable anchor.'
+    pub unacceptable-after :
+        (n : ℕ) → checkOf w (LatestWerktageAfter n) t a ≡ TooLate b y → checkOf w (LatestWerktageAfter n) t y ≢ Ok
+    unacceptable-after = after-not w t ht a ha b y
+
+    pub unacceptable-korridor : (n : ℕ) → checkOf w (Korridor n) t a ≡ TooLate b y → checkOf w (Korridor n) t y ≢ Ok
+    unacceptable-korridor = korridor-not w t ht a ha b y
 
     -- 'For `LatestWerktageBefore` with n at least 1 the date is acceptable exactly if t is a Werktag.'
     pub named-acceptable :

@@ -5,5 +5,8 @@ pub mod SpansMonths
 pub mod SpansCases
 pub mod SpansShapes
 pub mod SpansFirst
+pub mod SpansLate
 pub mod SpansNamed
 pub mod Demand3
+pub mod Sharp
+pub mod Closes

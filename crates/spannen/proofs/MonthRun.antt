@@ -5,30 +5,26 @@
 --   date-run      a date's index and `origin` are the days of all months before its own, and the days before it in that
 --   day-run       the same of the date of an index, which has the day
 --   on-run        the same of a date that a shift by months reached
---   on-inside     such a date is one of the calendar
 --   on-day        its day is the one asked for, or the month's last
 -- Source: document 01, lib.rs, months.
 -- Assumes nothing.
 use Prim.Native.Nat.{ℕ, zero, suc, _+_, _-_, _*_, _/_, _%_, _≤_, _<_, min}
-use mathlib.Core.Bool.{Bool, true, false}
 use mathlib.Core.Path.{_≡_, refl, ap}
 use native.Mathlib.Omega.{arith}
 use native.Mathlib.Nat.{add-zero, add-suc}
 use native.Mathlib.Decide.{decLe}
-use lib.Dec.{leb}
 use lib.IntN.{pos}
-use borrow.Author.Tests.{leb-true, le-leb, lt-leb}
-use Rattle.zaehlung.specs.declared.Step.the-variants.{Day, Outside}
+use Rattle.zaehlung.specs.declared.Step.the-variants.{Day}
 use Rattle.zaehlung.specs.Walk.{last}
 use Rattle.zaehlung.specs.Blocks.{start}
 use Rattle.zaehlung.proofs.BlockLaws.{start-suc}
-use Rattle.zaehlung.proofs.Every.{run, run-at}
 use Rattle.datum.specs.declared.Date.{Date}
 use Rattle.datum.specs.Calendar.{isLeap, daysInMonth, monthStart, yearLen, yearStart, daysBefore, dateOf}
-use Rattle.datum.specs.MonthShift.{ordinalOf, inMonth, onMonth}
-use Rattle.datum.proofs.Dates.{Valid, yearLen-at, months-sum, month-first, index-date, index-below, date-index}
+use Rattle.datum.specs.MonthShift.{ordinalOf, onMonth}
+use Rattle.datum.proofs.Dates.{len-ge, yearLen-at, months-sum, month-first, index-date, date-index}
+use Rattle.datum.proofs.Months.{dayOf, on-in, on-out, on-before, on-valid}
 use Rattle.datum.proofs.Years.{start-none}
-use Rattle.vorlauf.specs.Monate.{toStep}
+use Rattle.datum.specs.Monate.{toStep}
 
 abbrev pub monthDays : ℕ → ℕ
 monthDays o = daysInMonth (isLeap (o / 12)) (o % 12 + 1)
@@ -36,18 +32,8 @@ monthDays o = daysInMonth (isLeap (o / 12)) (o % 12 + 1)
 abbrev pub origin : ℕ
 origin = start monthDays (1996 * 12)
 
-abbrev hasDays : Bool → ℕ → Bool
-hasDays l m = leb 1 (daysInMonth l m)
-
-all-have : (l : Bool) → run (hasDays l) 12 1 ≡ true
-unfolding run daysInMonth
-all-have true = refl
-all-have false = refl
-
 pub month-has : (o : ℕ) → 1 ≤ monthDays o
-month-has o =
-    let l : Bool = isLeap (o / 12) in
-    leb-true 1 (daysInMonth l (o % 12 + 1)) (run-at (hasDays l) 12 1 (all-have l) (o % 12 + 1) (omega arith) (omega arith))
+month-has o = omega (arith, len-ge (isLeap (o / 12)) (o % 12 + 1) (omega arith) (omega arith))
 
 -- month j of year y, from 0 on
 month-at : (y j : ℕ) → j < 12 → monthDays (y * 12 + j) ≡ daysInMonth (isLeap y) (suc j)
@@ -92,54 +78,28 @@ day-run i h =
     let b = ap (daysInMonth (isLeap (d .year))) q in
     (omega (arith, date-run d (v .0 .from) (v .0 .month-from) (v .0 .month-to)), v .0 .day-from, omega (arith, v .0 .day-to))
 
--- the date that day x of the month numbered t becomes
-abbrev onDate : ℕ → ℕ → Date
-onDate t x = record { year = t / 12; month = t % 12 + 1; day = min x (monthDays t) }
-
-on-in : (t x : ℕ) → 1996 ≤ t / 12 → t / 12 ≤ 2899 → toStep (onMonth (pos t) x) ≡ Day (daysBefore (onDate t x))
-unfolding onMonth inMonth
-on-in t x h g = rw (le-leb 1996 (t / 12) h, le-leb (t / 12) 2899 g)
-
-on-early : (t x : ℕ) → t / 12 < 1996 → toStep (onMonth (pos t) x) ≡ Outside
-unfolding onMonth inMonth
-on-early t x h = rw (lt-leb 1996 (t / 12) h)
-
-on-late : (t x : ℕ) → 1996 ≤ t / 12 → 2899 < t / 12 → toStep (onMonth (pos t) x) ≡ Outside
-unfolding onMonth inMonth
-on-late t x h g = rw (le-leb 1996 (t / 12) h, lt-leb (t / 12) 2899 g)
-
-on-date : (t x e : ℕ) → toStep (onMonth (pos t) x) ≡ Day e → (1996 ≤ t / 12) × (t / 12 ≤ 2899) × (e ≡ daysBefore (onDate t x))
+-- day x of the month numbered t
+on-date :
+    (t x e : ℕ) → toStep (onMonth (pos t) x) ≡ Day e → (1996 ≤ t / 12) × (t / 12 ≤ 2899) × (e ≡ daysBefore (dayOf t x))
 on-date t x e p =
     elim (decLe 1996 (t / 12)) [
       | yes h ↦
           elim (decLe (t / 12) 2899) [
-            | yes g ↦ let q = on-in t x h g in (h, g, (cc))
-            | no g ↦ let q = on-late t x h (omega arith) in let z : _≡_ {A = ℕ} 0 1 = cc in absurd (omega arith)
+            | yes g ↦ let q = ap toStep (on-in t x h g) in (h, g, (cc))
+            | no g ↦
+                let q = ap toStep (on-out t x (omega arith)) in
+                let z : _≡_ {A = ℕ} 0 1 = cc in absurd (omega arith)
           ]
-      | no h ↦ let q = on-early t x (omega arith) in let z : _≡_ {A = ℕ} 0 1 = cc in absurd (omega arith)
+      | no h ↦ let q = ap toStep (on-before t x (omega arith)) in let z : _≡_ {A = ℕ} 0 1 = cc in absurd (omega arith)
     ]
 
-pub on-run : (t x e : ℕ) → toStep (onMonth (pos t) x) ≡ Day e → e + origin ≡ start monthDays t + (min x (monthDays t) - 1)
+pub on-run :
+    (t x e : ℕ) → toStep (onMonth (pos t) x) ≡ Day e → e + origin ≡ start monthDays t + (min x (monthDays t) - 1)
 on-run t x e p =
     let r = on-date t x e p in
     let q : t / 12 * 12 + (t % 12 + 1 - 1) ≡ t = omega arith in
     let b = ap (start monthDays) q in
-    omega (arith, date-run (onDate t x) (r .0) (omega arith) (omega arith))
-
-on-valid : (t x e : ℕ) → 1 ≤ x → toStep (onMonth (pos t) x) ≡ Day e → Valid (onDate t x)
-on-valid t x e h p =
-    let r = on-date t x e p in
-    record {
-      from = r .0;
-      to = r .1;
-      month-from = omega arith;
-      month-to = omega arith;
-      day-from = omega (arith, month-has t);
-      day-to = omega arith;
-    }
-
-pub on-inside : (t x e : ℕ) → 1 ≤ x → toStep (onMonth (pos t) x) ≡ Day e → e ≤ last
-on-inside t x e h p = omega (arith, on-date t x e p .2, index-below (onDate t x) (on-valid t x e h p))
+    omega (arith, date-run (dayOf t x) (r .0) (omega arith) (omega arith))
 
 pub on-day : (t x e : ℕ) → 1 ≤ x → toStep (onMonth (pos t) x) ≡ Day e → dateOf e .day ≡ min x (monthDays t)
-on-day t x e h p = rw (on-date t x e p .2, date-index (onDate t x) (on-valid t x e h p))
+on-day t x e h p = let r = on-date t x e p in rw (r .2, date-index (dayOf t x) (on-valid t x h (r .0) (r .1)))

@@ -1,5 +1,5 @@
--- Months earlier and M(n, t) over any blocks of days, of which block k has `len k` days. Days in a block count from 0, so
--- a block's last day is `len k - 1`. Day d of block t is a transmission day, day e of block a an anchor.
+-- Months earlier and M(n, t) over any blocks of days, of which block k has `len k` days. Days in a block count from 0,
+-- so a block's last day is `len k - 1`. Day d of block t is a transmission day, day e of block a an anchor.
 --   backDay a e n  = the day n blocks before day e of block a; a day that the block lacks becomes its last
 --   kept           block t + n has day d: t is by the day n blocks before a  exactly if  day d of block t + n is by a
 --   cut            it lacks it: t is by that day  exactly if  the first of block t + n + 1 is by a
@@ -31,7 +31,9 @@ module _ (len : ℕ → ℕ) where
     early l = earlier t (a - n) d (min e (len (a - n) - 1)) hd (omega arith)
 
     -- the same: the days decide, and a day that block t has is not cut
-    level : t + n ≡ a → (start len t ≡ start len (a - n)) × (len t ≡ len (a - n)) × (start len (t + n) ≡ start len a) × (len (t + n) ≡ len a)
+    level :
+        t + n ≡ a →
+        (start len t ≡ start len (a - n)) × (len t ≡ len (a - n)) × (start len (t + n) ≡ start len a) × (len (t + n) ≡ len a)
     level q =
         let u : t ≡ a - n = omega arith in
         (ap (start len) u, ap len u, ap (start len) q, ap len q)

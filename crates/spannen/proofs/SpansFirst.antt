@@ -10,21 +10,23 @@ use mathlib.Core.Logic.{_≢_}
 use mathlib.Core.Path.{_≡_}
 use native.Mathlib.Omega.{arith}
 use Rattle.zaehlung.specs.declared.Step.{Step}
-use Rattle.zaehlung.specs.declared.Step.the-variants.{Day}
-use Rattle.zaehlung.specs.Walk.{last, add, sub, W}
-use Rattle.zaehlung.proofs.Laws.{add-inside, sub-inside, W-inside}
+use Rattle.zaehlung.specs.declared.Step.the-variants.{Day, Outside as Left}
+use Rattle.zaehlung.specs.Walk.{last, onStep, dayAfter, add, sub, W}
+use Rattle.zaehlung.proofs.Laws.{add-inside, sub-inside, W-inside, dayAfter-is, onStep-day}
+use Rattle.datum.specs.Monate.{M}
+use Rattle.datum.proofs.Months.{M-inside}
 use Rattle.vorlauf.specs.declared.VorlaufShape.{VorlaufShape}
-use Rattle.vorlauf.specs.declared.VorlaufShape.the-variants.{LatestWerktageBefore, WindowWerktageBefore, LatestWerktageAfter, EarliestWerktageAfter}
-use Rattle.vorlauf.specs.declared.VorlaufShape.the-variants.{Korridor, TagVorDemLetztenWerktagVor, LatestMonateBefore, LatestMonateUndWerktageBefore}
+use Rattle.vorlauf.specs.declared.VorlaufShape.the-variants.{LatestWerktageBefore, WindowWerktageBefore}
+use Rattle.vorlauf.specs.declared.VorlaufShape.the-variants.{LatestWerktageAfter, EarliestWerktageAfter, Korridor}
+use Rattle.vorlauf.specs.declared.VorlaufShape.the-variants.{TagVorDemLetztenWerktagVor, LatestMonateBefore}
+use Rattle.vorlauf.specs.declared.VorlaufShape.the-variants.{LatestMonateUndWerktageBefore}
 use Rattle.vorlauf.specs.declared.VorlaufVerdict.the-variants.{Ok, Outside as Refused}
 use Rattle.vorlauf.specs.declared.Span.{Span}
 use Rattle.vorlauf.specs.declared.Span.the-variants.{From, Both, Empty, Outside}
-use Rattle.vorlauf.specs.Monate.{M}
-use Rattle.vorlauf.specs.Verdict.{goOn, dayAfter, checkOf}
-use Rattle.vorlauf.specs.Span.{from, both, spanOf, liesIn, begins}
-use Rattle.spannen.proofs.SpansMonths.{M-inside}
+use Rattle.vorlauf.specs.Verdict.{checkOf}
+use Rattle.vorlauf.specs.Span.{spanFrom, spanBetween, spanOf, liesIn, begins}
 use Rattle.spannen.proofs.SpansCases.{from-cases, both-cases}
-use Rattle.spannen.proofs.SpansShapes.{after-is, went, shape-spans}
+use Rattle.spannen.proofs.SpansShapes.{shape-spans}
 
 -- a span that has a first day stays inside the calendar
 begins-inside : (p : Span) (f : ℕ) → begins p f → p ≢ Outside
@@ -41,12 +43,13 @@ first-least Empty f a b i = absurd i
 first-least Outside f a b i = absurd i
 
 from-first :
-    (s : Step) (f : ℕ) → ((d : ℕ) → s ≡ Day d → d ≤ last) → begins (from s) f → liesIn (from s) f × (f ≤ last)
+    (s : Step) (f : ℕ) → ((d : ℕ) → s ≡ Day d → d ≤ last) → begins (spanFrom s) f → liesIn (spanFrom s) f × (f ≤ last)
 from-first s f g =
     from-cases (λ p. begins p f → liesIn p f × (f ≤ last)) s (λ b. absurd b) (λ d q b. (omega arith, omega (arith, g d q)))
 
 both-first :
-    (s u : Step) (f : ℕ) → ((d : ℕ) → s ≡ Day d → d ≤ last) → begins (both s u) f → liesIn (both s u) f × (f ≤ last)
+    (s u : Step) (f : ℕ) → ((d : ℕ) → s ≡ Day d → d ≤ last) → begins (spanBetween s u) f →
+    liesIn (spanBetween s u) f × (f ≤ last)
 both-first s u f g =
     both-cases (λ p. begins p f → liesIn p f × (f ≤ last)) s u
     (λ b. absurd b)
@@ -63,23 +66,25 @@ module _ (w : ℕ → Bool) (t : ℕ) (ht : t ≤ last) where
   first-lies f (EarliestWerktageAfter n) = from-first (add w t n) f (λ d. add-inside w t n d ht)
   first-lies f (Korridor n) = both-first (sub w t n) (add w t n) f (λ d. sub-inside w t n d ht)
   first-lies f TagVorDemLetztenWerktagVor =
-      from-first (goOn (add w t 1) dayAfter) f (λ d p.
-      let x = went (add w t 1) dayAfter d p in
-      after-is (x .0) d (x .2) .1)
+      from-first (onStep Left (add w t 1) dayAfter) f (λ d p.
+      let x = onStep-day (add w t 1) dayAfter d p in
+      dayAfter-is (x .0) d (x .2) .1)
   first-lies f (LatestMonateBefore n) = from-first (M n t) f (λ d. M-inside n t d ht)
   first-lies f (LatestMonateUndWerktageBefore monate werktage) =
-      from-first (goOn (W w t werktage) (M monate)) f (λ d p.
-      let x = went (W w t werktage) (M monate) d p in
+      from-first (onStep Left (W w t werktage) (M monate)) f (λ d p.
+      let x = onStep-day (W w t werktage) (M monate) d p in
       M-inside monate (x .0) d (W-inside w t werktage (x .0) ht (x .1)) (x .2))
 
   -- an acceptable anchor lies in a span that stays inside the calendar
-  accepted-lies : (s : VorlaufShape) (a : ℕ) → a ≤ last → spanOf w s t ≢ Outside → checkOf w s t a ≡ Ok → liesIn (spanOf w s t) a
+  accepted-lies :
+      (s : VorlaufShape) (a : ℕ) → a ≤ last → spanOf w s t ≢ Outside → checkOf w s t a ≡ Ok → liesIn (spanOf w s t) a
   accepted-lies s a ha h p = shape-spans w t ht a ha s h (λ q. let z : _≡_ {A = ℕ} 0 1 = cc in omega arith) .0 p
 
   pub accepted-least : (s : VorlaufShape) (f a : ℕ) → a ≤ last → begins (spanOf w s t) f → checkOf w s t a ≡ Ok → f ≤ a
   accepted-least s f a ha b p = first-least (spanOf w s t) f a b (accepted-lies s a ha (begins-inside (spanOf w s t) f b) p)
 
-  pub first-accepted : (s : VorlaufShape) (f : ℕ) → begins (spanOf w s t) f → checkOf w s t f ≢ Refused → checkOf w s t f ≡ Ok
+  pub first-accepted :
+      (s : VorlaufShape) (f : ℕ) → begins (spanOf w s t) f → checkOf w s t f ≢ Refused → checkOf w s t f ≡ Ok
   first-accepted s f b h =
       let i = first-lies f s b in
       shape-spans w t ht f (i .1) s (begins-inside (spanOf w s t) f b) h .1 (i .0)

@@ -4,7 +4,6 @@
 --   month-iff      t ≤ a less n months  exactly if  M(n, t) ≤ a
 --   M-later-iff    M(n, t) is t and n months  exactly if  no day is cut
 --   later-day-iff  the day n months later has the day of the month of t  exactly if  no day is cut
---   M-inside       M(n, t) is a day of the calendar, where it does not leave it
 -- Source: document 01, 'The span of anchors': M(m, d).
 -- Assumes nothing.
 use Prim.Native.Nat.{ℕ, suc, _+_, _-_, _≤_, _<_, min}
@@ -21,9 +20,9 @@ use Rattle.zaehlung.proofs.BlockLaws.{start-suc}
 use Rattle.datum.specs.Calendar.{dateOf}
 use Rattle.datum.specs.MonthShift.{ordinalOf, onMonth, addMonths, subtractMonths}
 use Rattle.datum.proofs.Signed.{sub-pos, sub-neg}
-use Rattle.vorlauf.specs.Monate.{toStep, monthsLater, monthsEarlier, M}
+use Rattle.datum.specs.Monate.{toStep, monthsLater, monthsEarlier, M}
 use Rattle.spannen.proofs.MonthSpan.{backDay, kept, cut}
-use Rattle.spannen.proofs.MonthRun.{monthDays, origin, month-has, day-run, on-run, on-inside, on-day}
+use Rattle.spannen.proofs.MonthRun.{monthDays, origin, month-has, day-run, on-run, on-day}
 
 -- the number of a day's month, and the day in it, from 0 on
 abbrev monthAt : ℕ → ℕ
@@ -76,7 +75,9 @@ unfolding M
 M-cut n i h = rw (lt-leb (dateOf i .day) (monthDays (monthAt i + n)) h)
 
 -- the first of the month after
-cut-run : (n i f : ℕ) → monthDays (monthAt i + n) < dateOf i .day → M n i ≡ Day f → f + origin ≡ start monthDays (suc (monthAt i + n))
+cut-run :
+    (n i f : ℕ) → monthDays (monthAt i + n) < dateOf i .day → M n i ≡ Day f →
+    f + origin ≡ start monthDays (suc (monthAt i + n))
 cut-run n i f h p =
     let o : ℕ = suc (monthAt i + n) in
     omega (arith, on-run o 1 f (sym (M-cut n i h) ∙ p), month-has o)
@@ -111,9 +112,3 @@ pub later-day-iff : (t n y : ℕ) → t ≤ last → monthsLater t n ≡ Day y �
 later-day-iff t n y h p =
     let e = on-day (monthAt t + n) (dateOf t .day) y (day-run t h .1) (sym (later-in t n) ∙ p) in
     (λ q. omega arith, λ k. omega arith)
-
-pub M-inside : (n t f : ℕ) → t ≤ last → M n t ≡ Day f → f ≤ last
-M-inside n t f h p =
-    by-day n t
-    (λ l. on-inside (monthAt t + n) (dateOf t .day) f (day-run t h .1) (sym (later-in t n) ∙ sym (M-kept n t l) ∙ p))
-    (λ l. on-inside (suc (monthAt t + n)) 1 f (omega arith) (sym (M-cut n t l) ∙ p))

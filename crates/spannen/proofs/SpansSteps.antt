@@ -1,6 +1,8 @@
 -- What steps say of spans, for any test w of a day. A day that passes w is open; t, a ≤ last where a law asks for it.
 --   before-iff     t ≤ sub(a, n)  exactly if  W(t, n) ≤ a
 --   after-iff      t ≤ add(a, n)  exactly if  sub(t, n) ≤ a
+--   add-mono       add(d, n) ≤ add(e, n), if d ≤ e
+--   sub-fewer      sub(a, n) ≤ sub(a, m), if m ≤ n
 --   tag-iff        t < sub(a, 1)  exactly if  add(t, 1) < a
 --   W-add-iff      W(t, n) is add(t, n)  exactly if  n is 0, or t and W(t, n) are open
 --   back-iff       t ≤ sub(y, n)  exactly if  t is open, for y = add(t, n) and 1 ≤ n
@@ -70,6 +72,23 @@ module _ (w : ℕ → Bool) where
           order t e (λ y. y) (λ y.
           let o = count-open w f (d .is-open (omega (arith, r .after))) in
           absurd (omega (arith, d .counted, r .counted, count-mono w (suc f) (suc a) (omega arith), count-mono w (suc e) t y)))
+
+  pub add-mono : (d e n x y : ℕ) → e ≤ last → d ≤ e → add w d n ≡ Day x → add w e n ≡ Day y → x ≤ y
+  add-mono d e n x y h m p q =
+      let r = add-day w d n x (omega arith) .0 p in
+      let u = add-day w e n y h .0 q in
+      order x y (λ z. z) (λ z.
+      let o = count-open w x (r .is-open (omega (arith, u .after))) in
+      let m = count-mono w (suc d) (suc e) (omega arith) in
+      absurd (omega (arith, r .counted, u .counted, count-mono w (suc y) x z)))
+
+  pub sub-fewer : (a m n x y : ℕ) → m ≤ n → sub w a m ≡ Day x → sub w a n ≡ Day y → y ≤ x
+  sub-fewer a m n x y h p q =
+      let r = sub-day w a m x .0 p in
+      let u = sub-day w a n y .0 q in
+      order y x (λ z. z) (λ z.
+      let o = count-open w x (r .is-open (omega (arith, u .before))) in
+      absurd (omega (arith, r .counted, u .counted, count-mono w (suc x) y z)))
 
   -- a day that n steps reach is open, n at least 1
   up-open : (t n y : ℕ) → 1 ≤ n → Up w last t n y → (t < y) × (w y ≡ true)

@@ -11,9 +11,8 @@ use native.Mathlib.Omega.{arith}
 use native.Mathlib.Numerals.{add-one}
 use borrow.Author.Tests.{lt-ltb, le-ltb, le-leb, lt-leb}
 use lib.Dec.{T}
-use lib.ListN.{length, getD, set, take}
+use lib.ListN.{length, getD, set, take, length-set}
 use lib.Seq.{take-all, take-suc, take-suc-set}
-use Rattle.antwortsatz.proofs.Rules.{copy-length}
 use Rattle.vektoren.specs.Hex.{digitOf, byteAt, bytesAt}
 
 pub never : {P : Type 0} → false ≡ true → P
@@ -61,7 +60,15 @@ pub hex-more :
 unfolding byteAt
 hex-more l out from i high low p q n h t =
     let m = bytes-length l from 32 in
-    rw (add-one, take-suc-set out i (high * 16 + low) (omega arith), take-suc (bytesAt l from 32) i 0 (omega arith), t, bytes-getD l from 32 i h, p, q)
+    rw (
+      add-one,
+      take-suc-set out i (high * 16 + low) (omega arith),
+      take-suc (bytesAt l from 32) i 0 (omega arith),
+      t,
+      bytes-getD l from 32 i h,
+      p,
+      q,
+    )
 
 pub hex-done :
     (l out : List ℕ) (from i : ℕ) → length out ≡ 32 → 32 ≤ i → take i out ≡ take i (bytesAt l from 32) →
@@ -69,4 +76,7 @@ pub hex-done :
 hex-done l out from i n h t e =
     sym (take-all i out (omega arith)) ∙ t ∙ take-all i (bytesAt l from 32) (omega (arith, bytes-length l from 32))
 
-pub ruleset hex-rules = (hex-more, copy-length, hex-done)
+pub hex-length : (out : List ℕ) (i x : ℕ) → length out ≡ 32 → length (set out i x) ≡ 32
+hex-length out i x n = simp length-set n
+
+pub ruleset hex-rules = (hex-more, hex-length, hex-done)

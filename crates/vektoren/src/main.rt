@@ -1,14 +1,14 @@
-// Replays stored answers: reads questions with the answers that are expected, asks the host calls, and prints the number of
-// each line whose answer differs, then how many answers there were and how many were equal.
+// Replays stored answers: reads questions with the answers that are expected, asks the host calls, and prints the
+// number of each line whose answer differs, then how many answers there were and how many were equal.
 //
-// A line is 128 lower-case hexadecimal digits of a question, a space, 64 of its answer, and a line end. A question has 64
-// bytes, its numbers little-endian: 0 the call; 1 a code; 2 and 3 zero; 4 to 7 a date (year 2 bytes, month, day); 8 to 11 a
-// second date, or a clock's nanoseconds; 12 to 15 a count; 16 to 23 seconds, signed; 24 to 27 nanoseconds; 28 to 30 hour,
-// minute and second of a clock; 31 zero; 32 to 35 a second count; 36 to 43 and 44 to 47 a second instant; 48 a second code;
-// 49 the length of a reason and 50 to 63 its bytes. A line of another form counts as different.
+// A line is 128 lower-case hexadecimal digits of a question, a space, 64 of its answer, and a line end. A question has
+// 64 bytes, its numbers little-endian: 0 the call; 1 a code; 2 and 3 zero; 4 to 7 a date (year 2 bytes, month, day); 8
+// to 11 a second date, or a clock's nanoseconds; 12 to 15 a count; 16 to 23 seconds, signed; 24 to 27 nanoseconds; 28
+// to 30 hour, minute and second of a clock; 31 zero; 32 to 35 a second count; 36 to 43 and 44 to 47 a second instant;
+// 48 a second code; 49 the length of a reason and 50 to 63 its bytes. A line of another form counts as different.
 ghost use mathlib.Core.Bool.{true};
 ghost use mathlib.Core.Path.{_≡_};
-ghost use Prim.Native.Nat.{_+_, _*_, _≤_};
+ghost use Prim.Native.Nat.{_≤_};
 ghost use lib.ListN.{length, getD};
 ghost use Rattle.vektoren.specs.Hex.{digitOf, bytesAt};
 use libc::STDIN_FILENO;
@@ -27,7 +27,8 @@ const ANSWER_AT: usize = 129;
 // The bytes of a question that a reason can take.
 const REASON_BYTES: u8 = 14;
 
-// What `ask` returns where no call has the question's number. The answer, which no call has written, begins with another.
+// What `ask` returns where no call has the question's number. The answer, which no call has written, begins with
+// another.
 const NO_CALL: u8 = 255;
 
 // What each byte of an answer is before the call, so that one that the call leaves out is seen.
@@ -84,24 +85,6 @@ fn read_hex(line: &[u8; 193], from: usize, out: &mut [u8]) -> bool
     true
 }
 
-fn join2(a: u8, b: u8) -> u16
-    ensures { λ r. ⌜ r ≡ a + 256 * b ⌝ }
-{
-    (a as u16) + 256 * (b as u16)
-}
-
-fn join4(a: u8, b: u8, c: u8, d: u8) -> u32
-    ensures { λ r. ⌜ r ≡ a + 256 * b + 65536 * c + 16777216 * d ⌝ }
-{
-    (a as u32) + 256 * (b as u32) + 65536 * (c as u32) + 16777216 * (d as u32)
-}
-
-fn join8(low: u32, high: u32) -> u64
-    ensures { λ r. ⌜ r ≡ low + 4294967296 * high ⌝ }
-{
-    (low as u64) + 4294967296 * (high as u64)
-}
-
 // Whether the bytes of a question that no call reads are zero.
 fn is_spare_zero(q: &[u8; 32]) -> bool {
     if q[2] != 0 {
@@ -138,29 +121,25 @@ struct Question {
 }
 
 fn question_of(q: &[u8; 32], p: &[u8; 32]) -> Question {
-    let low = join4(q[16], q[17], q[18], q[19]);
-    let high = join4(q[20], q[21], q[22], q[23]);
-    let low2 = join4(p[4], p[5], p[6], p[7]);
-    let high2 = join4(p[8], p[9], p[10], p[11]);
     Question {
         call: q[0],
         code: q[1],
-        year: join2(q[4], q[5]),
+        year: zahlen::u16_at(q, 4),
         month: q[6],
         day: q[7],
-        year2: join2(q[8], q[9]),
+        year2: zahlen::u16_at(q, 8),
         month2: q[10],
         day2: q[11],
-        nanos_of_second: join4(q[8], q[9], q[10], q[11]),
-        n: join4(q[12], q[13], q[14], q[15]),
-        seconds: antwortsatz::signed_of(join8(low, high)),
-        nanos: join4(q[24], q[25], q[26], q[27]),
+        nanos_of_second: zahlen::u32_at(q, 8),
+        n: zahlen::u32_at(q, 12),
+        seconds: zahlen::i64_at(q, 16),
+        nanos: zahlen::u32_at(q, 24),
         hour: q[28],
         minute: q[29],
         second: q[30],
-        n2: join4(p[0], p[1], p[2], p[3]),
-        seconds2: antwortsatz::signed_of(join8(low2, high2)),
-        nanos2: join4(p[12], p[13], p[14], p[15]),
+        n2: zahlen::u32_at(p, 0),
+        seconds2: zahlen::i64_at(p, 4),
+        nanos2: zahlen::u32_at(p, 12),
         code2: p[16],
         reason: p[17],
     }
@@ -345,7 +324,10 @@ fn ask(q: Question, p: &[u8; 32], answer: &mut [u8]) -> u8 {
 
 // Whether an answer is the one that is expected, all 32 bytes, and the number that was returned is its first.
 fn is_expected(number: u8, answer: &[u8; 32], expected: &[u8; 32]) -> bool
-    ensures { λ r. ⌜ (r ≡ true → now (answer .entry) ≡ now (expected .entry)) × (r ≡ true → number ≡ getD (now (expected .entry)) 0 0) ⌝ }
+    ensures { λ r. ⌜
+        (r ≡ true → now (answer .entry) ≡ now (expected .entry)) ×
+        (r ≡ true → number ≡ getD (now (expected .entry)) 0 0)
+        ⌝ }
 {
     if number != expected[0] {
         return false;
@@ -448,8 +430,8 @@ fn take_block(line: &mut [u8; 193], r: Replay) -> Replay {
     take_bytes(&block[..n], line, r)
 }
 
-// A proved loop has to end, and nothing says that the input does. So the turns are counted down, from a number that no run
-// uses up.
+// A proved loop has to end, and nothing says that the input does. So the turns are counted down, from a number that no
+// run uses up.
 fn take_all(line: &mut [u8; 193]) -> Replay {
     let mut r = Replay {
         ended: false,

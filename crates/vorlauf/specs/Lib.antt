@@ -1,4 +1,4 @@
-pub mod Monate
 pub mod Verdict
 pub mod Span
 pub mod Abmeldung
+pub mod Inside

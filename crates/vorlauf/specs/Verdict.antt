@@ -1,98 +1,86 @@
--- The verdict of a shape on a transmission day t and an anchor a, for any test w of a day. Every date that the Rust computes
--- is computed here too, in its order; where one leaves the calendar the verdict is Outside.
---   onDay s f           = the verdict that f gives for the day that a step reached, or Outside
---   goOn s f            = the step that f gives for the day that a step reached, or Outside
---   dayBefore d         = the day before d; Outside before day 0
---   dayAfter d          = the day after d; Outside past the last day
---   dayAfterNext w t    = the day after the first open day after t
---   late w closes t y   = TooLate for a transmission on t where the window closes on `closes`, with the date y
---   checkOf w s t a     = the verdict
---   insideVerdict v     = a date that v names is one of the calendar
--- Source: document 01, vorlauf.rs: `VorlaufShape::check`, `fruehester_termin_nach_tag_vor_dem_letzten_werktag`, `not_after`.
-use Prim.Native.Nat.{ℕ, zero, suc, _≤_}
+-- The verdict of a shape on a transmission day t and an anchor a, for any test w of a day. Every date that the Rust
+-- computes is computed here too, and only where it does; where one leaves the calendar the verdict is Outside.
+--   closes w s a    = the last permitted transmission day for the anchor a
+--   reaches w s t   = the day that is held against it: t, but for `EarliestWerktageAfter`
+--   fruehesterTerminNachTagVorDemLetztenWerktag w t   = the day after the first open day after t
+--   notAfter w t c f   = Ok up to the day c, else TooLate with the date f, which is computed only then
+--   verdictOn w s t a c r   = the verdict, where the window closes on c and r is held against it
+--   checkOf w s t a = the verdict
+-- Source: document 01, vorlauf.rs: `VorlaufShape::check`, `fruehester_termin_nach_tag_vor_dem_letzten_werktag`,
+-- `not_after`; for closes and reaches document 02, F-6.
+use Prim.Native.Nat.{ℕ}
 use mathlib.Core.Bool.{Bool, cond}
 use lib.Dec.{leb, ltb}
 use Rattle.zaehlung.specs.declared.Step.{Step}
 use Rattle.zaehlung.specs.declared.Step.the-variants.{Day}
 use Rattle.zaehlung.specs.declared.Step.the-variants.{Outside as Left}
-use Rattle.zaehlung.specs.Walk.{last, add, sub, next, between}
+use Rattle.zaehlung.specs.Walk.{onStep, dayAfter, dayBefore, add, sub, next, between}
+use Rattle.datum.specs.Monate.{monthsLater, monthsEarlier}
 use Rattle.vorlauf.specs.declared.VorlaufShape.{VorlaufShape}
-use Rattle.vorlauf.specs.declared.VorlaufShape.the-variants.{LatestWerktageBefore, WindowWerktageBefore, LatestWerktageAfter, EarliestWerktageAfter}
-use Rattle.vorlauf.specs.declared.VorlaufShape.the-variants.{Korridor, TagVorDemLetztenWerktagVor, LatestMonateBefore, LatestMonateUndWerktageBefore}
+use Rattle.vorlauf.specs.declared.VorlaufShape.the-variants.{LatestWerktageBefore, WindowWerktageBefore}
+use Rattle.vorlauf.specs.declared.VorlaufShape.the-variants.{LatestWerktageAfter, EarliestWerktageAfter, Korridor}
+use Rattle.vorlauf.specs.declared.VorlaufShape.the-variants.{TagVorDemLetztenWerktagVor, LatestMonateBefore}
+use Rattle.vorlauf.specs.declared.VorlaufShape.the-variants.{LatestMonateUndWerktageBefore}
 use Rattle.vorlauf.specs.declared.VorlaufVerdict.{VorlaufVerdict}
 use Rattle.vorlauf.specs.declared.VorlaufVerdict.the-variants.{Ok, TooLate, TooEarly, Outside}
-use Rattle.vorlauf.specs.Monate.{monthsLater, monthsEarlier}
 
--- 'Verdicts: .. 8, a date that the Rust computes for this call leaves the calendar.'
-abbrev pub onDay : Step → (ℕ → VorlaufVerdict) → VorlaufVerdict
-onDay (Day d) f = f d
-onDay Left f = Outside
+-- 'the last permitted transmission day (the date beyond which the Rust's `check` calls a transmission too late; for the
+-- window the one that `latest` gives)'
+unfoldable pub closes : (ℕ → Bool) → VorlaufShape → ℕ → Step
+closes w (LatestWerktageBefore n) a = sub w a n
+closes w (WindowWerktageBefore earliest latest) a = sub w a latest
+closes w (LatestWerktageAfter n) a = add w a n
+closes w (EarliestWerktageAfter n) a = Day a
+closes w (Korridor n) a = add w a n
+closes w TagVorDemLetztenWerktagVor a = onStep Left (sub w a 1) dayBefore
+closes w (LatestMonateBefore n) a = monthsEarlier a n
+-- the months first, then the Werktage back
+closes w (LatestMonateUndWerktageBefore monate werktage) a =
+    onStep Left (monthsEarlier a monate) (λ d. sub w d werktage)
 
-abbrev pub goOn : Step → (ℕ → Step) → Step
-goOn (Day d) f = f d
-goOn Left f = Left
-
-abbrev pub dayBefore : ℕ → Step
-dayBefore zero = Left
-dayBefore (suc d) = Day d
-
-unfoldable pub dayAfter : ℕ → Step
-dayAfter d = cond (ltb d last) (Day (suc d)) Left
+-- 'For `EarliestWerktageAfter`(n) .. the anchor minus `add_werktage`(transmission day, n)': its anchor is the date
+-- requested, and the n-th Werktag after t must not lie beyond that
+unfoldable pub reaches : (ℕ → Bool) → VorlaufShape → ℕ → Step
+reaches w (LatestWerktageBefore n) t = Day t
+reaches w (WindowWerktageBefore earliest latest) t = Day t
+reaches w (LatestWerktageAfter n) t = Day t
+reaches w (EarliestWerktageAfter n) t = add w t n
+reaches w (Korridor n) t = Day t
+reaches w TagVorDemLetztenWerktagVor t = Day t
+reaches w (LatestMonateBefore n) t = Day t
+reaches w (LatestMonateUndWerktageBefore monate werktage) t = Day t
 
 -- 'the day after the first Werktag strictly after the ÜT': `next_werktag` of the day after t, and the day after that
-unfoldable pub dayAfterNext : (ℕ → Bool) → ℕ → Step
-dayAfterNext w t = goOn (dayAfter t) (λ d. goOn (next w d) dayAfter)
+unfoldable pub fruehesterTerminNachTagVorDemLetztenWerktag : (ℕ → Bool) → ℕ → Step
+fruehesterTerminNachTagVorDemLetztenWerktag w t = onStep Left (dayAfter t) (λ d. onStep Left (next w d) dayAfter)
 
-abbrev pub late : (ℕ → Bool) → ℕ → ℕ → ℕ → VorlaufVerdict
-late w closes t y = TooLate (between w closes t) y
+-- '`Ok` while `uebertragungstag` is at or before `latest_uet`, else `TooLate`'
+abbrev pub notAfter : (ℕ → Bool) → ℕ → ℕ → Step → VorlaufVerdict
+notAfter w t c f = cond (leb t c) Ok (onStep Outside f (λ y. TooLate (between w c t) y))
 
--- 'The two month shapes compute their earliest date even when the verdict is Ok; leaving the calendar there is refusal 8.'
--- 'Under TooLate, `LatestWerktageAfter` names the anchor itself and `Korridor` its opening day.'
+-- 'The two month shapes compute their earliest date even when the verdict is Ok; leaving the calendar there is
+-- refusal 8.' 'Under TooLate, `LatestWerktageAfter` names the anchor itself and `Korridor` its opening day.'
+abbrev pub verdictOn : (ℕ → Bool) → VorlaufShape → ℕ → ℕ → ℕ → ℕ → VorlaufVerdict
+verdictOn w (LatestWerktageBefore n) t a c r = notAfter w r c (add w t n)
+verdictOn w (WindowWerktageBefore earliest latest) t a c r =
+    onStep Outside (sub w a earliest) (λ opens.
+    cond (ltb t opens) (TooEarly (between w t opens))
+    (notAfter w r c (add w t latest)))
+verdictOn w (LatestWerktageAfter n) t a c r = notAfter w r c (Day a)
+verdictOn w (EarliestWerktageAfter n) t a c r = notAfter w r c (Day r)
+verdictOn w (Korridor n) t a c r =
+    onStep Outside (sub w a n) (λ opens.
+    cond (ltb t opens) (TooEarly (between w t opens))
+    (notAfter w r c (Day opens)))
+verdictOn w TagVorDemLetztenWerktagVor t a c r = notAfter w r c (fruehesterTerminNachTagVorDemLetztenWerktag w t)
+verdictOn w (LatestMonateBefore n) t a c r =
+    onStep Outside (monthsLater t n) (λ first.
+    notAfter w r c (Day first))
+verdictOn w (LatestMonateUndWerktageBefore monate werktage) t a c r =
+    onStep Outside (add w t werktage) (λ d.
+    onStep Outside (monthsLater d monate) (λ first.
+    notAfter w r c (Day first)))
+
+-- 'Verdicts: .. 8, a date that the Rust computes for this call leaves the calendar.'
 unfoldable pub checkOf : (ℕ → Bool) → VorlaufShape → ℕ → ℕ → VorlaufVerdict
-checkOf w (LatestWerktageBefore n) t a =
-    onDay (sub w a n) (λ closes.
-    cond (leb t closes) Ok
-    (onDay (add w t n) (λ first. late w closes t first)))
-checkOf w (WindowWerktageBefore earliest latest) t a =
-    onDay (sub w a earliest) (λ opens.
-    onDay (sub w a latest) (λ closes.
-    cond (ltb t opens) (TooEarly (between w t opens))
-    (cond (leb t closes) Ok
-    (onDay (add w t latest) (λ first. late w closes t first)))))
-checkOf w (LatestWerktageAfter n) t a =
-    onDay (add w a n) (λ closes.
-    cond (leb t closes) Ok
-    (late w closes t a))
-checkOf w (EarliestWerktageAfter n) t a =
-    onDay (add w t n) (λ first.
-    cond (leb first a) Ok
-    (TooLate (between w a first) first))
-checkOf w (Korridor n) t a =
-    onDay (sub w a n) (λ opens.
-    onDay (add w a n) (λ closes.
-    cond (ltb t opens) (TooEarly (between w t opens))
-    (cond (leb t closes) Ok
-    (late w closes t opens))))
-checkOf w TagVorDemLetztenWerktagVor t a =
-    onDay (sub w a 1) (λ letzter.
-    onDay (dayBefore letzter) (λ closes.
-    cond (leb t closes) Ok
-    (onDay (dayAfterNext w t) (λ first. late w closes t first))))
-checkOf w (LatestMonateBefore n) t a =
-    onDay (monthsEarlier a n) (λ closes.
-    onDay (monthsLater t n) (λ first.
-    cond (leb t closes) Ok
-    (late w closes t first)))
-checkOf w (LatestMonateUndWerktageBefore monate werktage) t a =
-    onDay (monthsEarlier a monate) (λ x.
-    onDay (sub w x werktage) (λ closes.
-    onDay (add w t werktage) (λ y.
-    onDay (monthsLater y monate) (λ first.
-    cond (leb t closes) Ok
-    (late w closes t first)))))
-
-abbrev pub insideVerdict : VorlaufVerdict → Type 0
-insideVerdict Ok = Unit {0}
-insideVerdict (TooLate b y) = y ≤ last
-insideVerdict (TooEarly b) = Unit {0}
-insideVerdict Outside = Unit {0}
+checkOf w s t a = onStep Outside (closes w s a) (λ c. onStep Outside (reaches w s t) (λ r. verdictOn w s t a c r))

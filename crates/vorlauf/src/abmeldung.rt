@@ -6,7 +6,8 @@ ghost use mathlib.Core.Path.{_≡_};
 ghost use Prim.Native.Nat.{_≤_};
 ghost use Rattle.zaehlung.specs.Walk.{last};
 ghost use Rattle.werktag.specs.Werktag.{isWerktag};
-ghost use Rattle.vorlauf.specs.Abmeldung.{same, fuerOf, shapeOf, abmeldungOf, insideAbmeldung};
+ghost use Rattle.vorlauf.specs.Abmeldung.{sameBytes, fuerOf, shapeOf, abmeldungCheckOf};
+ghost use Rattle.vorlauf.specs.Inside.{insideAbmeldung};
 use super::VorlaufShape;
 use super::VorlaufVerdict;
 use werktag::HolidayCalendar;
@@ -44,7 +45,7 @@ pub enum AbmeldungVerdict {
 
 /// Whether two byte strings are the same.
 fn same_bytes(a: &[u8], b: &[u8]) -> bool
-    ensures { λ r. ⌜ r ≡ same (now (a .entry)) (now (b .entry)) ⌝ }
+    ensures { λ r. ⌜ r ≡ sameBytes (now (a .entry)) (now (b .entry)) ⌝ }
 {
     if a.len() != b.len() {
         return false;
@@ -60,8 +61,13 @@ fn same_bytes(a: &[u8], b: &[u8]) -> bool
 }
 
 impl AbmeldungVorlauf {
-    /// The window for a reason: the three bytes `ZQ7` are the BKV's deactivation; "zq7", "ZQ7 " and an empty reason are
-    /// ordinary.
+    /// The window for a reason and an EEG mark: 1 month for EEG-Marktlokationen and their Tranchen, else the day before
+    /// the last Werktag before.
+    ///
+    /// Only the three bytes `ZQ7` are the BKV's deactivation; "zq7", "ZQ7 " and an empty reason are ordinary. An
+    /// unknown mark has no window.
+    ///
+    /// "ZQ7" with any mark: `AnPruefschritt120`. "zq7" with `Ja`: `EinMonat`.
     pub fn fuer(reason: &[u8], eeg: Eeg) -> AbmeldungVorlauf
         ensures { λ r. ⌜ r ≡ fuerOf (now (reason .entry)) eeg ⌝ }
     {
@@ -75,7 +81,11 @@ impl AbmeldungVorlauf {
         }
     }
 
-    /// The shape, where one applies.
+    /// The shape of the window, where one applies.
+    ///
+    /// `ZQ7` and an unknown EEG mark have none.
+    ///
+    /// `EinMonat`: `LatestMonateBefore(1)`.
     pub fn shape(self) -> AbmeldungShape
         ensures { λ r. ⌜ r ≡ shapeOf self ⌝ }
     {
@@ -89,7 +99,11 @@ impl AbmeldungVorlauf {
         }
     }
 
-    /// The verdict on a transmission day and the Zuordnungsende.
+    /// The verdict on a transmission day and the Zuordnungsende: that of the window's shape.
+    ///
+    /// `NoShape` where the window has none: it was not evaluated, so it was not kept either.
+    ///
+    /// `EinMonat` from 31 January 2026 against 28 February: TooLate by 2 Werktage, with 28 February.
     pub fn check(
         self,
         uebertragungstag: u32,
@@ -97,7 +111,8 @@ impl AbmeldungVorlauf {
         cal: HolidayCalendar,
     ) -> AbmeldungVerdict
         requires { ⌜ (uebertragungstag ≤ last) × (zuordnungsende ≤ last) ⌝ }
-        ensures { λ r. ⌜ (r ≡ abmeldungOf (isWerktag cal) self uebertragungstag zuordnungsende) × insideAbmeldung r ⌝ }
+        ensures { λ r. ⌜ r ≡ abmeldungCheckOf (isWerktag cal) self uebertragungstag zuordnungsende ⌝ }
+        ensures { λ r. ⌜ insideAbmeldung r ⌝ }
     {
         let AbmeldungShape::Some(shape) = self.shape() else {
             return AbmeldungVerdict::NoShape;

@@ -2,22 +2,19 @@
 //
 // Document 01, vorlauf.rs and 'The span of anchors'. A day is its index from 1 January 1996, 0 to LAST. t is the
 // transmission day (Übertragungstag, ÜT), a the anchor, the date that the message carries.
-ghost use mathlib.Core.Bool.{cond};
 ghost use mathlib.Core.Path.{_≡_};
-ghost use Prim.Native.Nat.{_≤_};
-ghost use lib.Dec.{leb};
-ghost use Rattle.zaehlung.specs.Walk.{last, add, W};
+ghost use Prim.Native.Nat.{_≤_, _<_};
+ghost use Rattle.zaehlung.specs.Walk.{last, onStep, dayAfter, add, W, between};
+ghost use Rattle.datum.specs.Monate.{M};
 ghost use Rattle.werktag.specs.Werktag.{isWerktag};
-ghost use Rattle.vorlauf.specs.Monate.{M};
-ghost use Rattle.vorlauf.specs.Verdict.{goOn, dayBefore, dayAfter, dayAfterNext, late, checkOf, insideVerdict};
-ghost use Rattle.vorlauf.specs.Span.{from, both, spanOf, insideSpan};
+ghost use Rattle.vorlauf.specs.Verdict.{fruehesterTerminNachTagVorDemLetztenWerktag, notAfter, checkOf};
+ghost use Rattle.vorlauf.specs.Span.{spanFrom, spanBetween, spanOf};
+ghost use Rattle.vorlauf.specs.Inside.{insideVerdict, insideSpan};
+use datum::monate;
 use werktag::HolidayCalendar;
-use zaehlung::FIRST;
-use zaehlung::LAST;
 use zaehlung::Step;
 
 pub mod abmeldung;
-pub mod monate;
 
 /// The shape of a Vorlauffrist, in Werktagen or months relative to its anchor date.
 pub enum VorlaufShape {
@@ -68,52 +65,20 @@ pub enum Span {
     Outside,
 }
 
-/// The day before, or `Outside` before the calendar's first day.
-fn day_before(day: u32) -> Step
-    ensures { λ r. ⌜ r ≡ dayBefore day ⌝ }
+/// TooLate: t is after the day on which the window closes, by the Werktage between, and `first` is the date named.
+fn too_late(t: u32, closes: u32, first: u32, cal: HolidayCalendar) -> VorlaufVerdict
+    requires { ⌜ (closes < t) × (t ≤ last) ⌝ }
+    ensures { λ r. ⌜ r ≡ VorlaufVerdict.TooLate (between (isWerktag cal) closes t) first ⌝ }
 {
-    if day <= FIRST {
-        return Step::Outside;
+    let shortfall = schritte::werktage_between(closes, t, cal);
+    VorlaufVerdict::TooLate {
+        shortfall_wt: shortfall,
+        earliest_possible: first,
     }
-    Step::Day(day - 1)
 }
 
-/// The day after, or `Outside` past the calendar's last day.
-fn day_after(day: u32) -> Step
-    ensures { λ r. ⌜ r ≡ dayAfter day ⌝ }
-{
-    if LAST <= day {
-        return Step::Outside;
-    }
-    Step::Day(day + 1)
-}
-
-/// W(n) of document 01: the day after the `n`-th Werktag on or after `t`. Each day that is left behind is tested.
-///
-/// With `n = 0`: `t` unchanged, Werktag or not.
-///
-/// From Saturday 10 January 2026 with 1: the Werktag is Monday 12, so Tuesday 13 January.
-fn day_after_werktage(t: u32, n: u32, cal: HolidayCalendar) -> Step
-    requires { ⌜ t ≤ last ⌝ }
-    ensures { λ r. ⌜ r ≡ W (isWerktag cal) t n ⌝ }
-{
-    let mut current = t;
-    let mut remaining = n;
-    while 0 < remaining {
-        if LAST <= current {
-            return Step::Outside;
-        }
-        let left = current;
-        current += 1;
-        if werktag::is_werktag(left, cal) {
-            remaining -= 1;
-        }
-    }
-    Step::Day(current)
-}
-
-/// t is the `n`-th Werktag before the anchor at the latest. `LatestWerktageBefore(1)` from Saturday 10 January 2026 against
-/// Monday 12 January: TooLate by 0 Werktage, and the date named is that Monday.
+/// t is the `n`-th Werktag before the anchor at the latest. `LatestWerktageBefore(1)` from Saturday 10 January 2026
+/// against Monday 12 January: TooLate by 0 Werktage, and the date named is that Monday.
 fn latest_werktage_before(n: u32, t: u32, a: u32, cal: HolidayCalendar) -> VorlaufVerdict
     requires { ⌜ (t ≤ last) × (a ≤ last) ⌝ }
     ensures { λ r. ⌜ r ≡ checkOf (isWerktag cal) (VorlaufShape.LatestWerktageBefore n) t a ⌝ }
@@ -127,10 +92,7 @@ fn latest_werktage_before(n: u32, t: u32, a: u32, cal: HolidayCalendar) -> Vorla
     let Step::Day(first) = schritte::add_werktage(t, n, cal) else {
         return VorlaufVerdict::Outside;
     };
-    VorlaufVerdict::TooLate {
-        shortfall_wt: schritte::werktage_between(closes, t, cal),
-        earliest_possible: first,
-    }
+    too_late(t, closes, first, cal)
 }
 
 /// t is the `earliest`-th Werktag before the anchor at the earliest, and the `latest`-th at the latest.
@@ -161,10 +123,7 @@ fn window_werktage_before(
     let Step::Day(first) = schritte::add_werktage(t, latest, cal) else {
         return VorlaufVerdict::Outside;
     };
-    VorlaufVerdict::TooLate {
-        shortfall_wt: schritte::werktage_between(closes, t, cal),
-        earliest_possible: first,
-    }
+    too_late(t, closes, first, cal)
 }
 
 /// t is the `n`-th Werktag after the anchor at the latest. Under TooLate the anchor itself is named.
@@ -178,10 +137,7 @@ fn latest_werktage_after(n: u32, t: u32, a: u32, cal: HolidayCalendar) -> Vorlau
     if t <= closes {
         return VorlaufVerdict::Ok;
     }
-    VorlaufVerdict::TooLate {
-        shortfall_wt: schritte::werktage_between(closes, t, cal),
-        earliest_possible: a,
-    }
+    too_late(t, closes, a, cal)
 }
 
 /// The anchor, the date requested, is the `n`-th Werktag after t at the earliest.
@@ -195,10 +151,7 @@ fn earliest_werktage_after(n: u32, t: u32, a: u32, cal: HolidayCalendar) -> Vorl
     if first <= a {
         return VorlaufVerdict::Ok;
     }
-    VorlaufVerdict::TooLate {
-        shortfall_wt: schritte::werktage_between(a, first, cal),
-        earliest_possible: first,
-    }
+    too_late(first, a, first, cal)
 }
 
 /// t lies from the `n`-th Werktag before the anchor to the `n`-th after it. Under TooLate the opening day is named.
@@ -220,29 +173,26 @@ fn korridor(n: u32, t: u32, a: u32, cal: HolidayCalendar) -> VorlaufVerdict
     if t <= closes {
         return VorlaufVerdict::Ok;
     }
-    VorlaufVerdict::TooLate {
-        shortfall_wt: schritte::werktage_between(closes, t, cal),
-        earliest_possible: opens,
-    }
+    too_late(t, closes, opens, cal)
 }
 
-/// The day after the first Werktag strictly after t: a full Werktag has to lie between t and the date. From a Monday that
-/// is Wednesday.
+/// The day after the first Werktag strictly after t: a full Werktag has to lie between t and the date. From a Monday
+/// that is Wednesday.
 fn fruehester_termin_nach_tag_vor_dem_letzten_werktag(t: u32, cal: HolidayCalendar) -> Step
     requires { ⌜ t ≤ last ⌝ }
-    ensures { λ r. ⌜ r ≡ dayAfterNext (isWerktag cal) t ⌝ }
+    ensures { λ r. ⌜ r ≡ fruehesterTerminNachTagVorDemLetztenWerktag (isWerktag cal) t ⌝ }
 {
-    let Step::Day(next_day) = day_after(t) else {
+    let Step::Day(next_day) = schritte::day_after(t) else {
         return Step::Outside;
     };
     let Step::Day(werktag) = schritte::next_werktag(next_day, cal) else {
         return Step::Outside;
     };
-    day_after(werktag)
+    schritte::day_after(werktag)
 }
 
-/// t is the day before the last Werktag before the anchor at the latest. From Thursday 8 January 2026: Friday 9 January is
-/// TooLate by 1 Werktag, Saturday 10 January Ok.
+/// t is the day before the last Werktag before the anchor at the latest. From Thursday 8 January 2026: Friday 9 January
+/// is TooLate by 1 Werktag, Saturday 10 January Ok.
 fn tag_vor_dem_letzten_werktag_vor(t: u32, a: u32, cal: HolidayCalendar) -> VorlaufVerdict
     requires { ⌜ (t ≤ last) × (a ≤ last) ⌝ }
     ensures { λ r. ⌜ r ≡ checkOf (isWerktag cal) VorlaufShape.TagVorDemLetztenWerktagVor t a ⌝ }
@@ -250,7 +200,7 @@ fn tag_vor_dem_letzten_werktag_vor(t: u32, a: u32, cal: HolidayCalendar) -> Vorl
     let Step::Day(letzter) = schritte::sub_werktage(a, 1, cal) else {
         return VorlaufVerdict::Outside;
     };
-    let Step::Day(closes) = day_before(letzter) else {
+    let Step::Day(closes) = schritte::day_before(letzter) else {
         return VorlaufVerdict::Outside;
     };
     if t <= closes {
@@ -259,24 +209,18 @@ fn tag_vor_dem_letzten_werktag_vor(t: u32, a: u32, cal: HolidayCalendar) -> Vorl
     let Step::Day(first) = fruehester_termin_nach_tag_vor_dem_letzten_werktag(t, cal) else {
         return VorlaufVerdict::Outside;
     };
-    VorlaufVerdict::TooLate {
-        shortfall_wt: schritte::werktage_between(closes, t, cal),
-        earliest_possible: first,
-    }
+    too_late(t, closes, first, cal)
 }
 
 /// `Ok` while t is at or before `closes`, else `TooLate` with the date `first`.
 fn not_after(t: u32, closes: u32, first: u32, cal: HolidayCalendar) -> VorlaufVerdict
     requires { ⌜ (t ≤ last) × (closes ≤ last) ⌝ }
-    ensures { λ r. ⌜ r ≡ cond (leb t closes) VorlaufVerdict.Ok (late (isWerktag cal) closes t first) ⌝ }
+    ensures { λ r. ⌜ r ≡ notAfter (isWerktag cal) t closes (Step.Day first) ⌝ }
 {
     if t <= closes {
         return VorlaufVerdict::Ok;
     }
-    VorlaufVerdict::TooLate {
-        shortfall_wt: schritte::werktage_between(closes, t, cal),
-        earliest_possible: first,
-    }
+    too_late(t, closes, first, cal)
 }
 
 /// t lies `n` months before the anchor at the latest. The earliest date is computed even when the verdict is Ok.
@@ -293,8 +237,8 @@ fn latest_monate_before(n: u32, t: u32, a: u32, cal: HolidayCalendar) -> Vorlauf
     not_after(t, closes, first, cal)
 }
 
-/// t lies `monate` months and `werktage` Werktage before the anchor at the latest: the months first, then the Werktage back
-/// from the day on which they land. The earliest date is computed even when the verdict is Ok.
+/// t lies `monate` months and `werktage` Werktage before the anchor at the latest: the months first, then the Werktage
+/// back from the day on which they land. The earliest date is computed even when the verdict is Ok.
 fn latest_monate_und_werktage_before(
     monate: u32,
     werktage: u32,
@@ -322,7 +266,7 @@ fn latest_monate_und_werktage_before(
 
 /// The span from the day of a step on.
 fn span_from(first: Step) -> Span
-    ensures { λ r. ⌜ r ≡ from first ⌝ }
+    ensures { λ r. ⌜ r ≡ spanFrom first ⌝ }
 {
     match first {
         Step::Day(day) => Span::From(day),
@@ -332,7 +276,7 @@ fn span_from(first: Step) -> Span
 
 /// The span between the days of two steps, empty if the first is later.
 fn span_between(first: Step, end: Step) -> Span
-    ensures { λ r. ⌜ r ≡ both first end ⌝ }
+    ensures { λ r. ⌜ r ≡ spanBetween first end ⌝ }
 {
     let Step::Day(f) = first else {
         return Span::Outside;
@@ -349,27 +293,34 @@ fn span_between(first: Step, end: Step) -> Span
 /// The day after the first Werktag after t.
 fn after_first_werktag(t: u32, cal: HolidayCalendar) -> Step
     requires { ⌜ t ≤ last ⌝ }
-    ensures { λ r. ⌜ r ≡ goOn (add (isWerktag cal) t 1) dayAfter ⌝ }
+    ensures { λ r. ⌜ r ≡ onStep Step.Outside (add (isWerktag cal) t 1) dayAfter ⌝ }
 {
     let Step::Day(werktag) = schritte::add_werktage(t, 1, cal) else {
         return Step::Outside;
     };
-    day_after(werktag)
+    schritte::day_after(werktag)
 }
 
 /// M(monate, W(werktage)) of document 01.
 fn months_after_werktage(t: u32, monate: u32, werktage: u32, cal: HolidayCalendar) -> Step
     requires { ⌜ t ≤ last ⌝ }
-    ensures { λ r. ⌜ r ≡ goOn (W (isWerktag cal) t werktage) (M monate) ⌝ }
+    ensures { λ r. ⌜ r ≡ onStep Step.Outside (W (isWerktag cal) t werktage) (M monate) ⌝ }
 {
-    let Step::Day(day) = day_after_werktage(t, werktage, cal) else {
+    let Step::Day(day) = schritte::day_after_werktage(t, werktage, cal) else {
         return Step::Outside;
     };
     monate::months_or_first(day, monate)
 }
 
 impl VorlaufShape {
-    /// The verdict on a transmission day and an anchor. A date that it names is one of the calendar.
+    /// The verdict on a transmission day and an anchor: Ok up to the last permitted transmission day, TooLate after it,
+    /// and for the window and the Korridor TooEarly before the day on which they open.
+    ///
+    /// `Outside` where a date that the Rust computes leaves the calendar; the two month shapes compute their earliest
+    /// date even when the verdict is Ok. A date that is named lies in the calendar, and may be none that is acceptable.
+    ///
+    /// `LatestWerktageBefore(1)` from Saturday 10 January 2026 against Monday 12 January: TooLate by 0 Werktage, with
+    /// that Monday.
     pub fn check(self, uebertragungstag: u32, anchor: u32, cal: HolidayCalendar) -> VorlaufVerdict
         requires { ⌜ (uebertragungstag ≤ last) × (anchor ≤ last) ⌝ }
         ensures { λ r. ⌜ (r ≡ checkOf (isWerktag cal) self uebertragungstag anchor) × insideVerdict r ⌝ }
@@ -395,7 +346,9 @@ impl VorlaufShape {
         }
     }
 
-    /// The anchors that a transmission day may ask for. Its ends are days of the calendar.
+    /// The anchors that a transmission day may ask for ('The span of anchors').
+    ///
+    /// `Outside` where an end leaves the calendar. Only the window's span can be empty.
     ///
     /// `LatestWerktageBefore(1)` from Saturday 10 January 2026: from Tuesday 13 January. `LatestMonateBefore(1)` from
     /// 31 January 2026: from 1 March.
@@ -405,9 +358,13 @@ impl VorlaufShape {
     {
         let t = uebertragungstag;
         match self {
-            VorlaufShape::LatestWerktageBefore(n) => span_from(day_after_werktage(t, n, cal)),
+            VorlaufShape::LatestWerktageBefore(n) => span_from(schritte::day_after_werktage(
+                t,
+                n,
+                cal,
+            )),
             VorlaufShape::WindowWerktageBefore { earliest, latest } => span_between(
-                day_after_werktage(t, latest, cal),
+                schritte::day_after_werktage(t, latest, cal),
                 schritte::add_werktage(t, earliest, cal),
             ),
             VorlaufShape::LatestWerktageAfter(n) => span_from(schritte::sub_werktage(t, n, cal)),

@@ -1,4 +1,5 @@
--- The Anonymous Gregorian algorithm in the calendar's years: no difference in it goes below 0, and it gives a date of March or April.
+-- The Anonymous Gregorian algorithm in the calendar's years: no difference in it goes below 0, and it gives a date of
+-- March or April.
 --   enough, room       the difference under l does not go below 0
 --   n-bounds           n lies from 114 to 149, so the date from 22 March to 26 April
 --   easter-valid       Easter Sunday is a date of the range

@@ -1,16 +1,20 @@
--- The list's definitions against values from outside: Easter Sundays of published tables (Physikalisch-Technische Bundesanstalt; the earliest and
--- the latest possible date among them), and days whose holidays of 2026 are published.
+-- The list's definitions against values from outside: Easter Sundays of published tables (Physikalisch-Technische
+-- Bundesanstalt; the earliest and the latest possible date among them), days whose holidays of 2026 are published, and
+-- Werktage counted on the calendar of Python.
 -- Assumes nothing.
 use Prim.Native.Nat.{ℕ}
 use mathlib.Core.Bool.{Bool, true, false}
 use mathlib.Core.List.{[], _∷_}
-use mathlib.Core.Path.{_≡_, refl}
+use mathlib.Core.Path.{_≡_, refl, _∙_}
+use native.Mathlib.Omega.{arith}
+use Rattle.zaehlung.specs.Walk.{count}
 use Rattle.zaehlung.specs.Blocks.{start, at}
 use Rattle.datum.specs.declared.Date.{Date}
-use Rattle.datum.specs.Calendar.{isLeap, yearLen, daysInMonth, dateIn, dateOf, daysBefore}
+use Rattle.datum.specs.Calendar.{isLeap, yearLen, yearStart, daysInMonth, dateIn, daysBefore}
 use Rattle.werktag.specs.declared.HolidayCalendar.the-variants.{BdewMaKo}
 use Rattle.werktag.specs.Easter.{easterSunday, easterIndex}
-use Rattle.werktag.specs.Werktag.{any, isFixed, isBussUndBettag, isEasterFeast, isBdewMakoHoliday, isWerktag}
+use Rattle.werktag.specs.Werktag.{any, isFixed, isBussUndBettag, isEasterFeast, isWerktagIn, isWerktag}
+use Rattle.werktag.proofs.Computed.{yearAt, openIn, inYear, years-count}
 
 abbrev on : ℕ → ℕ → ℕ → Date
 on y m d = record { year = y; month = m; day = d }
@@ -26,12 +30,30 @@ easters = refl
 abbrev w : Date → Bool
 w d = isWerktag BdewMaKo (daysBefore d)
 
--- 2026: Karfreitag 3 April, Ostermontag 6 April, Christi Himmelfahrt 14 May, Pfingstmontag 25 May, Fronleichnam 4 June, Buß- und Bettag
--- 18 November; then the Tuesday after Easter, the Wednesday before and the Wednesday after Buß- und Bettag, and a Saturday
+-- 2026: Karfreitag 3 April, Ostermontag 6 April, Christi Himmelfahrt 14 May, Pfingstmontag 25 May, Fronleichnam 4 June,
+-- Buß- und Bettag 18 November; then the Tuesday after Easter, the Wednesday before and the Wednesday after Buß- und
+-- Bettag, and a Saturday
 pub year-2026 :
     w (on 2026 4 3) ∷ w (on 2026 4 6) ∷ w (on 2026 5 14) ∷ w (on 2026 5 25) ∷ w (on 2026 6 4) ∷ w (on 2026 11 18)
     ∷ w (on 2026 4 7) ∷ w (on 2026 11 11) ∷ w (on 2026 11 25) ∷ w (on 2026 4 4) ∷ []
     ≡ false ∷ false ∷ false ∷ false ∷ false ∷ false
     ∷ true ∷ true ∷ true ∷ false ∷ []
-unfolding isWerktag isBdewMakoHoliday isFixed isBussUndBettag isEasterFeast any easterIndex easterSunday dateOf dateIn at start yearLen daysInMonth isLeap
+unfolding isWerktag isFixed isBussUndBettag isEasterFeast any easterIndex easterSunday dateIn at start yearLen
+    daysInMonth isLeap
 year-2026 = refl
+
+-- the calendar's first Werktag is 2 January 1996, its last 30 December 2899
+pub edges :
+    isWerktagIn BdewMaKo 0 0 ∷ isWerktagIn BdewMaKo 0 1
+    ∷ isWerktagIn BdewMaKo 903 363 ∷ isWerktagIn BdewMaKo 903 364 ∷ []
+    ≡ false ∷ true ∷ true ∷ false ∷ []
+unfolding isFixed isBussUndBettag isEasterFeast any easterIndex easterSunday dateIn at start yearLen daysInMonth isLeap
+edges = refl
+
+-- the Werktage of 1996 to 2095
+century-sum : start inYear 100 ≡ 24565
+unfolding start count openIn yearAt easterSunday any at daysInMonth isLeap yearLen
+century-sum = refl
+
+pub century : count (isWerktag BdewMaKo) (yearStart 100) ≡ 24565
+century = years-count 100 (omega arith) ∙ century-sum

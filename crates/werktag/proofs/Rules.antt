@@ -1,4 +1,5 @@
--- What the proofs of this crate's functions cite: a lemma for each return and each turn of a loop, with premises in the form in which they stand there.
+-- What the proofs of this crate's functions cite: a lemma for each return and each turn of a loop, with premises in the
+-- form in which they stand there.
 -- Assumes nothing.
 use Prim.Native.Nat.{ℕ, _+_, _-_, _≤_, _<_}
 use mathlib.Core.Bool.{Bool, true, false, not, _&&_}
@@ -14,14 +15,17 @@ use mir.Val.{SFits, toZ, ofZ}
 use mir.Facts.{toZ-ofZ}
 use Rattle.zaehlung.specs.Walk.{last}
 use Rattle.datum.specs.declared.Date.{Date}
-use Rattle.datum.specs.Calendar.{dateOf, daysBefore, weekday}
+use Rattle.datum.specs.Calendar.{yearLen, yearStart, yearOf, dateOf, daysBefore, weekday}
+use Rattle.zaehlung.proofs.BlockLaws.{at-sum}
+use Rattle.datum.proofs.Years.{start-none}
 use Rattle.zaehlung.proofs.Every.{run, run-at}
 use Rattle.datum.proofs.Dates.{and-left, and-right, and-no, index-date}
 use Rattle.datum.proofs.Signed.{back, pos-fits, neg-fits, back-pos, sub-fits, same-bits}
 use Rattle.werktag.specs.declared.HolidayCalendar.{HolidayCalendar}
 use Rattle.werktag.specs.declared.HolidayCalendar.the-variants.{BdewMaKo}
 use Rattle.werktag.specs.Easter.{easterSunday, easterIndex}
-use Rattle.werktag.specs.Werktag.{any, eqZ, fixedDays, isFixed, isBussUndBettag, easterOffsets, isEasterFeast, isBdewMakoHoliday, isWerktag}
+use Rattle.werktag.specs.Werktag.{any, eqZ, fixedDays, isFixed, isBussUndBettag, easterOffsets, isEasterFeast}
+use Rattle.werktag.specs.Werktag.{isBdewMakoHoliday, isWerktag}
 use Rattle.werktag.proofs.Search.{search-hit, search-miss, search-none}
 use Rattle.werktag.proofs.Signed.{eq-eqZ, ne-eqZ, from-distance}
 
@@ -66,7 +70,8 @@ module _ (m d i : ℕ) (e : any (onDay m d) (drop i fixedDays) ≡ isFixed m d) 
       let k = entry-is i h in
       search-hit (onDay m d) fixedDays (0, 0) i whole h (rw (eq-eqb (entry i .0) d (k .0 ∙ q)) (eq-eqb (entry i .1) m (k .1 ∙ p)))
 
-  pub fixed-other-day : i < 13 → getD months i 0 ≡ m → (getD days i 0 ≡ d → ⊥) → any (onDay m d) (drop (i + 1) fixedDays) ≡ isFixed m d
+  pub fixed-other-day :
+      i < 13 → getD months i 0 ≡ m → (getD days i 0 ≡ d → ⊥) → any (onDay m d) (drop (i + 1) fixedDays) ≡ isFixed m d
   unfolding isFixed
   fixed-other-day h p q =
       let k = entry-is i h in
@@ -130,7 +135,9 @@ module _ (z : ℤ) (i : ℕ) (f : SFits w64 z) (e : any (eqZ (back z)) (drop i e
   offset-hit h p =
       search-hit (eqZ (back z)) easterOffsets (pos 0) i e h (eq-eqZ (back z) (offset i) (toZ-ofZ f ∙ sym (same-bits (offset i) z (offset-fits i h) f p))) ∙ at-z
 
-  pub offset-miss : i < 6 → (ofZ w64 (offset i) ≡ ofZ w64 z → ⊥) → any (eqZ (back z)) (drop (i + 1) easterOffsets) ≡ any (eqZ (back z)) easterOffsets
+  pub offset-miss :
+      i < 6 → (ofZ w64 (offset i) ≡ ofZ w64 z → ⊥) →
+      any (eqZ (back z)) (drop (i + 1) easterOffsets) ≡ any (eqZ (back z)) easterOffsets
   offset-miss h n =
       search-miss (eqZ (back z)) easterOffsets (pos 0) i e h (ne-eqZ (back z) (offset i) (λ q. n (ap (ofZ w64) (sym q ∙ toZ-ofZ f))))
 
@@ -155,11 +162,15 @@ module _ (i : ℕ) (d : Date) (e : d ≡ dateOf i) where
   unfolding isBdewMakoHoliday
   by-table a p t = rw (← e, sym p ∙ t)
 
-  pub by-wednesday : (a b : Bool) (w : ℕ) → a ≡ isFixed (d .month) (d .day) → a ≡ false → w ≡ weekday i → b ≡ isBussUndBettag (d .month) (d .day) w → b ≡ true → true ≡ isBdewMakoHoliday i
+  pub by-wednesday :
+      (a b : Bool) (w : ℕ) → a ≡ isFixed (d .month) (d .day) → a ≡ false → w ≡ weekday i →
+      b ≡ isBussUndBettag (d .month) (d .day) w → b ≡ true → true ≡ isBdewMakoHoliday i
   unfolding isBdewMakoHoliday
   by-wednesday a b w p t g q u = rw (← e, sym p ∙ t, ← g, sym q ∙ u)
 
-  pub by-easter : (a b r : Bool) (w : ℕ) → a ≡ isFixed (d .month) (d .day) → a ≡ false → w ≡ weekday i → b ≡ isBussUndBettag (d .month) (d .day) w → b ≡ false → r ≡ isEasterFeast i (d .year) → r ≡ isBdewMakoHoliday i
+  pub by-easter :
+      (a b r : Bool) (w : ℕ) → a ≡ isFixed (d .month) (d .day) → a ≡ false → w ≡ weekday i →
+      b ≡ isBussUndBettag (d .month) (d .day) w → b ≡ false → r ≡ isEasterFeast i (d .year) → r ≡ isBdewMakoHoliday i
   unfolding isBdewMakoHoliday
   by-easter a b r w p t g q u s = rw (← e, sym p ∙ t, ← g, sym q ∙ u) s
 
@@ -171,13 +182,20 @@ module _ (i : ℕ) (d : Date) (e : d ≡ dateOf i) where
 
 pub ruleset holiday-rules = (by-table, by-wednesday, by-easter, year-from, year-to)
 
--- is_werktag
-pub weekend : (cal : HolidayCalendar) (i w : ℕ) → w ≡ weekday i → 5 ≤ w → false ≡ isWerktag cal i
-unfolding isWerktag
-weekend BdewMaKo i w e h = rw (← e, le-leb 5 w h)
+-- is_werktag: a day's year and the day in it make its index
+pub parts : (i : ℕ) → yearStart (yearOf i .0) + yearOf i .1 ≡ i
+parts i = omega (arith, at-sum yearLen 903 0 i, start-none)
 
-pub no-weekend : (cal : HolidayCalendar) (i w : ℕ) (r : Bool) → w ≡ weekday i → w < 5 → r ≡ isBdewMakoHoliday i → not r ≡ isWerktag cal i
-unfolding isWerktag
-no-weekend BdewMaKo i w r e h p = rw (← e, lt-leb 5 w h, p)
+pub werktag-is : (i : ℕ) → isWerktag BdewMaKo i ≡ (not (leb 5 (weekday i)) && not (isBdewMakoHoliday i))
+unfolding isWerktag isBdewMakoHoliday dateOf
+werktag-is i = rw (parts i)
+
+pub weekend : (cal : HolidayCalendar) (i w : ℕ) → w ≡ weekday i → 5 ≤ w → false ≡ isWerktag cal i
+weekend BdewMaKo i w e h = rw (werktag-is i, ← e, le-leb 5 w h)
+
+pub no-weekend :
+    (cal : HolidayCalendar) (i w : ℕ) (r : Bool) → w ≡ weekday i → w < 5 → r ≡ isBdewMakoHoliday i →
+    not r ≡ isWerktag cal i
+no-weekend BdewMaKo i w r e h p = rw (werktag-is i, ← e, lt-leb 5 w h, p)
 
 pub ruleset werktag-rules = (weekend, no-weekend)

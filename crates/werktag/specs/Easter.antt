@@ -1,8 +1,8 @@
 -- Easter Sunday.
 --   easterSunday y  = its date in the year y
 --   easterIndex y   = its index
--- Source: the Anonymous Gregorian algorithm (Nature, 20 April 1876; Meeus, Astronomical Algorithms, chapter 8), in its own letters.
--- No difference in it goes below 0 in a year of the calendar, so natural numbers serve.
+-- Source: the Anonymous Gregorian algorithm (Nature, 20 April 1876; Meeus, Astronomical Algorithms, chapter 8), in its
+-- own letters. No difference in it goes below 0 in a year of the calendar, so natural numbers serve.
 use Prim.Native.Nat.{ℕ, _+_, _*_, _-_, _/_, _%_}
 use Rattle.datum.specs.declared.Date.{Date}
 use Rattle.datum.specs.Calendar.{daysBefore}

@@ -3,17 +3,23 @@
 --   isFixed m d           = whether day d of month m is one of them
 --   isBussUndBettag m d w = whether it is the Wednesday from 16 to 22 November, w being its weekday
 --   easterOffsets         = the days from Easter Sunday to each feast that moves with it
---   isEasterFeast i y     = whether the day with index i is one of these feasts of the year y
---   isBdewMakoHoliday i           = whether the day with index i is in the list
---   isWerktag cal i         = whether the day with index i is a Werktag
--- Source: GPKE Teil 1 (Werktag: 'alle Tage .., die kein Samstag, Sonntag oder gesetzlicher Feiertag sind'; a holiday of one Land counts
--- everywhere; 24.12. and 31.12. count as holidays); document 01, 'lib.rs, calendar', for the list.
+--   isOffset z            = whether z is one of these
+--   isEasterFeast i y     = whether the day with index i is one of the feasts of the year y that move with Easter
+--   isListed i d          = whether the day with index i and date d is in the list
+--   isBdewMakoHoliday i   = whether the day with index i is in the list
+--   isWerktagIn cal k r   = whether day r, from 0 on, of the year 1996 + k is a Werktag
+--   isWerktag cal i       = whether the day with index i is a Werktag
+-- The day test is one of a year and a day in it, so that a fact about all days can be computed year by year;
+-- proofs/Computed.antt has a form of it for that.
+-- Source: GPKE Teil 1 (Werktag: 'alle Tage .., die kein Samstag, Sonntag oder gesetzlicher Feiertag sind'; a holiday of
+-- one Land counts everywhere; 24.12. and 31.12. count as holidays); document 01, 'lib.rs, calendar', for the list.
 use Prim.Native.Nat.{ℕ, _+_}
 use mathlib.Core.Bool.{Bool, false, not, _&&_, _||_}
 use mathlib.Core.List.{List, [], _∷_}
 use lib.Dec.{eqb, leb}
 use lib.IntN.{ℤ, pos, negsuc, negℤ, _+ℤ_}
-use Rattle.datum.specs.Calendar.{dateOf, weekday}
+use Rattle.datum.specs.declared.Date.{Date}
+use Rattle.datum.specs.Calendar.{yearStart, yearOf, dateIn, dateOf, weekday}
 use Rattle.werktag.specs.declared.HolidayCalendar.{HolidayCalendar}
 use Rattle.werktag.specs.declared.HolidayCalendar.the-variants.{BdewMaKo}
 use Rattle.werktag.specs.Easter.{easterIndex}
@@ -30,10 +36,12 @@ eqZ (pos a) (negsuc b) = false
 eqZ (negsuc a) (pos b) = false
 eqZ (negsuc a) (negsuc b) = eqb a b
 
--- 'The fixed days are a table: 1.1., 6.1., 8.3., 1.5., 15.8., 20.9., 3.10., 31.10., 1.11., 24.12., 25.12., 26.12., 31.12.'
+-- 'The fixed days are a table: 1.1., 6.1., 8.3., 1.5., 15.8., 20.9., 3.10., 31.10., 1.11., 24.12., 25.12., 26.12.,
+-- 31.12.'
 abbrev pub fixedDays : List (ℕ × ℕ)
 fixedDays =
-    (1, 1) ∷ (6, 1) ∷ (8, 3) ∷ (1, 5) ∷ (15, 8) ∷ (20, 9) ∷ (3, 10) ∷ (31, 10) ∷ (1, 11) ∷ (24, 12) ∷ (25, 12) ∷ (26, 12) ∷ (31, 12) ∷ []
+    (1, 1) ∷ (6, 1) ∷ (8, 3) ∷ (1, 5) ∷ (15, 8) ∷ (20, 9) ∷ (3, 10) ∷ (31, 10) ∷ (1, 11)
+    ∷ (24, 12) ∷ (25, 12) ∷ (26, 12) ∷ (31, 12) ∷ []
 
 unfoldable pub isFixed : ℕ → ℕ → Bool
 isFixed m d = any (λ x. eqb (x .0) d && eqb (x .1) m) fixedDays
@@ -46,14 +54,24 @@ isBussUndBettag m d w = eqb m 11 && (leb 16 d && (leb d 22 && eqb w 2))
 abbrev pub easterOffsets : List ℤ
 easterOffsets = negℤ (pos 2) ∷ pos 1 ∷ pos 39 ∷ pos 49 ∷ pos 50 ∷ pos 60 ∷ []
 
+abbrev pub isOffset : ℤ → Bool
+isOffset z = any (eqZ z) easterOffsets
+
 unfoldable pub isEasterFeast : ℕ → ℕ → Bool
 isEasterFeast i y = any (λ o. eqZ (pos i) (pos (easterIndex y) +ℤ o)) easterOffsets
 
-unfoldable pub isBdewMakoHoliday : ℕ → Bool
-isBdewMakoHoliday i =
-    let d = dateOf i in
+abbrev pub isListed : ℕ → Date → Bool
+isListed i d =
     isFixed (d .month) (d .day) || (isBussUndBettag (d .month) (d .day) (weekday i) || isEasterFeast i (d .year))
 
--- 'Werktag: not Saturday, Sunday or a holiday (GPKE Teil 1).'
+unfoldable pub isBdewMakoHoliday : ℕ → Bool
+isBdewMakoHoliday i = isListed i (dateOf i)
+
+-- 'Werktag: not Saturday, Sunday or a holiday (GPKE Teil 1).' The day's index is yearStart k + r.
+abbrev pub isWerktagIn : HolidayCalendar → ℕ → ℕ → Bool
+isWerktagIn BdewMaKo k r =
+    let i = yearStart k + r in
+    not (leb 5 (weekday i)) && not (isListed i (dateIn k r))
+
 unfoldable pub isWerktag : HolidayCalendar → ℕ → Bool
-isWerktag BdewMaKo i = not (leb 5 (weekday i)) && not (isBdewMakoHoliday i)
+isWerktag cal i = let y = yearOf i in isWerktagIn cal (y .0) (y .1)

@@ -5,26 +5,39 @@ ghost use mathlib.Core.Path.{_≡_};
 ghost use Prim.Native.Nat.{_≤_};
 ghost use Rattle.zaehlung.specs.Walk.{last};
 ghost use Rattle.werktag.specs.Easter.{easterSunday};
-ghost use Rattle.werktag.specs.Werktag.{any, eqZ, easterOffsets, isFixed, isBussUndBettag, isEasterFeast, isBdewMakoHoliday, isWerktag};
+ghost use Rattle.werktag.specs.Werktag.{isFixed, isBussUndBettag, isOffset, isEasterFeast};
+ghost use Rattle.werktag.specs.Werktag.{isBdewMakoHoliday, isWerktag};
 use datum::Date;
+
+/// Weekdays, Monday being 0.
+const WEDNESDAY: u32 = 2;
+
+const SATURDAY: u32 = 5;
 
 /// Whose holidays count. A holiday of any one Land counts everywhere.
 pub enum HolidayCalendar {
     BdewMaKo,
 }
 
-const FIXED_MONTH: [u8; 13] = [1, 1, 3, 5, 8, 9, 10, 10, 11, 12, 12, 12, 12];
+/// The fixed days: 1.1., 6.1., 8.3., 1.5., 15.8., 20.9., 3.10., 31.10., 1.11., 24.12., 25.12., 26.12., 31.12.
+const FIXED_DAYS: usize = 13;
 
-const FIXED_DAY: [u8; 13] = [1, 6, 8, 1, 15, 20, 3, 31, 1, 24, 25, 26, 31];
+const FIXED_MONTH: [u8; FIXED_DAYS] = [1, 1, 3, 5, 8, 9, 10, 10, 11, 12, 12, 12, 12];
 
-const EASTER_OFFSET: [i64; 6] = [-2, 1, 39, 49, 50, 60];
+const FIXED_DAY: [u8; FIXED_DAYS] = [1, 6, 8, 1, 15, 20, 3, 31, 1, 24, 25, 26, 31];
+
+/// Karfreitag, Ostermontag, Christi Himmelfahrt, Pfingstsonntag, Pfingstmontag, Fronleichnam, in days from Easter
+/// Sunday.
+const EASTER_FEASTS: usize = 6;
+
+const EASTER_OFFSET: [i64; EASTER_FEASTS] = [-2, 1, 39, 49, 50, 60];
 
 /// Whether month and day stand side by side in the two tables.
 fn is_fixed(month: u8, day: u8) -> bool
     ensures { λ r. ⌜ r ≡ isFixed month day ⌝ }
 {
     let mut i = 0;
-    while i < 13 {
+    while i < FIXED_DAYS {
         let m = FIXED_MONTH[i];
         let d = FIXED_DAY[i];
         i += 1;
@@ -37,7 +50,7 @@ fn is_fixed(month: u8, day: u8) -> bool
     false
 }
 
-/// The Wednesday from 16 to 22 November.
+/// Buß- und Bettag: 'the Wednesday from 16 to 22 November'.
 fn is_buss_und_bettag(month: u8, day: u8, weekday: u32) -> bool
     ensures { λ r. ⌜ r ≡ isBussUndBettag month day weekday ⌝ }
 {
@@ -50,10 +63,14 @@ fn is_buss_und_bettag(month: u8, day: u8, weekday: u32) -> bool
     if 22 < day {
         return false;
     }
-    weekday == 2
+    weekday == WEDNESDAY
 }
 
 /// Easter Sunday by the Anonymous Gregorian algorithm, in its own letters.
+///
+/// For a year of the calendar: no difference in it then goes below 0.
+///
+/// In 2026 it is 5 April; the earliest is 22 March (2285), the latest 25 April (2038).
 pub fn easter_sunday(year: u16) -> Date
     requires { ⌜ (1996 ≤ year) × (year ≤ 2899) ⌝ }
     ensures { λ r. ⌜ r ≡ easterSunday year ⌝ }
@@ -81,10 +98,10 @@ pub fn easter_sunday(year: u16) -> Date
 
 /// Whether a number of days from Easter Sunday is one of the table's.
 fn is_offset(distance: i64) -> bool
-    ensures { λ r. ⌜ r ≡ any (eqZ distance) easterOffsets ⌝ }
+    ensures { λ r. ⌜ r ≡ isOffset distance ⌝ }
 {
     let mut i = 0;
-    while i < 6 {
+    while i < EASTER_FEASTS {
         let offset = EASTER_OFFSET[i];
         i += 1;
         if offset == distance {
@@ -118,12 +135,16 @@ fn is_bdew_mako_holiday(index: u32) -> bool
     is_easter_feast(index, date.year)
 }
 
-/// Whether a day, given by its index, is a Werktag: 18 November 2026, Buß- und Bettag, is none.
+/// Whether a day, given by its index, is a Werktag: 'not Saturday, Sunday or a holiday (GPKE Teil 1)'.
+///
+/// A holiday of any one Land counts everywhere, and 24 and 31 December count as holidays.
+///
+/// 18 November 2026, Buß- und Bettag, is none; 7 April 2026, the Tuesday after Easter, is one.
 pub fn is_werktag(day: u32, cal: HolidayCalendar) -> bool
     requires { ⌜ day ≤ last ⌝ }
     ensures { λ r. ⌜ r ≡ isWerktag cal day ⌝ }
 {
-    if 5 <= datum::weekday(day) {
+    if SATURDAY <= datum::weekday(day) {
         return false;
     }
     match cal {

@@ -43,7 +43,8 @@ module _ (len : ℕ → ℕ) where
       let v : r < len j = omega (arith, ap len q) in
       cc (at-here f j r v)
 
-  pub at-is : (f j k r s : ℕ) → j ≤ k → k ≤ j + f → start len j + r ≡ start len k + s → s < len k → at len f j r ≡ (k, s)
+  pub at-is :
+      (f j k r s : ℕ) → j ≤ k → k ≤ j + f → start len j + r ≡ start len k + s → s < len k → at len f j r ≡ (k, s)
   at-is zero j k r s h g e b = at-same zero j k r s (omega arith) e b
   at-is (suc f) j k r s h g e b =
       elim (decLt j k) [

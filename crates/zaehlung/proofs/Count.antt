@@ -9,6 +9,8 @@
 --   count-at       an open day with no fewer before it than before b is b or later
 --   count-same     two open days with as many before them are one
 --   count-among    among w d k + count w d ≡ count w (d + k): the days from d on make the difference
+--   count-shift    count w (s + n) ≡ count w s + count (λ r. w (s + r)) n: the days from s on, counted from s
+--   count-cong     tests that agree before n count the same before n
 -- Source: the definition of count in Walk.
 -- Assumes nothing.
 use Prim.Native.Nat.{ℕ, zero, suc, _+_, _-_, _≤_, _<_}
@@ -64,3 +66,14 @@ module _ (w : ℕ → Bool) where
   count-among d (suc k) =
       let e : d + suc k ≡ suc d + k = omega arith in
       rw e (omega (arith, count-among (suc d) k, count-suc d))
+
+pub count-shift : (w : ℕ → Bool) (s n : ℕ) → count w (s + n) ≡ count w s + count (λ r. w (s + r)) n
+count-shift w s zero = rw add-zero (omega (arith, count-none (λ r. w (s + r))))
+count-shift w s (suc n) =
+    rw add-suc (omega (arith, count-shift w s n, count-suc w (s + n), count-suc (λ r. w (s + r)) n))
+
+pub count-cong : (p q : ℕ → Bool) (n : ℕ) → ((r : ℕ) → r < n → p r ≡ q r) → count p n ≡ count q n
+count-cong p q zero f = omega (arith, count-none p, count-none q)
+count-cong p q (suc n) f =
+    let e = ap bit (f n (omega arith)) in
+    omega (arith, count-cong p q n (λ r h. f r (omega arith)), count-suc p n, count-suc q n)

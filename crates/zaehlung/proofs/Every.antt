@@ -38,5 +38,6 @@ run-at p (suc n) r t x h g =
     (λ e. absurd (subst T (sym t ∙ run-no p n r e) tt))
 
 -- n more numbers
-pub more : (p : ℕ → Bool) (a n : ℕ) → ((k : ℕ) → k < a → p k ≡ true) → run p n a ≡ true → (k : ℕ) → k < a + n → p k ≡ true
+pub more :
+    (p : ℕ → Bool) (a n : ℕ) → ((k : ℕ) → k < a → p k ≡ true) → run p n a ≡ true → (k : ℕ) → k < a + n → p k ≡ true
 more p a n f t k h = elim (decLt k a) [ yes l ↦ f k l | no l ↦ run-at p n a t k (omega arith) h ]

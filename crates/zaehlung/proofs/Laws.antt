@@ -3,7 +3,8 @@
 --   add-iff        add w d n ≡ Day e   exactly if  e is open, count w (suc e) ≡ count w (suc d) + n and e ≤ last; 1 ≤ n
 --   sub-iff        sub w d n ≡ Day e   exactly if  e is open and count w e + n ≡ count w d; 1 ≤ n
 --   next-iff       next w d ≡ Day e    exactly if  e is open, count w e ≡ count w d and e ≤ last
---   W-iff          W w t n ≡ Day e     exactly if  e is the day after an open one, count w e ≡ count w t + n and e ≤ last; 1 ≤ n
+--   W-iff          W w t n ≡ Day e     exactly if  e is the day after an open one, count w e ≡ count w t + n and e ≤
+--                  last; 1 ≤ n
 --   add-out-iff    add w d n ≡ Outside exactly if  fewer than n open days come after d
 --   sub-out-iff    sub w d n ≡ Outside exactly if  fewer than n come before d
 --   next-out-iff   next w d ≡ Outside  exactly if  none comes on d or after it
@@ -13,16 +14,22 @@
 --   between-later  between w a b ≡ 0, if b is not later than a
 --   add-between    between w d e ≡ n, if add w d n ≡ Day e
 --   add-inside sub-inside next-inside W-inside     a day that is reached is at most last
+--   dayAfter-is    dayAfter d ≡ Day e  says  e ≡ suc d and e ≤ last
+--   dayBefore-is   dayBefore d ≡ Day e  says  d ≡ suc e
+--   onStep-day     onStep Outside s f ≡ Day e  says  s reached a day d, and f d ≡ Day e
 -- Source: DESIGN, 'The one idea'; document 01, lib.rs and 'The span of anchors'; for add-between the remark on
 -- `werktage_between` in lib.rs, 'the inverse of `add_werktage`'.
 -- Assumes nothing.
-use Prim.Native.Nat.{ℕ, suc, _+_, _-_, _≤_, _<_}
+use Prim.Native.Nat.{ℕ, zero, suc, _+_, _-_, _≤_, _<_}
 use mathlib.Core.Bool.{Bool, true}
 use mathlib.Core.Logic.{_↔_}
-use mathlib.Core.Path.{_≡_}
+use mathlib.Core.Path.{_≡_, refl}
 use native.Mathlib.Omega.{arith}
+use native.Mathlib.Decide.{decLt}
+use borrow.Author.Tests.{lt-ltb, le-ltb}
+use Rattle.zaehlung.specs.declared.Step.{Step}
 use Rattle.zaehlung.specs.declared.Step.the-variants.{Day, Outside}
-use Rattle.zaehlung.specs.Walk.{last, add, sub, next, W, between, among, count}
+use Rattle.zaehlung.specs.Walk.{last, onStep, dayAfter, dayBefore, add, sub, next, W, between, among, count}
 use Rattle.zaehlung.proofs.Turns.{up-none, past-none, down-none}
 use Rattle.zaehlung.proofs.Count.{count-back, count-among}
 use Rattle.zaehlung.proofs.Reach.{up-out, past-out, first-day, first-out, down-out, add-day, sub-day, W-day}
@@ -121,3 +128,19 @@ module _ (w : ℕ → Bool) where
 
   pub W-inside : (t n e : ℕ) → t ≤ last → W w t n ≡ Day e → e ≤ last
   W-inside t n e h p = W-day w t n e h .0 p .within
+
+pub dayAfter-is : (d e : ℕ) → dayAfter d ≡ Day e → (e ≡ suc d) × (e ≤ last)
+unfolding dayAfter
+dayAfter-is d e p =
+    elim (decLt d last) [
+      | yes h ↦ let q : e ≡ suc d = cc (rw (lt-ltb d last h) at p) in (q, omega arith)
+      | no h ↦ let z : _≡_ {A = ℕ} 0 1 = cc (rw (le-ltb d last (omega arith)) at p) in absurd (omega arith)
+    ]
+
+pub dayBefore-is : (d e : ℕ) → dayBefore d ≡ Day e → d ≡ suc e
+dayBefore-is zero e p = let z : _≡_ {A = ℕ} 0 1 = cc in absurd (omega arith)
+dayBefore-is (suc d) e p = cc
+
+pub onStep-day : (s : Step) (f : ℕ → Step) (e : ℕ) → onStep Outside s f ≡ Day e → (d : ℕ) × (s ≡ Day d) × (f d ≡ Day e)
+onStep-day (Day d) f e p = (d, refl, p)
+onStep-day Outside f e p = let z : _≡_ {A = ℕ} 0 1 = cc in absurd (omega arith)

@@ -23,7 +23,7 @@ use native.Mathlib.Nat.{add-zero}
 use native.Mathlib.Decide.{decLe, decLt}
 use Rattle.zaehlung.specs.declared.Step.{Step}
 use Rattle.zaehlung.specs.declared.Step.the-variants.{Day, Outside}
-use Rattle.zaehlung.specs.Walk.{last, up, past, down, first, add, sub, W, count}
+use Rattle.zaehlung.specs.Walk.{onStep, last, up, past, down, first, add, sub, W, count}
 use Rattle.zaehlung.proofs.Every.{split}
 use Rattle.zaehlung.proofs.Turns.{up-none, up-edge, up-open, up-shut, past-none, past-edge, past-open, past-shut}
 use Rattle.zaehlung.proofs.Turns.{down-none, down-edge, down-open, down-shut, first-edge, first-open, first-shut}
@@ -48,10 +48,8 @@ pub record Down (w : ℕ → Bool) (d n e : ℕ) : Type 0 where
 
 -- the day after the one that a step reaches
 abbrev later : Step → Step
-later (Day e) = Day (suc e)
-later Outside = Outside
+later s = onStep Outside s (λ e. Day (suc e))
 
--- at a test b, with what each outcome says of it
 -- a day is not Outside
 never : {A : Type 0} (s : Step) (d : ℕ) → s ≡ Day d → s ≡ Outside → A
 never s d p q = let z : _≡_ {A = ℕ} 0 1 = cc in absurd (omega arith)
@@ -64,8 +62,8 @@ later-out : (s : Step) → later s ≡ Outside → s ≡ Outside
 later-out (Day f) p = never (Day (suc f)) (suc f) refl p
 later-out Outside p = refl
 
--- Where each outcome of a step brings a fact, P e of Day e and Q of Outside, and no two of these facts hold together, an
--- outcome is there exactly if its fact is.
+-- Where each outcome of a step brings a fact, P e of Day e and Q of Outside, and no two of these facts hold together,
+-- an outcome is there exactly if its fact is.
 module _ {s : Step} {P : ℕ → Type 0} {Q : Type 0} (day : (e : ℕ) → s ≡ Day e → P e) (out : s ≡ Outside → Q) where
   exactly-day : ((e f : ℕ) → P e → P f → e ≡ f) → ((e : ℕ) → P e → Q → ⊥) → (e : ℕ) → (s ≡ Day e) ↔ P e
   exactly-day one not e = (day e, λ p. go s refl p)

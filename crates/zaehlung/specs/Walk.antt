@@ -4,7 +4,8 @@
 --   add w d n      = the n-th open day after d; d itself for n = 0; Outside past the last day
 --   sub w d n      = the n-th open day before d; d itself for n = 0; Outside before day 0
 --   next w d       = the first open day on or after d; Outside if there is none up to the last day
---   W w t n        = the day after the n-th open day on or after t; t itself for n = 0; Outside past the last day
+--   W w t n        = the day after the n-th open day on or after t; t itself for n = 0; Outside past the last day:
+--                    `day_after_werktage`
 --   between w a b  = how many days after a, up to and with b, are open; 0 if b is not later
 --   count w d      = how many days before d are open
 -- and the walks that give them, with k, the number of days that are left to go:

@@ -1,5 +1,5 @@
-// Theorems about steps and counts over the days of the calendar, for any test of a day, and about years and months as
-// blocks of days. They stand in specs/; the code is what they speak of, the outcome of a step.
+// Steps and counts over the days of the calendar, for any test of a day, and years and months as blocks of days: specs/
+// has the definitions, proofs/ the theorems. The code is what they speak of, the outcome of a step.
 
 /// The calendar's first day, 1 January 1996, and its last, 31 December 2899, as indexes from the first.
 pub const FIRST: u32 = 0;

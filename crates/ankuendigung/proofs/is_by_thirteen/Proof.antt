@@ -5,6 +5,9 @@ use borrow.Author.Needs.{needs}
 use Rattle.ankuendigung.proofs.is_by_thirteen.Statement.{statement}
 use Rattle.ankuendigung.proofs.is_by_thirteen.Tie as tie
 
+o-clock-requires : tie.Need-o-clock-requires
+o-clock-requires c κs = search needs
+
 berlin-at-requires : tie.Need-berlin-at-requires
 berlin-at-requires c κs = search needs
 
@@ -27,6 +30,7 @@ pub is-by-thirteen-spec : {M : Type 1} → statement M
 is-by-thirteen-spec =
     tie.close
     (tie.spec
+    o-clock-requires
     berlin-at-requires
     enum-known-spaetestens
     is-before-requires

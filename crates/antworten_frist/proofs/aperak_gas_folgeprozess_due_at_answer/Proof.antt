@@ -1,7 +1,8 @@
--- `antworten_frist::aperak_gas_folgeprozess_due_at_answer` meets its contract: what is refused is refused in order, and the rest goes to the layer below.
+-- `antworten_frist::aperak_gas_folgeprozess_due_at_answer` meets its contract: what is refused is refused in order, and
+-- the rest goes to the layer below.
 -- Assumes nothing.
 use Rattle.antworten_frist.proofs.Rules.{frist-rules}
-use Rattle.antworten_frist.specs.Frist.{aperakGasFolgeprozessAnswer}
+use Rattle.antworten_frist.specs.Frist.{aperakGasFolgeprozessDueAtAnswer}
 use borrow.Author.Needs.{needs}
 use Rattle.antworten_frist.proofs.aperak_gas_folgeprozess_due_at_answer.Statement.{statement}
 use Rattle.antworten_frist.proofs.aperak_gas_folgeprozess_due_at_answer.Tie as tie
@@ -16,7 +17,7 @@ refused-requires : tie.Need-refused-requires
 refused-requires c κs = search needs
 
 returns : tie.Need-returns
-unfolding aperakGasFolgeprozessAnswer
+unfolding aperakGasFolgeprozessDueAtAnswer
 returns c = search (needs, frist-rules)
 
 aperak-gas-folgeprozess-due-at-requires : tie.Need-aperak-gas-folgeprozess-due-at-requires
@@ -26,7 +27,7 @@ due-answer-requires : tie.Need-due-answer-requires
 due-answer-requires c κs = search needs
 
 returns-2 : tie.Need-returns-2
-unfolding aperakGasFolgeprozessAnswer
+unfolding aperakGasFolgeprozessDueAtAnswer
 returns-2 c = search (needs, frist-rules)
 
 pub aperak-gas-folgeprozess-due-at-answer-spec : {M : Type 1} → statement M

@@ -1,7 +1,8 @@
--- `antworten_frist::aperak_strom_due_at_answer` meets its contract: what is refused is refused in order, and the rest goes to the layer below.
+-- `antworten_frist::aperak_strom_due_at_answer` meets its contract: what is refused is refused in order, and the rest
+-- goes to the layer below.
 -- Assumes nothing.
 use Rattle.antworten_frist.proofs.Rules.{frist-rules}
-use Rattle.antworten_frist.specs.Frist.{aperakStromAnswer}
+use Rattle.antworten_frist.specs.Frist.{aperakStromDueAtAnswer}
 use borrow.Author.Needs.{needs}
 use Rattle.antworten_frist.proofs.aperak_strom_due_at_answer.Statement.{statement}
 use Rattle.antworten_frist.proofs.aperak_strom_due_at_answer.Tie as tie
@@ -16,7 +17,7 @@ refused-requires : tie.Need-refused-requires
 refused-requires c κs = search needs
 
 returns : tie.Need-returns
-unfolding aperakStromAnswer
+unfolding aperakStromDueAtAnswer
 returns c = search (needs, frist-rules)
 
 aperak-strom-due-at-requires : tie.Need-aperak-strom-due-at-requires
@@ -26,7 +27,7 @@ due-answer-requires : tie.Need-due-answer-requires
 due-answer-requires c κs = search needs
 
 returns-2 : tie.Need-returns-2
-unfolding aperakStromAnswer
+unfolding aperakStromDueAtAnswer
 returns-2 c = search (needs, frist-rules)
 
 pub aperak-strom-due-at-answer-spec : {M : Type 1} → statement M

@@ -1,4 +1,5 @@
--- `antworten_frist::deadline_at_werktage_answer` meets its contract: what is refused is refused in order, and the rest goes to the layer below.
+-- `antworten_frist::deadline_at_werktage_answer` meets its contract: what is refused is refused in order, and the rest
+-- goes to the layer below.
 -- Assumes nothing.
 use Rattle.antworten_frist.proofs.Rules.{frist-rules}
 use Rattle.antworten_frist.specs.Frist.{deadlineAtWerktageAnswer}

@@ -1,7 +1,8 @@
--- `antworten_frist::frist_due_at_answer` meets its contract: what is refused is refused in order, and the rest goes to the layer below.
+-- `antworten_frist::frist_due_at_answer` meets its contract: what is refused is refused in order, and the rest goes to
+-- the layer below.
 -- Assumes nothing.
 use Rattle.antworten_frist.proofs.Rules.{frist-rules}
-use Rattle.antworten_frist.specs.Frist.{fristAnswer}
+use Rattle.antworten_frist.specs.Frist.{fristDueAtAnswer}
 use borrow.Author.Needs.{needs}
 use Rattle.antworten_frist.proofs.frist_due_at_answer.Statement.{statement}
 use Rattle.antworten_frist.proofs.frist_due_at_answer.Tie as tie
@@ -10,8 +11,11 @@ refused-requires : tie.Need-refused-requires
 refused-requires c κs = search needs
 
 returns : tie.Need-returns
-unfolding fristAnswer
+unfolding fristDueAtAnswer
 returns c = search (needs, frist-rules)
+
+shape-of-requires : tie.Need-shape-of-requires
+shape-of-requires c κs = search needs
 
 enum-known-instant : tie.Need-enum-known-instant
 enum-known-instant c = search needs
@@ -23,14 +27,11 @@ refused-requires-2 : tie.Need-refused-requires-2
 refused-requires-2 c κs = search needs
 
 returns-2 : tie.Need-returns-2
-unfolding fristAnswer
+unfolding fristDueAtAnswer
 returns-2 c = search (needs, frist-rules)
 
-shape-of-requires : tie.Need-shape-of-requires
-shape-of-requires c κs = search needs
-
-enum-known-shape : tie.Need-enum-known-shape
-enum-known-shape c = search needs
+enum-known-reading : tie.Need-enum-known-reading
+enum-known-reading c = search needs
 
 enum-told-2 : tie.Need-enum-told-2
 enum-told-2 c = search needs
@@ -39,7 +40,7 @@ refused-requires-3 : tie.Need-refused-requires-3
 refused-requires-3 c κs = search needs
 
 returns-3 : tie.Need-returns-3
-unfolding fristAnswer
+unfolding fristDueAtAnswer
 returns-3 c = search (needs, frist-rules)
 
 due-at-requires : tie.Need-due-at-requires
@@ -49,7 +50,7 @@ due-answer-requires : tie.Need-due-answer-requires
 due-answer-requires c κs = search needs
 
 returns-4 : tie.Need-returns-4
-unfolding fristAnswer
+unfolding fristDueAtAnswer
 returns-4 c = search (needs, frist-rules)
 
 pub frist-due-at-answer-spec : {M : Type 1} → statement M
@@ -58,12 +59,12 @@ frist-due-at-answer-spec =
     (tie.spec
     refused-requires
     returns
+    shape-of-requires
     enum-known-instant
     enum-told
     refused-requires-2
     returns-2
-    shape-of-requires
-    enum-known-shape
+    enum-known-reading
     enum-told-2
     refused-requires-3
     returns-3

@@ -1,5 +1,6 @@
--- `antworten_frist::shape_of` meets its contract: a lemma for each code, with and without its clock.
+-- `antworten_frist::shape_of` meets its contract: each arm gives its entry of the list, with its clock if it uses one.
 -- Assumes nothing.
+use Rattle.antworten.proofs.Codes.{none-before}
 use Rattle.antworten_frist.proofs.Rules.{shape-rules}
 use borrow.Author.Needs.{needs}
 use Rattle.antworten_frist.proofs.shape_of.Statement.{statement}
@@ -11,29 +12,29 @@ enum-known-clock c = search needs
 enum-told : tie.Need-enum-told
 enum-told c = search needs
 
-returns : tie.Need-returns
-returns c = search (needs, shape-rules)
-
-returns-2 : tie.Need-returns-2
-returns-2 c = search (needs, shape-rules)
-
-returns-3 : tie.Need-returns-3
-returns-3 c = search (needs, shape-rules)
-
 enum-known-clock-2 : tie.Need-enum-known-clock-2
 enum-known-clock-2 c = search needs
 
 enum-told-2 : tie.Need-enum-told-2
 enum-told-2 c = search needs
 
+returns : tie.Need-returns
+returns c = search (needs, shape-rules)
+
+returns-2 : tie.Need-returns-2
+returns-2 c = search needs
+
+returns-3 : tie.Need-returns-3
+returns-3 c = search (needs, shape-rules)
+
 returns-4 : tie.Need-returns-4
 returns-4 c = search (needs, shape-rules)
 
 returns-5 : tie.Need-returns-5
-returns-5 c = search (needs, shape-rules)
+returns-5 c = search needs
 
 returns-6 : tie.Need-returns-6
-returns-6 c = search (needs, shape-rules)
+returns-6 c = search (needs, shape-rules, none-before _ 3 (c .match .rest))
 
 pub shape-of-spec : {M : Type 1} → statement M
 shape-of-spec =
@@ -41,11 +42,11 @@ shape-of-spec =
     (tie.spec
     enum-known-clock
     enum-told
+    enum-known-clock-2
+    enum-told-2
     returns
     returns-2
     returns-3
-    enum-known-clock-2
-    enum-told-2
     returns-4
     returns-5
     returns-6)

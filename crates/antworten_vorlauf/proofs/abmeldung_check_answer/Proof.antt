@@ -1,19 +1,11 @@
--- `antworten_vorlauf::abmeldung_check_answer` meets its contract: what is refused is refused in order, and the rest goes to the layer below.
+-- `antworten_vorlauf::abmeldung_check_answer` meets its contract: what is refused is refused in order, and the rest
+-- goes to the layer below.
 -- Assumes nothing.
 use Rattle.antworten_vorlauf.proofs.Rules.{fuer-rules}
 use Rattle.antworten_vorlauf.specs.Vorlauf.{abmeldungCheckAnswer}
 use borrow.Author.Needs.{needs}
 use Rattle.antworten_vorlauf.proofs.abmeldung_check_answer.Statement.{statement}
 use Rattle.antworten_vorlauf.proofs.abmeldung_check_answer.Tie as tie
-
-eeg-of-requires : tie.Need-eeg-of-requires
-eeg-of-requires c κs = search needs
-
-enum-known-eeg : tie.Need-enum-known-eeg
-enum-known-eeg c = search needs
-
-enum-told : tie.Need-enum-told
-enum-told c = search needs
 
 refused-requires : tie.Need-refused-requires
 refused-requires c κs = search needs
@@ -22,14 +14,17 @@ returns : tie.Need-returns
 unfolding abmeldungCheckAnswer
 returns c = search (needs, fuer-rules)
 
+eeg-of-requires : tie.Need-eeg-of-requires
+eeg-of-requires c κs = search needs
+
 index-of-requires : tie.Need-index-of-requires
 index-of-requires c κs = search needs
 
 enum-known-uebertragungstag : tie.Need-enum-known-uebertragungstag
 enum-known-uebertragungstag c = search needs
 
-enum-told-2 : tie.Need-enum-told-2
-enum-told-2 c = search needs
+enum-told : tie.Need-enum-told
+enum-told c = search needs
 
 refused-requires-2 : tie.Need-refused-requires-2
 refused-requires-2 c κs = search needs
@@ -44,8 +39,8 @@ index-of-requires-2 c κs = search needs
 enum-known-zuordnungsende : tie.Need-enum-known-zuordnungsende
 enum-known-zuordnungsende c = search needs
 
-enum-told-3 : tie.Need-enum-told-3
-enum-told-3 c = search needs
+enum-told-2 : tie.Need-enum-told-2
+enum-told-2 c = search needs
 
 refused-requires-3 : tie.Need-refused-requires-3
 refused-requires-3 c κs = search needs
@@ -71,19 +66,17 @@ pub abmeldung-check-answer-spec : {M : Type 1} → statement M
 abmeldung-check-answer-spec =
     tie.close
     (tie.spec
-    eeg-of-requires
-    enum-known-eeg
-    enum-told
     refused-requires
     returns
+    eeg-of-requires
     index-of-requires
     enum-known-uebertragungstag
-    enum-told-2
+    enum-told
     refused-requires-2
     returns-2
     index-of-requires-2
     enum-known-zuordnungsende
-    enum-told-3
+    enum-told-2
     refused-requires-3
     returns-3
     fuer-requires

@@ -1,4 +1,5 @@
--- `antworten_vorlauf::abmeldung_fuer_answer` meets its contract: what is refused is refused in order, and the rest goes to the layer below.
+-- `antworten_vorlauf::abmeldung_fuer_answer` meets its contract: what is refused is refused in order, and the rest goes
+-- to the layer below.
 -- Assumes nothing.
 use Rattle.antworten_vorlauf.proofs.Rules.{fuer-rules}
 use Rattle.antworten_vorlauf.specs.Vorlauf.{abmeldungFuerAnswer}
@@ -6,21 +7,15 @@ use borrow.Author.Needs.{needs}
 use Rattle.antworten_vorlauf.proofs.abmeldung_fuer_answer.Statement.{statement}
 use Rattle.antworten_vorlauf.proofs.abmeldung_fuer_answer.Tie as tie
 
-eeg-of-requires : tie.Need-eeg-of-requires
-eeg-of-requires c κs = search needs
-
-enum-known-eeg : tie.Need-enum-known-eeg
-enum-known-eeg c = search needs
-
-enum-told : tie.Need-enum-told
-enum-told c = search needs
-
 refused-requires : tie.Need-refused-requires
 refused-requires c κs = search needs
 
 returns : tie.Need-returns
 unfolding abmeldungFuerAnswer
 returns c = search (needs, fuer-rules)
+
+eeg-of-requires : tie.Need-eeg-of-requires
+eeg-of-requires c κs = search needs
 
 fuer-requires : tie.Need-fuer-requires
 fuer-requires c κs = search needs
@@ -39,11 +34,9 @@ pub abmeldung-fuer-answer-spec : {M : Type 1} → statement M
 abmeldung-fuer-answer-spec =
     tie.close
     (tie.spec
-    eeg-of-requires
-    enum-known-eeg
-    enum-told
     refused-requires
     returns
+    eeg-of-requires
     fuer-requires
     case-code-requires
     of-kind-requires

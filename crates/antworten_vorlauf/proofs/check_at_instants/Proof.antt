@@ -1,7 +1,8 @@
--- `antworten_vorlauf::check_at_instants` meets its contract: what is refused is refused in order, and the rest goes to the layer below.
+-- `antworten_vorlauf::check_at_instants` meets its contract: what is refused is refused in order, and the rest goes to
+-- the layer below.
 -- Assumes nothing.
 use Rattle.antworten_vorlauf.proofs.Rules.{check-at-rules}
-use Rattle.antworten_vorlauf.specs.Vorlauf.{atInstants}
+use Rattle.antworten_vorlauf.specs.Vorlauf.{checkAtInstants}
 use borrow.Author.Needs.{needs}
 use Rattle.antworten_vorlauf.proofs.check_at_instants.Statement.{statement}
 use Rattle.antworten_vorlauf.proofs.check_at_instants.Tie as tie
@@ -16,7 +17,7 @@ refused-requires : tie.Need-refused-requires
 refused-requires c κs = search needs
 
 returns : tie.Need-returns
-unfolding atInstants
+unfolding checkAtInstants
 returns c = search (needs, check-at-rules)
 
 enum-known-beginning : tie.Need-enum-known-beginning
@@ -29,7 +30,7 @@ refused-requires-2 : tie.Need-refused-requires-2
 refused-requires-2 c κs = search needs
 
 returns-2 : tie.Need-returns-2
-unfolding atInstants
+unfolding checkAtInstants
 returns-2 c = search (needs, check-at-rules)
 
 tag-des-beginns-requires : tie.Need-tag-des-beginns-requires
@@ -45,7 +46,7 @@ refused-requires-3 : tie.Need-refused-requires-3
 refused-requires-3 c κs = search needs
 
 returns-3 : tie.Need-returns-3
-unfolding atInstants
+unfolding checkAtInstants
 returns-3 c = search (needs, check-at-rules)
 
 berlin-date-requires : tie.Need-berlin-date-requires
@@ -58,7 +59,7 @@ verdict-answer-requires : tie.Need-verdict-answer-requires
 verdict-answer-requires c κs = search needs
 
 returns-4 : tie.Need-returns-4
-unfolding atInstants
+unfolding checkAtInstants
 returns-4 c = search (needs, check-at-rules)
 
 pub check-at-instants-spec : {M : Type 1} → statement M

@@ -11,8 +11,8 @@ months-or-first-date-requires c κs = search needs
 enum-known-first : tie.Need-enum-known-first
 enum-known-first c = search needs
 
-no-date-requires : tie.Need-no-date-requires
-no-date-requires c κs = search needs
+zero-date-requires : tie.Need-zero-date-requires
+zero-date-requires c κs = search needs
 
 spanned-requires : tie.Need-spanned-requires
 spanned-requires c κs = search needs
@@ -35,7 +35,7 @@ month-span-answer-spec =
     (tie.spec
     months-or-first-date-requires
     enum-known-first
-    no-date-requires
+    zero-date-requires
     spanned-requires
     enum-told
     refused-requires

@@ -11,8 +11,8 @@ enum-known-span c = search needs
 date-of-requires : tie.Need-date-of-requires
 date-of-requires c κs = search (needs, span-rules)
 
-no-date-requires : tie.Need-no-date-requires
-no-date-requires c κs = search needs
+zero-date-requires : tie.Need-zero-date-requires
+zero-date-requires c κs = search needs
 
 spanned-requires : tie.Need-spanned-requires
 spanned-requires c κs = search needs
@@ -59,7 +59,7 @@ span-answer-spec =
     (tie.spec
     enum-known-span
     date-of-requires
-    no-date-requires
+    zero-date-requires
     spanned-requires
     enum-known-span-2
     date-of-requires-2

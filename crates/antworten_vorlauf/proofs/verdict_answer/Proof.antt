@@ -8,8 +8,8 @@ use Rattle.antworten_vorlauf.proofs.verdict_answer.Tie as tie
 enum-told : tie.Need-enum-told
 enum-told c = search needs
 
-no-date-requires : tie.Need-no-date-requires
-no-date-requires c κs = search needs
+zero-date-requires : tie.Need-zero-date-requires
+zero-date-requires c κs = search needs
 
 judged-requires : tie.Need-judged-requires
 judged-requires c κs = search needs
@@ -26,8 +26,8 @@ judged-requires-2 c κs = search needs
 enum-known-found-2 : tie.Need-enum-known-found-2
 enum-known-found-2 c = search needs
 
-no-date-requires-2 : tie.Need-no-date-requires-2
-no-date-requires-2 c κs = search needs
+zero-date-requires-2 : tie.Need-zero-date-requires-2
+zero-date-requires-2 c κs = search needs
 
 judged-requires-3 : tie.Need-judged-requires-3
 judged-requires-3 c κs = search needs
@@ -55,13 +55,13 @@ verdict-answer-spec =
     tie.close
     (tie.spec
     enum-told
-    no-date-requires
+    zero-date-requires
     judged-requires
     enum-known-found
     date-of-requires
     judged-requires-2
     enum-known-found-2
-    no-date-requires-2
+    zero-date-requires-2
     judged-requires-3
     enum-told-2
     refused-requires

@@ -1,19 +1,11 @@
--- `antworten_vorlauf::vorlauf_check_answer` meets its contract: what is refused is refused in order, and the rest goes to the layer below.
+-- `antworten_vorlauf::vorlauf_check_answer` meets its contract: what is refused is refused in order, and the rest goes
+-- to the layer below.
 -- Assumes nothing.
 use Rattle.antworten_vorlauf.proofs.Rules.{vorlauf-rules}
 use Rattle.antworten_vorlauf.specs.Vorlauf.{vorlaufCheckAnswer}
 use borrow.Author.Needs.{needs}
 use Rattle.antworten_vorlauf.proofs.vorlauf_check_answer.Statement.{statement}
 use Rattle.antworten_vorlauf.proofs.vorlauf_check_answer.Tie as tie
-
-shape-at-requires : tie.Need-shape-at-requires
-shape-at-requires c κs = search needs
-
-enum-known-shape : tie.Need-enum-known-shape
-enum-known-shape c = search needs
-
-enum-told : tie.Need-enum-told
-enum-told c = search needs
 
 refused-requires : tie.Need-refused-requires
 refused-requires c κs = search needs
@@ -22,14 +14,17 @@ returns : tie.Need-returns
 unfolding vorlaufCheckAnswer
 returns c = search (needs, vorlauf-rules)
 
+shape-of-requires : tie.Need-shape-of-requires
+shape-of-requires c κs = search needs
+
 index-of-requires : tie.Need-index-of-requires
 index-of-requires c κs = search needs
 
 enum-known-uebertragungstag : tie.Need-enum-known-uebertragungstag
 enum-known-uebertragungstag c = search needs
 
-enum-told-2 : tie.Need-enum-told-2
-enum-told-2 c = search needs
+enum-told : tie.Need-enum-told
+enum-told c = search needs
 
 refused-requires-2 : tie.Need-refused-requires-2
 refused-requires-2 c κs = search needs
@@ -44,8 +39,8 @@ index-of-requires-2 c κs = search needs
 enum-known-anchor : tie.Need-enum-known-anchor
 enum-known-anchor c = search needs
 
-enum-told-3 : tie.Need-enum-told-3
-enum-told-3 c = search needs
+enum-told-2 : tie.Need-enum-told-2
+enum-told-2 c = search needs
 
 refused-requires-3 : tie.Need-refused-requires-3
 refused-requires-3 c κs = search needs
@@ -68,19 +63,17 @@ pub vorlauf-check-answer-spec : {M : Type 1} → statement M
 vorlauf-check-answer-spec =
     tie.close
     (tie.spec
-    shape-at-requires
-    enum-known-shape
-    enum-told
     refused-requires
     returns
+    shape-of-requires
     index-of-requires
     enum-known-uebertragungstag
-    enum-told-2
+    enum-told
     refused-requires-2
     returns-2
     index-of-requires-2
     enum-known-anchor
-    enum-told-3
+    enum-told-2
     refused-requires-3
     returns-3
     check-requires

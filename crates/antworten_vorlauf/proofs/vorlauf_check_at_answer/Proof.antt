@@ -1,19 +1,11 @@
--- `antworten_vorlauf::vorlauf_check_at_answer` meets its contract: what is refused is refused in order, and the rest goes to the layer below.
+-- `antworten_vorlauf::vorlauf_check_at_answer` meets its contract: what is refused is refused in order, and the rest
+-- goes to the layer below.
 -- Assumes nothing.
 use Rattle.antworten_vorlauf.proofs.Rules.{check-at-rules}
 use Rattle.antworten_vorlauf.specs.Vorlauf.{vorlaufCheckAtAnswer}
 use borrow.Author.Needs.{needs}
 use Rattle.antworten_vorlauf.proofs.vorlauf_check_at_answer.Statement.{statement}
 use Rattle.antworten_vorlauf.proofs.vorlauf_check_at_answer.Tie as tie
-
-shape-at-requires : tie.Need-shape-at-requires
-shape-at-requires c κs = search needs
-
-enum-known-shape : tie.Need-enum-known-shape
-enum-known-shape c = search needs
-
-enum-told : tie.Need-enum-told
-enum-told c = search needs
 
 refused-requires : tie.Need-refused-requires
 refused-requires c κs = search needs
@@ -22,14 +14,8 @@ returns : tie.Need-returns
 unfolding vorlaufCheckAtAnswer
 returns c = search (needs, check-at-rules)
 
-sparte-of-requires : tie.Need-sparte-of-requires
-sparte-of-requires c κs = search needs
-
-enum-known-sparte : tie.Need-enum-known-sparte
-enum-known-sparte c = search needs
-
-enum-told-2 : tie.Need-enum-told-2
-enum-told-2 c = search needs
+shape-of-requires : tie.Need-shape-of-requires
+shape-of-requires c κs = search needs
 
 refused-requires-2 : tie.Need-refused-requires-2
 refused-requires-2 c κs = search needs
@@ -37,6 +23,9 @@ refused-requires-2 c κs = search needs
 returns-2 : tie.Need-returns-2
 unfolding vorlaufCheckAtAnswer
 returns-2 c = search (needs, check-at-rules)
+
+sparte-of-requires : tie.Need-sparte-of-requires
+sparte-of-requires c κs = search needs
 
 check-at-instants-requires : tie.Need-check-at-instants-requires
 check-at-instants-requires c κs = search needs
@@ -49,15 +38,11 @@ pub vorlauf-check-at-answer-spec : {M : Type 1} → statement M
 vorlauf-check-at-answer-spec =
     tie.close
     (tie.spec
-    shape-at-requires
-    enum-known-shape
-    enum-told
     refused-requires
     returns
-    sparte-of-requires
-    enum-known-sparte
-    enum-told-2
+    shape-of-requires
     refused-requires-2
     returns-2
+    sparte-of-requires
     check-at-instants-requires
     returns-3)

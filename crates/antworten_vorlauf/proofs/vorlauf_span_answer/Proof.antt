@@ -1,4 +1,5 @@
--- `antworten_vorlauf::vorlauf_span_answer` meets its contract: what is refused is refused in order, and the rest goes to the layer below.
+-- `antworten_vorlauf::vorlauf_span_answer` meets its contract: what is refused is refused in order, and the rest goes
+-- to the layer below.
 -- Assumes nothing.
 use Rattle.antworten_vorlauf.proofs.Rules.{vorlauf-span-rules}
 use Rattle.antworten_vorlauf.specs.Vorlauf.{vorlaufSpanAnswer}
@@ -6,21 +7,15 @@ use borrow.Author.Needs.{needs}
 use Rattle.antworten_vorlauf.proofs.vorlauf_span_answer.Statement.{statement}
 use Rattle.antworten_vorlauf.proofs.vorlauf_span_answer.Tie as tie
 
-shape-at-requires : tie.Need-shape-at-requires
-shape-at-requires c κs = search needs
-
-enum-known-shape : tie.Need-enum-known-shape
-enum-known-shape c = search needs
-
-enum-told : tie.Need-enum-told
-enum-told c = search needs
-
 refused-requires : tie.Need-refused-requires
 refused-requires c κs = search needs
 
 returns : tie.Need-returns
 unfolding vorlaufSpanAnswer
 returns c = search (needs, vorlauf-span-rules)
+
+shape-of-requires : tie.Need-shape-of-requires
+shape-of-requires c κs = search needs
 
 is-date-requires : tie.Need-is-date-requires
 is-date-requires c κs = search needs
@@ -32,8 +27,8 @@ returns-2 : tie.Need-returns-2
 unfolding vorlaufSpanAnswer
 returns-2 c = search (needs, vorlauf-span-rules)
 
-enum-known-shape-2 : tie.Need-enum-known-shape-2
-enum-known-shape-2 c = search needs
+enum-known-shape : tie.Need-enum-known-shape
+enum-known-shape c = search needs
 
 days-before-requires : tie.Need-days-before-requires
 days-before-requires c κs = search (needs, vorlauf-span-rules)
@@ -59,15 +54,13 @@ pub vorlauf-span-answer-spec : {M : Type 1} → statement M
 vorlauf-span-answer-spec =
     tie.close
     (tie.spec
-    shape-at-requires
-    enum-known-shape
-    enum-told
     refused-requires
     returns
+    shape-of-requires
     is-date-requires
     refused-requires-2
     returns-2
-    enum-known-shape-2
+    enum-known-shape
     days-before-requires
     span-requires
     span-answer-requires

@@ -1,17 +1,17 @@
--- `antwortsatz::at_instant` meets its contract: three fields are set, the seconds as they were given, and `blank` has left the others zero.
+-- `antwortsatz::at_instant` meets its contract: `filled` makes the answer, of the seconds as they were given.
 -- Assumes nothing.
 use mir.Facts.{toZ-ofZ}
-use Rattle.antwortsatz.specs.Answers.{zeroAnswer, instantAnswer}
+use Rattle.antwortsatz.specs.Answers.{atInstant}
 use borrow.Author.Needs.{needs}
 use Rattle.antwortsatz.proofs.at_instant.Statement.{statement}
 use Rattle.antwortsatz.proofs.at_instant.Tie as tie
 
-blank-requires : tie.Need-blank-requires
-blank-requires c κs = search needs
+filled-requires : tie.Need-filled-requires
+filled-requires c κs = search needs
 
 returns : tie.Need-returns
-unfolding zeroAnswer instantAnswer
-returns c = rw (toZ-ofZ (c .before .fits .seconds), c .blank .ensures)
+unfolding atInstant
+returns c = rw (c .filled .ensures, toZ-ofZ (c .before .fits .seconds))
 
 pub at-instant-spec : {M : Type 1} → statement M
-at-instant-spec = tie.close (tie.spec blank-requires returns)
+at-instant-spec = tie.close (tie.spec filled-requires returns)

@@ -1,16 +1,19 @@
--- `antwortsatz::dated` meets its contract: one field is set, and `blank` has left the others zero.
+-- `antwortsatz::dated` meets its contract: `filled` makes the answer, of dates as words.
 -- Assumes nothing.
-use Rattle.antwortsatz.specs.Answers.{zeroAnswer, dateAnswer}
+use Rattle.antwortsatz.specs.Answers.{dated}
 use borrow.Author.Needs.{needs}
 use Rattle.antwortsatz.proofs.dated.Statement.{statement}
 use Rattle.antwortsatz.proofs.dated.Tie as tie
 
-blank-requires : tie.Need-blank-requires
-blank-requires c κs = search needs
+date-word-requires : tie.Need-date-word-requires
+date-word-requires c κs = search needs
+
+filled-requires : tie.Need-filled-requires
+filled-requires c κs = search needs
 
 returns : tie.Need-returns
-unfolding zeroAnswer dateAnswer
-returns c = rw (c .blank .ensures)
+unfolding dated
+returns c = cc
 
 pub dated-spec : {M : Type 1} → statement M
-dated-spec = tie.close (tie.spec blank-requires returns)
+dated-spec = tie.close (tie.spec date-word-requires filled-requires returns)

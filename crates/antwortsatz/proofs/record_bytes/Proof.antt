@@ -1,7 +1,7 @@
--- `antwortsatz::record_bytes` meets its contract: the array is the definition, element by element, by computation, and `bits_of`
--- gives the bits of the seconds.
+-- `antwortsatz::record_bytes` meets its contract: the array is the definition, element by element, by computation, and
+-- `bits_of` gives the bits of the seconds.
 -- Assumes nothing.
-use Rattle.antwortsatz.proofs.Bits.{bytes-are}
+use Rattle.antwortsatz.proofs.Rules.{bytes-are}
 use borrow.Author.Needs.{needs}
 use Rattle.antwortsatz.proofs.record_bytes.Statement.{statement}
 use Rattle.antwortsatz.proofs.record_bytes.Tie as tie
@@ -9,65 +9,89 @@ use Rattle.antwortsatz.proofs.record_bytes.Tie as tie
 bits-of-requires : tie.Need-bits-of-requires
 bits-of-requires c κs = search needs
 
-cast-t8 : tie.Need-cast-t8
-cast-t8 c = search needs
+cast-t9 : tie.Need-cast-t9
+cast-t9 c = search needs
 
-cast-t11 : tie.Need-cast-t11
-cast-t11 c = search needs
+cast-t12 : tie.Need-cast-t12
+cast-t12 c = search needs
 
-cast-t14 : tie.Need-cast-t14
-cast-t14 c = search needs
+cast-t15 : tie.Need-cast-t15
+cast-t15 c = search needs
 
-cast-t17 : tie.Need-cast-t17
-cast-t17 c = search needs
+cast-t18 : tie.Need-cast-t18
+cast-t18 c = search needs
 
-cast-t19 : tie.Need-cast-t19
-cast-t19 c = search needs
+cast-t20 : tie.Need-cast-t20
+cast-t20 c = search needs
 
-cast-t22 : tie.Need-cast-t22
-cast-t22 c = search needs
+cast-t23 : tie.Need-cast-t23
+cast-t23 c = search needs
 
-cast-t25 : tie.Need-cast-t25
-cast-t25 c = search needs
+cast-t26 : tie.Need-cast-t26
+cast-t26 c = search needs
 
-cast-t28 : tie.Need-cast-t28
-cast-t28 c = search needs
+cast-t29 : tie.Need-cast-t29
+cast-t29 c = search needs
 
-cast-t31 : tie.Need-cast-t31
-cast-t31 c = search needs
+cast-t32 : tie.Need-cast-t32
+cast-t32 c = search needs
 
-cast-t34 : tie.Need-cast-t34
-cast-t34 c = search needs
+cast-t35 : tie.Need-cast-t35
+cast-t35 c = search needs
 
-cast-t37 : tie.Need-cast-t37
-cast-t37 c = search needs
+cast-t38 : tie.Need-cast-t38
+cast-t38 c = search needs
 
-cast-t40 : tie.Need-cast-t40
-cast-t40 c = search needs
+cast-t41 : tie.Need-cast-t41
+cast-t41 c = search needs
 
-cast-t42 : tie.Need-cast-t42
-cast-t42 c = search needs
+cast-t43 : tie.Need-cast-t43
+cast-t43 c = search needs
 
-cast-t45 : tie.Need-cast-t45
-cast-t45 c = search needs
+cast-t46 : tie.Need-cast-t46
+cast-t46 c = search needs
 
-cast-t48 : tie.Need-cast-t48
-cast-t48 c = search needs
+cast-t49 : tie.Need-cast-t49
+cast-t49 c = search needs
 
-cast-t51 : tie.Need-cast-t51
-cast-t51 c = search needs
+cast-t52 : tie.Need-cast-t52
+cast-t52 c = search needs
 
-cast-t53 : tie.Need-cast-t53
-cast-t53 c = search needs
+cast-t54 : tie.Need-cast-t54
+cast-t54 c = search needs
 
-cast-t56 : tie.Need-cast-t56
-cast-t56 c = search needs
+cast-t57 : tie.Need-cast-t57
+cast-t57 c = search needs
 
-cast-t58 : tie.Need-cast-t58
-cast-t58 c = search needs
+cast-t60 : tie.Need-cast-t60
+cast-t60 c = search needs
 
-cast-t61 : tie.Need-cast-t61
-cast-t61 c = search needs
+cast-t63 : tie.Need-cast-t63
+cast-t63 c = search needs
+
+cast-t65 : tie.Need-cast-t65
+cast-t65 c = search needs
+
+cast-t68 : tie.Need-cast-t68
+cast-t68 c = search needs
+
+cast-t71 : tie.Need-cast-t71
+cast-t71 c = search needs
+
+cast-t74 : tie.Need-cast-t74
+cast-t74 c = search needs
+
+cast-t76 : tie.Need-cast-t76
+cast-t76 c = search needs
+
+cast-t79 : tie.Need-cast-t79
+cast-t79 c = search needs
+
+cast-t82 : tie.Need-cast-t82
+cast-t82 c = search needs
+
+cast-t85 : tie.Need-cast-t85
+cast-t85 c = search needs
 
 returns : tie.Need-returns
 returns c = search (needs, bytes-are)
@@ -77,24 +101,32 @@ record-bytes-spec =
     tie.close
     (tie.spec
     bits-of-requires
-    cast-t8
-    cast-t11
-    cast-t14
-    cast-t17
-    cast-t19
-    cast-t22
-    cast-t25
-    cast-t28
-    cast-t31
-    cast-t34
-    cast-t37
-    cast-t40
-    cast-t42
-    cast-t45
-    cast-t48
-    cast-t51
-    cast-t53
-    cast-t56
-    cast-t58
-    cast-t61
+    cast-t9
+    cast-t12
+    cast-t15
+    cast-t18
+    cast-t20
+    cast-t23
+    cast-t26
+    cast-t29
+    cast-t32
+    cast-t35
+    cast-t38
+    cast-t41
+    cast-t43
+    cast-t46
+    cast-t49
+    cast-t52
+    cast-t54
+    cast-t57
+    cast-t60
+    cast-t63
+    cast-t65
+    cast-t68
+    cast-t71
+    cast-t74
+    cast-t76
+    cast-t79
+    cast-t82
+    cast-t85
     returns)

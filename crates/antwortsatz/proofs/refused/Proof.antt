@@ -1,16 +1,16 @@
--- `antwortsatz::refused` meets its contract: one field is set, and `blank` has left the others zero.
+-- `antwortsatz::refused` meets its contract: `filled` makes the answer.
 -- Assumes nothing.
-use Rattle.antwortsatz.specs.Answers.{zeroAnswer, refusedWith}
+use Rattle.antwortsatz.specs.Answers.{refused}
 use borrow.Author.Needs.{needs}
 use Rattle.antwortsatz.proofs.refused.Statement.{statement}
 use Rattle.antwortsatz.proofs.refused.Tie as tie
 
-blank-requires : tie.Need-blank-requires
-blank-requires c κs = search needs
+filled-requires : tie.Need-filled-requires
+filled-requires c κs = search needs
 
 returns : tie.Need-returns
-unfolding zeroAnswer refusedWith
-returns c = rw (c .blank .ensures)
+unfolding refused
+returns c = search needs
 
 pub refused-spec : {M : Type 1} → statement M
-refused-spec = tie.close (tie.spec blank-requires returns)
+refused-spec = tie.close (tie.spec filled-requires returns)

@@ -1,5 +1,5 @@
--- `antwortsatz::reply` meets its contract. The loop's invariant: the first i bytes of the slice are those of the answer, and the slice
--- has 32. At its end all 32 are. A slice of another length is not written.
+-- `antwortsatz::reply` meets its contract. The loop's invariant: the first i bytes of the slice are those of the
+-- answer, and the slice has 32. At its end all 32 are. A slice of another length is not written.
 -- Assumes nothing.
 use Prim.Native.Nat.{_≤_, _-_}
 use mathlib.Core.Path.{_≡_}

@@ -5,20 +5,23 @@ use borrow.Author.Needs.{needs}
 use Rattle.berlin.proofs.behind.Statement.{statement}
 use Rattle.berlin.proofs.behind.Tie as tie
 
-add-t5 : tie.Need-add-t5
-add-t5 c = search needs
+add-since-1970 : tie.Need-add-since-1970
+add-since-1970 c = search needs
 
 sub-t6 : tie.Need-sub-t6
 sub-t6 c = search needs
 
-returns : tie.Need-returns
-returns c = search (needs, behind-rules)
-
 add-t7 : tie.Need-add-t7
 add-t7 c = search needs
+
+sub-t8 : tie.Need-sub-t8
+sub-t8 c = search needs
+
+returns : tie.Need-returns
+returns c = search (needs, behind-rules)
 
 returns-2 : tie.Need-returns-2
 returns-2 c = search (needs, behind-rules)
 
 pub behind-spec : {M : Type 1} → statement M
-behind-spec = tie.close (tie.spec add-t5 sub-t6 returns add-t7 returns-2)
+behind-spec = tie.close (tie.spec add-since-1970 sub-t6 add-t7 sub-t8 returns returns-2)

@@ -1,4 +1,5 @@
--- `berlin::berlin_at` meets its contract: the four stretches of a year that the two switches cut off, each with the offset at the instants that may show the time.
+-- `berlin::berlin_at` meets its contract: the four stretches of a year that the two switches cut off, each with the
+-- offset at the instants that may show the time.
 -- Assumes nothing.
 use Rattle.berlin.proofs.Rules.{at-early, at-gap, at-summer, at-late}
 use borrow.Author.Needs.{needs}
@@ -8,8 +9,8 @@ use Rattle.berlin.proofs.berlin_at.Tie as tie
 switches-by-requires : tie.Need-switches-by-requires
 switches-by-requires c κs = search needs
 
-is-before-requires : tie.Need-is-before-requires
-is-before-requires c κs = search needs
+is-shown-before-requires : tie.Need-is-shown-before-requires
+is-shown-before-requires c κs = search needs
 
 behind-requires : tie.Need-behind-requires
 behind-requires c κs = search needs
@@ -17,14 +18,14 @@ behind-requires c κs = search needs
 returns : tie.Need-returns
 returns c = search (needs, at-early)
 
-is-before-requires-2 : tie.Need-is-before-requires-2
-is-before-requires-2 c κs = search needs
+is-shown-before-requires-2 : tie.Need-is-shown-before-requires-2
+is-shown-before-requires-2 c κs = search needs
 
 returns-2 : tie.Need-returns-2
 returns-2 c = search (needs, at-gap)
 
-is-before-requires-3 : tie.Need-is-before-requires-3
-is-before-requires-3 c κs = search needs
+is-shown-before-requires-3 : tie.Need-is-shown-before-requires-3
+is-shown-before-requires-3 c κs = search needs
 
 behind-requires-2 : tie.Need-behind-requires-2
 behind-requires-2 c κs = search needs
@@ -43,12 +44,12 @@ berlin-at-spec =
     tie.close
     (tie.spec
     switches-by-requires
-    is-before-requires
+    is-shown-before-requires
     behind-requires
     returns
-    is-before-requires-2
+    is-shown-before-requires-2
     returns-2
-    is-before-requires-3
+    is-shown-before-requires-3
     behind-requires-2
     returns-3
     behind-requires-3

@@ -8,14 +8,14 @@ use Rattle.berlin.proofs.offset_at.Tie as tie
 switches-by-requires : tie.Need-switches-by-requires
 switches-by-requires c κs = search needs
 
-is-before-requires : tie.Need-is-before-requires
-is-before-requires c κs = search needs
+is-shown-before-requires : tie.Need-is-shown-before-requires
+is-shown-before-requires c κs = search needs
 
 returns : tie.Need-returns
 returns c = search (needs, offset-early)
 
-is-before-requires-2 : tie.Need-is-before-requires-2
-is-before-requires-2 c κs = search needs
+is-shown-before-requires-2 : tie.Need-is-shown-before-requires-2
+is-shown-before-requires-2 c κs = search needs
 
 returns-2 : tie.Need-returns-2
 returns-2 c = search (needs, offset-summer)
@@ -28,8 +28,8 @@ offset-at-spec =
     tie.close
     (tie.spec
     switches-by-requires
-    is-before-requires
+    is-shown-before-requires
     returns
-    is-before-requires-2
+    is-shown-before-requires-2
     returns-2
     returns-3)

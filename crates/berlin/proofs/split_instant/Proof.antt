@@ -1,33 +1,40 @@
 -- `berlin::split_instant` meets its contract: floor division from division toward zero.
 -- Assumes nothing.
-use Rattle.datum.proofs.FloorLaws.{split-asks, split-day-fits, split-second-fits, split-day-down, split-second-down, split-day, split-second}
-use Rattle.berlin.proofs.Instants.{by-86400}
+use Rattle.datum.proofs.FloorLaws.{split-asks, split-day-fits, split-second-fits, split-day-down}
+use Rattle.datum.proofs.FloorLaws.{split-second-down, split-day, split-second}
+use Rattle.berlin.proofs.Instants.{by-86400, not-below}
+use borrow.Author.Needs.{needs}
 use Rattle.berlin.proofs.split_instant.Statement.{statement}
 use Rattle.berlin.proofs.split_instant.Tie as tie
 
-div-day : tie.Need-div-day
-div-day c = split-asks 86400 by-86400 (c .args .s) (c .fits .s)
+div-t6 : tie.Need-div-t6
+div-t6 c = split-asks 86400 by-86400 (c .before .args .s) (c .before .fits .s)
 
-rem-second : tie.Need-rem-second
-rem-second c = split-asks 86400 by-86400 (c .args .s) (c .fits .s)
-
-sub-t5 : tie.Need-sub-t5
-sub-t5 c = split-day-fits 86400 by-86400 (c .before .args .s) (c .before .fits .s) (c .if1 .taken)
-
-add-t6 : tie.Need-add-t6
-add-t6 c = split-second-fits 86400 by-86400 (c .before .args .s) (c .before .fits .s) (c .if1 .taken)
+rem-t7 : tie.Need-rem-t7
+rem-t7 c = split-asks 86400 by-86400 (c .before .args .s) (c .before .fits .s)
 
 returns : tie.Need-returns
-returns c = (
-  split-day-down 86400 by-86400 (c .before .args .s) (c .before .fits .s) (c .if1 .taken),
-  split-second-down 86400 by-86400 (c .before .args .s) (c .before .fits .s) (c .if1 .taken),
-)
+returns c = search (needs, by-86400, split-day, split-second, not-below)
+
+div-utcday : tie.Need-div-utcday
+div-utcday c = split-asks 86400 by-86400 (c .before .args .s) (c .before .fits .s)
+
+rem-second : tie.Need-rem-second
+rem-second c = split-asks 86400 by-86400 (c .before .args .s) (c .before .fits .s)
+
+sub-below : tie.Need-sub-below
+sub-below c = search (needs, by-86400, split-day-fits)
+
+add-t8 : tie.Need-add-t8
+add-t8 c = search (needs, by-86400, split-second-fits)
 
 returns-2 : tie.Need-returns-2
-returns-2 c = (
-  split-day 86400 by-86400 (c .before .args .s) (c .before .fits .s) (c .if1 .left),
-  split-second 86400 by-86400 (c .before .args .s) (c .before .fits .s) (c .if1 .left),
-)
+returns-2 c = search (needs, by-86400, split-day-down, split-second-down)
+
+returns-3 : tie.Need-returns-3
+returns-3 c = search (needs, by-86400, split-day, split-second)
 
 pub split-instant-spec : {M : Type 1} → statement M
-split-instant-spec = tie.close (tie.spec div-day rem-second sub-t5 add-t6 returns returns-2)
+split-instant-spec =
+    tie.close
+    (tie.spec div-t6 rem-t7 returns div-utcday rem-second sub-below add-t8 returns-2 returns-3)

@@ -1,4 +1,5 @@
--- `berlin::switches_by` meets its contract: the guess is a year of the calendar, and from the end of March to the end of October it is 214 days in every year.
+-- `berlin::switches_by` meets its contract: the guess is a year of the calendar, and from the end of March to the end
+-- of October it is 214 days in every year.
 -- Assumes nothing.
 use Rattle.berlin.proofs.Rules.{switch-rules}
 use borrow.Author.Needs.{needs}

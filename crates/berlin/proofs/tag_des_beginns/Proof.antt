@@ -1,4 +1,5 @@
--- `berlin::tag_des_beginns` meets its contract: the three tests compare the instant with the beginning of its Berlin day.
+-- `berlin::tag_des_beginns` meets its contract: the three tests compare the instant with the beginning of its Berlin
+-- day.
 -- Assumes nothing.
 use Rattle.berlin.proofs.Rules.{other-day, other-second, other-nanos, begins}
 use borrow.Author.Needs.{needs}

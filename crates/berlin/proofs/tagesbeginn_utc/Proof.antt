@@ -14,6 +14,9 @@ berlin-midnight-requires c κs = search needs
 enum-told-2 : tie.Need-enum-told-2
 enum-told-2 c = search needs
 
+o-clock-requires : tie.Need-o-clock-requires
+o-clock-requires c κs = search needs
+
 berlin-at-requires : tie.Need-berlin-at-requires
 berlin-at-requires c κs = search needs
 
@@ -33,6 +36,7 @@ tagesbeginn-utc-spec =
     enum-told
     berlin-midnight-requires
     enum-told-2
+    o-clock-requires
     berlin-at-requires
     resolved-or-requires
     returns

@@ -1,4 +1,4 @@
--- `datum::days_in_month` meets its contract: February by the isLeap year, every other month by the table.
+-- `datum::days_in_month` meets its contract: February by the leap year, every other month by the table.
 -- Assumes nothing.
 use native.Mathlib.Omega.{arith}
 use Rattle.datum.proofs.Rules.{len-none, len-leap, len-february, len-other}

@@ -1,4 +1,5 @@
--- `datum::in_month` meets its contract: a day that every month has is kept; any other is cut to the month's last, or kept.
+-- `datum::in_month` meets its contract: a day that every month has is kept; any other is cut to the month's last, or
+-- kept.
 -- Assumes nothing.
 use Rattle.datum.proofs.MonthRules.{in-month-rules}
 use borrow.Author.Needs.{needs}

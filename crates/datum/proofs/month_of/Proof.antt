@@ -1,4 +1,5 @@
--- `datum::month_of` meets its contract. The invariant: the month starts by the day; the loop ends where the next starts after it.
+-- `datum::month_of` meets its contract. The invariant: the month starts by the day; the loop ends where the next starts
+-- after it.
 -- Assumes nothing.
 use Prim.Native.Nat.{_≤_, _-_}
 use Rattle.datum.specs.Calendar.{monthStart}
@@ -8,10 +9,10 @@ use Rattle.datum.proofs.month_of.Statement.{statement}
 use Rattle.datum.proofs.month_of.Tie as tie
 
 abbrev Inv-loop : tie.InvT-loop
-Inv-loop isLeap day month₀ month = (1 ≤ month) × (month ≤ 12) × (monthStart isLeap month ≤ day)
+Inv-loop leap day month₀ month = (1 ≤ month) × (month ≤ 12) × (monthStart leap month ≤ day)
 
 abbrev μ-loop : tie.MeasureT-loop
-μ-loop isLeap day month₀ month = 12 - month
+μ-loop leap day month₀ month = 12 - month
 
 add-month : tie.Need-add-month Inv-loop μ-loop
 add-month c = search (needs, month-rules)

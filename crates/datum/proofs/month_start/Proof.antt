@@ -1,4 +1,5 @@
--- `datum::month_start` meets its contract: the table of a common year is right at each month, by computation, and a isLeap year has a day more after February.
+-- `datum::month_start` meets its contract: the table of a common year is right at each month, by computation, and a
+-- leap year has a day more after February.
 -- Assumes nothing.
 use Rattle.datum.proofs.Rules.{start-rules}
 use borrow.Author.Needs.{needs}

@@ -1,6 +1,8 @@
--- `datum::on_month` meets its contract: after the two tests the number is a natural one, where signed division is the unsigned one.
+-- `datum::on_month` meets its contract: after the two tests the number is a natural one, where signed division is the
+-- unsigned one.
 -- Assumes nothing.
-use Rattle.datum.proofs.MonthRules.{InRange, early, late, in-range, year-cast, month-fits, month-cast, within, on-it}
+use Rattle.datum.proofs.MonthRules.{InRange, early, late, in-range, year-cast, month-fits, month-cast, within}
+use Rattle.datum.proofs.MonthRules.{on-it}
 use borrow.Author.Needs.{needs}
 use Rattle.datum.proofs.on_month.Statement.{statement}
 use Rattle.datum.proofs.on_month.Tie as tie
@@ -10,7 +12,8 @@ use Rattle.datum.proofs.split_months.Reads as split-months-reads
 use Rattle.datum.proofs.in_month.Reads as in-month-reads
 
 -- what the two tests leave
-range : (c : lts.Else2 (split-months-reads.Asked, split-months-reads.Learnt, in-month-reads.Asked, in-month-reads.Learnt) reads.Pre reads.Post) → InRange (c .before .before .before .before .before .args .t) (c .before .before .before .before .split-months .result .year) (c .before .before .before .before .split-months .result .month)
+range :
+    (c : lts.Else2 (split-months-reads.Asked, split-months-reads.Learnt, in-month-reads.Asked, in-month-reads.Learnt) reads.Pre reads.Post) → InRange (c .before .before .before .before .before .args .t) (c .before .before .before .before .split-months .result .year) (c .before .before .before .before .split-months .result .month)
 range c =
     let s = c .before .before .before .before in
     in-range (s .before .args .t) (s .split-months .result .year) (s .split-months .result .month) (s .before .args .day) (s .before .fits .t) (s .split-months .ensures .0) (s .split-months .ensures .1) (c .before .if1 .left) (c .if2 .left)

@@ -1,6 +1,7 @@
 -- `datum::split_months` meets its contract: floor division from division toward zero.
 -- Assumes nothing.
-use Rattle.datum.proofs.FloorLaws.{by-12, split-asks, split-day-fits, split-second-fits, split-day-down, split-second-down, split-day, split-second}
+use Rattle.datum.proofs.FloorLaws.{by-12, split-asks, split-day-fits, split-second-fits, split-day-down}
+use Rattle.datum.proofs.FloorLaws.{split-second-down, split-day, split-second}
 use Rattle.datum.proofs.split_months.Statement.{statement}
 use Rattle.datum.proofs.split_months.Tie as tie
 

@@ -1,4 +1,5 @@
--- `datum::year_of` meets its contract. The first loop leaves a year that starts by the day, the second one whose next starts after it; the guess needs no proof.
+-- `datum::year_of` meets its contract. The first loop leaves a year that starts by the day, the second one whose next
+-- starts after it; the guess needs no proof.
 -- Assumes nothing.
 use Prim.Native.Nat.{_≤_, _-_}
 use Rattle.datum.specs.Calendar.{yearStart}

@@ -17,6 +17,9 @@ returns c = search (needs, strom-rules)
 add-clock-on : tie.Need-add-clock-on
 add-clock-on c = search needs
 
+o-clock-requires : tie.Need-o-clock-requires
+o-clock-requires c κs = search needs
+
 clock-on-requires : tie.Need-clock-on-requires
 clock-on-requires c κs = search needs
 
@@ -37,6 +40,7 @@ aperak-strom-due-at-spec =
     is-saturday-requires
     returns
     add-clock-on
+    o-clock-requires
     clock-on-requires
     returns-2
     instant-later-requires

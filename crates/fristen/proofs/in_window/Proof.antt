@@ -1,9 +1,13 @@
 -- `fristen::in_window` meets its contract: a lemma for each return, and the bounds are proper instants.
 -- Assumes nothing.
-use Rattle.fristen.proofs.Rules.{window-rules, shown-second, midnight-second}
+use Rattle.fristen.proofs.Rules.{window-rules}
+use Rattle.berlin.proofs.Proper.{shown-second, midnight-second}
 use borrow.Author.Needs.{needs}
 use Rattle.fristen.proofs.in_window.Statement.{statement}
 use Rattle.fristen.proofs.in_window.Tie as tie
+
+o-clock-requires : tie.Need-o-clock-requires
+o-clock-requires c κs = search needs
 
 berlin-at-requires : tie.Need-berlin-at-requires
 berlin-at-requires c κs = search needs
@@ -36,6 +40,7 @@ pub in-window-spec : {M : Type 1} → statement M
 in-window-spec =
     tie.close
     (tie.spec
+    o-clock-requires
     berlin-at-requires
     enum-known-from
     enum-told

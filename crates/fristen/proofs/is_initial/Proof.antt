@@ -5,14 +5,14 @@ use mathlib.Core.Path.{_≡_}
 use lib.Dec.{eqb}
 use lib.ListN.{drop}
 use Rattle.werktag.specs.Werktag.{any}
-use Rattle.fristen.specs.Fristen.{initialPids, isInitial}
+use Rattle.fristen.specs.Fristen.{gasInitialprozessPids, isInitial}
 use Rattle.fristen.proofs.Rules.{pid-start, pid-hit, pid-miss, pid-none}
 use borrow.Author.Needs.{needs}
 use Rattle.fristen.proofs.is_initial.Statement.{statement}
 use Rattle.fristen.proofs.is_initial.Tie as tie
 
 abbrev Inv-loop : tie.InvT-loop
-Inv-loop pid i₀ i = (i ≤ 4) × (any (eqb pid) (drop i initialPids) ≡ isInitial pid)
+Inv-loop pid i₀ i = (i ≤ 4) × (any (eqb pid) (drop i gasInitialprozessPids) ≡ isInitial pid)
 
 abbrev μ-loop : tie.MeasureT-loop
 μ-loop pid i₀ i = 4 - i

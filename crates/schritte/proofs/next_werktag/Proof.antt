@@ -1,5 +1,6 @@
--- `schritte::next_werktag` meets its contract. The invariant: the first Werktag from here on is the first from the start on.
--- Each turn and each return is then a rule of Rules, which goes by the clauses of `next`; the days that are left grow fewer.
+-- `schritte::next_werktag` meets its contract. The invariant: the first Werktag from here on is the first from the
+-- start on. Each turn and each return is then a rule of Rules, which goes by the clauses of `next`; the days that are
+-- left grow fewer.
 -- Assumes nothing.
 use Prim.Native.Nat.{_-_, _≤_}
 use mathlib.Core.Path.{_≡_}

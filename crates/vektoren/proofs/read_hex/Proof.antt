@@ -1,4 +1,5 @@
--- `vektoren::read_hex` meets its contract. The loop's invariant: the first i bytes are those of the text, and there are 32 in all.
+-- `vektoren::read_hex` meets its contract. The loop's invariant: the first i bytes are those of the text, and there are
+-- 32 in all.
 -- Assumes nothing.
 use Prim.Native.Nat.{_≤_, _-_}
 use mathlib.Core.Path.{_≡_}

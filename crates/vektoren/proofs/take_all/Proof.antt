@@ -1,5 +1,5 @@
--- `vektoren::take_all` is safe and ends: the measure is the number of turns that are left. Nothing has to hold from turn to turn, so
--- the invariant is `Unit {0}`, the fact that says nothing.
+-- `vektoren::take_all` is safe and ends: the measure is the number of turns that are left. Nothing has to hold from
+-- turn to turn, so the invariant is `Unit {0}`, the fact that says nothing.
 -- Assumes nothing.
 use borrow.Author.Needs.{needs}
 use Rattle.vektoren.proofs.take_all.Statement.{statement}

@@ -1,5 +1,5 @@
--- `vektoren::take_bytes` is safe and ends: the measure is what is left of the bytes. Nothing has to hold from turn to turn, so the
--- invariant is `Unit {0}`, the fact that says nothing.
+-- `vektoren::take_bytes` is safe and ends: the measure is what is left of the bytes. Nothing has to hold from turn to
+-- turn, so the invariant is `Unit {0}`, the fact that says nothing.
 -- Assumes nothing.
 use Prim.Native.Nat.{_-_}
 use borrow.Author.Needs.{needs}

@@ -1,5 +1,5 @@
--- `vorlauf::earliest_werktage_after` meets its contract. Each return is a rule of VerdictRules, by the clause of `checkOf`
--- for this shape, and what a callee is given lies inside the calendar, since a step ends inside.
+-- `vorlauf::earliest_werktage_after` meets its contract. Each return is a rule of VerdictRules, by the clause of
+-- `checkOf` for this shape, and what a callee is given lies inside the calendar, since a step ends inside.
 -- Assumes nothing.
 use borrow.Author.Needs.{needs}
 use Rattle.vorlauf.proofs.StepRules.{inside-rules}
@@ -22,8 +22,8 @@ returns c = search (needs, verdict-rules)
 returns-2 : tie.Need-returns-2
 returns-2 c = search (needs, verdict-rules)
 
-werktage-between-requires : tie.Need-werktage-between-requires
-werktage-between-requires c κs = search (needs, inside-rules)
+too-late-requires : tie.Need-too-late-requires
+too-late-requires c κs = search (needs, inside-rules)
 
 returns-3 : tie.Need-returns-3
 returns-3 c = search (needs, verdict-rules)
@@ -37,5 +37,5 @@ earliest-werktage-after-spec =
     enum-told
     returns
     returns-2
-    werktage-between-requires
+    too-late-requires
     returns-3)

@@ -1,5 +1,5 @@
--- `vorlauf::fruehester_termin_nach_tag_vor_dem_letzten_werktag` meets its contract. Each return is a rule of StepRules that
--- goes by the definition's steps; the day after t, from which the walk starts, lies inside the calendar.
+-- `vorlauf::fruehester_termin_nach_tag_vor_dem_letzten_werktag` meets its contract. Each return is a rule of StepRules
+-- that goes by the definition's steps; the day after t, from which the walk starts, lies inside the calendar.
 -- Assumes nothing.
 use borrow.Author.Needs.{needs}
 use Rattle.vorlauf.proofs.StepRules.{inside-rules, step-rules}

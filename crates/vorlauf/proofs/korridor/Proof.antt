@@ -1,5 +1,5 @@
--- `vorlauf::korridor` meets its contract. Each return is a rule of VerdictRules, by the clause of `checkOf` for this shape,
--- and what a callee is given lies inside the calendar, since a step ends inside.
+-- `vorlauf::korridor` meets its contract. Each return is a rule of VerdictRules, by the clause of `checkOf` for this
+-- shape, and what a callee is given lies inside the calendar, since a step ends inside.
 -- Assumes nothing.
 use borrow.Author.Needs.{needs}
 use Rattle.vorlauf.proofs.StepRules.{inside-rules}
@@ -40,8 +40,8 @@ returns-3 c = search (needs, verdict-rules)
 returns-4 : tie.Need-returns-4
 returns-4 c = search (needs, verdict-rules)
 
-werktage-between-requires-2 : tie.Need-werktage-between-requires-2
-werktage-between-requires-2 c κs = search needs
+too-late-requires : tie.Need-too-late-requires
+too-late-requires c κs = search needs
 
 returns-5 : tie.Need-returns-5
 returns-5 c = search (needs, verdict-rules)
@@ -61,5 +61,5 @@ korridor-spec =
     werktage-between-requires
     returns-3
     returns-4
-    werktage-between-requires-2
+    too-late-requires
     returns-5)

@@ -1,5 +1,5 @@
--- `vorlauf::latest_monate_before` meets its contract. Each return is a rule of VerdictRules, by the clause of `checkOf` for
--- this shape, and what a callee is given lies inside the calendar, since a step ends inside.
+-- `vorlauf::latest_monate_before` meets its contract. Each return is a rule of VerdictRules, by the clause of `checkOf`
+-- for this shape, and what a callee is given lies inside the calendar, since a step ends inside.
 -- Assumes nothing.
 use borrow.Author.Needs.{needs}
 use Rattle.vorlauf.proofs.StepRules.{inside-rules}

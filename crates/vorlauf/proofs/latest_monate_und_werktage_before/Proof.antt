@@ -1,5 +1,5 @@
--- `vorlauf::latest_monate_und_werktage_before` meets its contract. Each return is a rule of VerdictRules, by the clause of
--- `checkOf` for this shape, and what a callee is given lies inside the calendar, since a step ends inside.
+-- `vorlauf::latest_monate_und_werktage_before` meets its contract. Each return is a rule of VerdictRules, by the clause
+-- of `checkOf` for this shape, and what a callee is given lies inside the calendar, since a step ends inside.
 -- Assumes nothing.
 use borrow.Author.Needs.{needs}
 use Rattle.vorlauf.proofs.StepRules.{closes-in, inside-rules}
@@ -8,7 +8,7 @@ use Rattle.vorlauf.proofs.latest_monate_und_werktage_before.Statement.{
 use Rattle.vorlauf.proofs.latest_monate_und_werktage_before.Tie as tie
 
 months-earlier-requires : tie.Need-months-earlier-requires
-months-earlier-requires c κs = search needs
+months-earlier-requires c κs = search (needs, inside-rules)
 
 enum-known-back : tie.Need-enum-known-back
 enum-known-back c = search needs

@@ -1,5 +1,5 @@
--- `vorlauf::latest_werktage_after` meets its contract. Each return is a rule of VerdictRules, by the clause of `checkOf`
--- for this shape.
+-- `vorlauf::latest_werktage_after` meets its contract. Each return is a rule of VerdictRules, by the clause of
+-- `checkOf` for this shape.
 -- Assumes nothing.
 use borrow.Author.Needs.{needs}
 use Rattle.vorlauf.proofs.VerdictRules.{verdict-rules}
@@ -21,8 +21,8 @@ returns c = search (needs, verdict-rules)
 returns-2 : tie.Need-returns-2
 returns-2 c = search (needs, verdict-rules)
 
-werktage-between-requires : tie.Need-werktage-between-requires
-werktage-between-requires c κs = search needs
+too-late-requires : tie.Need-too-late-requires
+too-late-requires c κs = search needs
 
 returns-3 : tie.Need-returns-3
 returns-3 c = search (needs, verdict-rules)
@@ -36,5 +36,5 @@ latest-werktage-after-spec =
     enum-told
     returns
     returns-2
-    werktage-between-requires
+    too-late-requires
     returns-3)

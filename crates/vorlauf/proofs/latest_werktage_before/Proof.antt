@@ -1,5 +1,5 @@
--- `vorlauf::latest_werktage_before` meets its contract. Each return is a rule of VerdictRules, by the clause of `checkOf`
--- for this shape.
+-- `vorlauf::latest_werktage_before` meets its contract. Each return is a rule of VerdictRules, by the clause of
+-- `checkOf` for this shape.
 -- Assumes nothing.
 use borrow.Author.Needs.{needs}
 use Rattle.vorlauf.proofs.VerdictRules.{verdict-rules}
@@ -33,8 +33,8 @@ enum-told-2 c = search needs
 returns-3 : tie.Need-returns-3
 returns-3 c = search (needs, verdict-rules)
 
-werktage-between-requires : tie.Need-werktage-between-requires
-werktage-between-requires c κs = search needs
+too-late-requires : tie.Need-too-late-requires
+too-late-requires c κs = search needs
 
 returns-4 : tie.Need-returns-4
 returns-4 c = search (needs, verdict-rules)
@@ -52,5 +52,5 @@ latest-werktage-before-spec =
     enum-known-first
     enum-told-2
     returns-3
-    werktage-between-requires
+    too-late-requires
     returns-4)

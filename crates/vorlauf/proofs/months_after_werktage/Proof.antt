@@ -1,5 +1,5 @@
--- `vorlauf::months_after_werktage` meets its contract: the definition's two steps are the code's, and the day between them
--- lies inside the calendar.
+-- `vorlauf::months_after_werktage` meets its contract: the definition's two steps are the code's, and the day between
+-- them lies inside the calendar.
 -- Assumes nothing.
 use borrow.Author.Needs.{needs}
 use Rattle.vorlauf.proofs.StepRules.{inside-rules, step-rules}

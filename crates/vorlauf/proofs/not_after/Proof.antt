@@ -8,11 +8,11 @@ use Rattle.vorlauf.proofs.not_after.Tie as tie
 returns : tie.Need-returns
 returns c = search (needs, verdict-rules)
 
-werktage-between-requires : tie.Need-werktage-between-requires
-werktage-between-requires c κs = search needs
+too-late-requires : tie.Need-too-late-requires
+too-late-requires c κs = search needs
 
 returns-2 : tie.Need-returns-2
 returns-2 c = search (needs, verdict-rules)
 
 pub not-after-spec : {M : Type 1} → statement M
-not-after-spec = tie.close (tie.spec returns werktage-between-requires returns-2)
+not-after-spec = tie.close (tie.spec returns too-late-requires returns-2)

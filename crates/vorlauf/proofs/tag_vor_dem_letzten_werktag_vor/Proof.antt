@@ -1,5 +1,5 @@
--- `vorlauf::tag_vor_dem_letzten_werktag_vor` meets its contract. Each return is a rule of VerdictRules, by the clause of
--- `checkOf` for this shape.
+-- `vorlauf::tag_vor_dem_letzten_werktag_vor` meets its contract. Each return is a rule of VerdictRules, by the clause
+-- of `checkOf` for this shape.
 -- Assumes nothing.
 use borrow.Author.Needs.{needs}
 use Rattle.vorlauf.proofs.VerdictRules.{verdict-rules}
@@ -46,8 +46,8 @@ enum-told-3 c = search needs
 returns-4 : tie.Need-returns-4
 returns-4 c = search (needs, verdict-rules)
 
-werktage-between-requires : tie.Need-werktage-between-requires
-werktage-between-requires c κs = search needs
+too-late-requires : tie.Need-too-late-requires
+too-late-requires c κs = search needs
 
 returns-5 : tie.Need-returns-5
 returns-5 c = search (needs, verdict-rules)
@@ -69,5 +69,5 @@ tag-vor-dem-letzten-werktag-vor-spec =
     enum-known-first
     enum-told-3
     returns-4
-    werktage-between-requires
+    too-late-requires
     returns-5)

@@ -1,5 +1,5 @@
--- `vorlauf::window_werktage_before` meets its contract. Each return is a rule of VerdictRules, by the clause of `checkOf`
--- for this shape, and what a callee is given lies inside the calendar, since a step ends inside.
+-- `vorlauf::window_werktage_before` meets its contract. Each return is a rule of VerdictRules, by the clause of
+-- `checkOf` for this shape, and what a callee is given lies inside the calendar, since a step ends inside.
 -- Assumes nothing.
 use borrow.Author.Needs.{needs}
 use Rattle.vorlauf.proofs.StepRules.{inside-rules}
@@ -52,8 +52,8 @@ enum-told-3 c = search needs
 returns-5 : tie.Need-returns-5
 returns-5 c = search (needs, verdict-rules)
 
-werktage-between-requires-2 : tie.Need-werktage-between-requires-2
-werktage-between-requires-2 c κs = search needs
+too-late-requires : tie.Need-too-late-requires
+too-late-requires c κs = search needs
 
 returns-6 : tie.Need-returns-6
 returns-6 c = search (needs, verdict-rules)
@@ -77,5 +77,5 @@ window-werktage-before-spec =
     enum-known-first
     enum-told-3
     returns-5
-    werktage-between-requires-2
+    too-late-requires
     returns-6)

@@ -1,4 +1,5 @@
--- `werktag::is_easter_feast` meets its contract: Easter Sunday is a date of the range, and a day lies at an offset from it exactly if the offset is its distance.
+-- `werktag::is_easter_feast` meets its contract: Easter Sunday is a date of the range, and a day lies at an offset from
+-- it exactly if the offset is its distance.
 -- Assumes nothing.
 use Rattle.werktag.proofs.Easter.{easter-valid}
 use Rattle.werktag.proofs.Rules.{distance-fits, feast}

@@ -1,4 +1,5 @@
--- `antworten::kalender::werktage_between_answer` meets its contract: a date that is none is refused, and one that is taken goes to the layer below.
+-- `antworten::kalender::werktage_between_answer` meets its contract: a date that is none is refused, and one that is
+-- taken goes to the layer below.
 -- Assumes nothing.
 use Rattle.antworten.proofs.Rules.{answer-rules}
 use Rattle.antworten.specs.Kalender.{werktageBetweenAnswer}

@@ -1,4 +1,5 @@
--- `mako_fristen::vorlaeufe::mf_eog_ankuendigung_fristgerecht` meets its contract: its answer is what the definition gives, and `reply` writes it.
+-- `mako_fristen::vorlaeufe::mf_eog_ankuendigung_fristgerecht` meets its contract: its answer is what the definition
+-- gives, and `reply` writes it.
 -- Assumes nothing.
 use Rattle.antwortsatz.proofs.Rules.{call-rules}
 use Rattle.antworten.proofs.Rules.{read-rules, read-same}
@@ -9,8 +10,8 @@ use Rattle.mako_fristen.proofs.vorlaeufe.mf_eog_ankuendigung_fristgerec
 read-instant-requires : tie.Need-read-instant-requires
 read-instant-requires c κs = search needs
 
-eog-answer-requires : tie.Need-eog-answer-requires
-eog-answer-requires c κs = search (needs, read-rules)
+eog-ankuendigung-fristgerecht-answer-requires : tie.Need-eog-ankuendigung-fristgerecht-answer-requires
+eog-ankuendigung-fristgerecht-answer-requires c κs = search (needs, read-rules)
 
 reply-requires : tie.Need-reply-requires
 reply-requires c κs = search needs
@@ -21,10 +22,10 @@ same-length c = search needs
 returns : tie.Need-returns
 returns c =
     let s = c .before .before .before .before .before in
-    rw (read-same (s .before .before .args .seconds) (s .before .before .args .nanos) (s .read-instant .result) (s .before .before .fits .seconds) (s .read-instant .ensures))
+    rw (read-same _ _ _ (s .before .before .fits .seconds) (s .read-instant .ensures))
     (search (needs, call-rules))
 
 pub mf-eog-ankuendigung-fristgerecht-spec : {M : Type 1} → statement M
 mf-eog-ankuendigung-fristgerecht-spec =
     tie.close
-    (tie.spec read-instant-requires eog-answer-requires reply-requires same-length returns)
+    (tie.spec read-instant-requires eog-ankuendigung-fristgerecht-answer-requires reply-requires same-length returns)

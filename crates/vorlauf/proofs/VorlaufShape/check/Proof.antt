@@ -1,5 +1,5 @@
--- `vorlauf::VorlaufShape::check` meets its contract: each arm's callee promises the clause of its shape, and what a verdict
--- names is a day of the calendar by the definition alone (Inside, `check-inside`).
+-- `vorlauf::VorlaufShape::check` meets its contract: each arm's callee promises the clause of its shape, and what a
+-- verdict names is a day of the calendar by the definition alone (Inside, `check-inside`).
 -- Assumes nothing.
 use borrow.Author.Needs.{needs}
 use Rattle.vorlauf.proofs.VerdictRules.{check-rules}

@@ -1,18 +1,18 @@
--- `vorlauf::abmeldung::same_bytes` meets its contract. The invariant: the strings are as long, and what is left of them is
--- the same exactly if the whole is. The bytes that are left grow fewer.
+-- `vorlauf::abmeldung::same_bytes` meets its contract. The invariant: the strings are as long, and what is left of them
+-- is the same exactly if the whole is. The bytes that are left grow fewer.
 -- Assumes nothing.
 use Prim.Native.Nat.{_-_}
 use mathlib.Core.Path.{_≡_}
 use native.Mathlib.Omega.{arith}
 use lib.ListN.{length, drop}
 use borrow.Author.Needs.{needs}
-use Rattle.vorlauf.specs.Abmeldung.{same}
+use Rattle.vorlauf.specs.Abmeldung.{sameBytes}
 use Rattle.vorlauf.proofs.AbmeldungRules.{bytes-length, bytes-rules}
 use Rattle.vorlauf.proofs.abmeldung.same_bytes.Statement.{statement}
 use Rattle.vorlauf.proofs.abmeldung.same_bytes.Tie as tie
 
 abbrev Inv-loop : tie.InvT-loop
-Inv-loop a b i₀ i = (same a b ≡ same (drop i a) (drop i b)) × (length a ≡ length b)
+Inv-loop a b i₀ i = (sameBytes a b ≡ sameBytes (drop i a) (drop i b)) × (length a ≡ length b)
 
 abbrev μ-loop : tie.MeasureT-loop
 μ-loop a b i₀ i = length b - i

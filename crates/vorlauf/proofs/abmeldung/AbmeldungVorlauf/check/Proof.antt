@@ -1,5 +1,5 @@
--- `vorlauf::abmeldung::AbmeldungVorlauf::check` meets its contract: the verdict is that of the window's shape, where it has
--- one, and names no date but one of the calendar.
+-- `vorlauf::abmeldung::AbmeldungVorlauf::check` meets its contract: the verdict is that of the window's shape, where it
+-- has one, and names no date but one of the calendar.
 -- Assumes nothing.
 use borrow.Author.Needs.{needs}
 use Rattle.vorlauf.proofs.AbmeldungRules.{abmeldung-rules}

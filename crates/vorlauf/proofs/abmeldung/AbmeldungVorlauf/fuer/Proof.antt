@@ -1,5 +1,5 @@
--- `vorlauf::abmeldung::AbmeldungVorlauf::fuer` meets its contract: the test of the bytes is the definition's, and each arm
--- a clause of `byMark`.
+-- `vorlauf::abmeldung::AbmeldungVorlauf::fuer` meets its contract: the test of the bytes is the definition's, and each
+-- arm a clause of `byMark`.
 -- Assumes nothing.
 use borrow.Author.Needs.{needs}
 use Rattle.vorlauf.proofs.AbmeldungRules.{abmeldung-rules}

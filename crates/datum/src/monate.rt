@@ -1,0 +1,82 @@
+// Months before and after a day given by its index, BGB §188, and M(n, d) of document 01.
+ghost use mathlib.Core.Bool.{true};
+ghost use mathlib.Core.Path.{_≡_};
+ghost use Prim.Native.Nat.{_≤_};
+ghost use Rattle.zaehlung.specs.Walk.{last};
+ghost use Rattle.datum.specs.Calendar.{isDate, daysBefore};
+ghost use Rattle.datum.specs.Inside.{insideShift};
+ghost use Rattle.datum.specs.Monate.{toStep, monthsLater, monthsEarlier, M};
+use super::Date;
+use super::Shifted;
+use zaehlung::Step;
+
+/// The index of the date that a shift reached.
+fn to_step(shifted: Shifted) -> Step
+    requires { ⌜ insideShift shifted ⌝ }
+    ensures { λ r. ⌜ r ≡ toStep shifted ⌝ }
+{
+    match shifted {
+        Shifted::On(date) => Step::Day(super::days_before(date)),
+        Shifted::Outside => Step::Outside,
+    }
+}
+
+/// The day `n` months later: 'a day the target month lacks becomes its last (BGB §188)'.
+///
+/// `Outside` past the calendar's last day. With `n = 0` the day itself.
+///
+/// From 31 January 2026 with 1: 28 February 2026.
+pub fn months_later(day: u32, n: u32) -> Step
+    requires { ⌜ day ≤ last ⌝ }
+    ensures { λ r. ⌜ r ≡ monthsLater day n ⌝ }
+{
+    to_step(super::add_months(super::date_of(day), n))
+}
+
+/// The day `n` months earlier: 'a day the target month lacks becomes its last (BGB §188)'.
+///
+/// `Outside` before the calendar's first day. With `n = 0` the day itself.
+///
+/// From 31 March 2024 with 1: 29 February 2024.
+pub fn months_earlier(day: u32, n: u32) -> Step
+    requires { ⌜ day ≤ last ⌝ }
+    ensures { λ r. ⌜ r ≡ monthsEarlier day n ⌝ }
+{
+    to_step(super::subtract_months(super::date_of(day), n))
+}
+
+/// M(n, d) of document 01 for a date of the range: 'd plus n months, or, if the day was cut to the month's last, the
+/// first of the next month'.
+///
+/// `Outside` past the calendar's last day, which the first of the next month may be where n months later is not.
+///
+/// 31 January 2026 and 1 month is 1 March 2026, 28 January and 1 month 28 February.
+pub fn months_or_first_date(date: Date, n: u32) -> Shifted
+    requires { ⌜ isDate date ≡ true ⌝ }
+    ensures { λ r. ⌜ (toStep r ≡ M n (daysBefore date)) × insideShift r ⌝ }
+{
+    let Shifted::On(target) = super::add_months(date, n) else {
+        return Shifted::Outside;
+    };
+    if date.day <= target.day {
+        return Shifted::On(target);
+    }
+    let first = Date {
+        year: target.year,
+        month: target.month,
+        day: 1,
+    };
+    super::add_months(first, 1)
+}
+
+/// M(n, d) of document 01 for a day given by its index.
+///
+/// `Outside` past the calendar's last day. With `n = 0` the day itself: nothing is cut.
+///
+/// From 31 January 2026 with 1: 1 March 2026. From 28 January with 1: 28 February.
+pub fn months_or_first(day: u32, n: u32) -> Step
+    requires { ⌜ day ≤ last ⌝ }
+    ensures { λ r. ⌜ r ≡ M n day ⌝ }
+{
+    to_step(months_or_first_date(super::date_of(day), n))
+}

@@ -1,0 +1,3 @@
+pub mod LittleEndian
+pub mod TwosComplement
+pub mod Places
