@@ -14,7 +14,7 @@ import sources
 
 CHECKS = {**sources.CHECKS, "examples": examples.examples}
 
-REPLY = "repliedTo (now (answer .entry)) (einsAnswer n)"
+REPLY = "reply (now (answer .entry)) (einsAnswer n)"
 EQUATION = "(r, now (answer .exit)) ≡ " + REPLY
 LIB = "crates/mako_fristen/src/lib.rt"
 DEEP = "crates/mako_fristen/src/unter/tief.rt"

@@ -61,7 +61,8 @@ module _ (w : ℕ → Bool) (m n : Moment) (i : ℕ) (b : Bool) (g : n ≡ berli
     unfolding eogAnkuendigungFristgerecht
     in-time r h l u v = rw (at-midnight true (not-false b t), sym p ∙ q, ← o, eq-eqb d e (omega arith), sym u ∙ v)
 
-    pub too-late : (r : Bool) → e ≤ d → d ≤ e → r ≡ isByThirteen e m → r ≡ false → Nein ≡ eogAnkuendigungFristgerecht w m i
+    pub too-late :
+        (r : Bool) → e ≤ d → d ≤ e → r ≡ isByThirteen e m → r ≡ false → Nein ≡ eogAnkuendigungFristgerecht w m i
     unfolding eogAnkuendigungFristgerecht
     too-late r h l u v = rw (at-midnight true (not-false b t), sym p ∙ q, ← o, eq-eqb d e (omega arith), sym u ∙ v)
 

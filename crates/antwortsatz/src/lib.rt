@@ -1,6 +1,6 @@
 // The answer of a host call: its fields, its 32 bytes, and the one function that writes them. It knows no calendar.
 ghost use mathlib.Core.Path.{_≡_};
-ghost use Rattle.antwortsatz.specs.Bytes.{bytesOf, repliedTo};
+ghost use Rattle.antwortsatz.specs.Bytes.{recordBytes, reply};
 ghost use Rattle.antwortsatz.specs.Answers.{zeroDate, dateWord, filled, refused, ofKind, counted, dated};
 ghost use Rattle.antwortsatz.specs.Answers.{atInstant, judged, spanned};
 use datum::Date;
@@ -137,7 +137,7 @@ pub fn spanned(kind: u8, first: Date, last: Date) -> Answer
 
 /// The 32 bytes of an answer, little-endian, no header.
 pub fn record_bytes(a: Answer) -> [u8; 32]
-    ensures { λ r. ⌜ r ≡ bytesOf a ⌝ }
+    ensures { λ r. ⌜ r ≡ recordBytes a ⌝ }
 {
     let c = a.count;
     let s = zahlen::bits_of(a.seconds);
@@ -184,7 +184,7 @@ pub fn record_bytes(a: Answer) -> [u8; 32]
 /// Writes the answer and returns its refusal number, if the slice has 32 bytes; else returns 1, and the slice stays.
 /// The one writer: every host call ends in it.
 pub fn reply(answer: &mut [u8], a: Answer) -> u8
-    ensures { λ r. ⌜ (r, now (answer .exit)) ≡ repliedTo (now (answer .entry)) a ⌝ }
+    ensures { λ r. ⌜ (r, now (answer .exit)) ≡ reply (now (answer .entry)) a ⌝ }
 {
     if answer.len() != ANSWER_BYTES {
         return ANSWER_LENGTH;

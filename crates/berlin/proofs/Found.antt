@@ -41,7 +41,9 @@ module _ (i : ℕ) (c : Clock) where
   l = dayStart i + c .second
 
   -- s shows the time, and no earlier instant does
-  earliest-of : (s : ℕ) (m : Moment) → berlinClock s ≡ l → ((t : ℕ) → berlinClock t ≡ l → s ≤ t) → m ≡ momentOf s (c .nanos) → Earliest i c m
+  earliest-of :
+      (s : ℕ) (m : Moment) → berlinClock s ≡ l → ((t : ℕ) → berlinClock t ≡ l → s ≤ t) → m ≡ momentOf s (c .nanos) →
+      Earliest i c m
   earliest-of s m h g e =
       let a = moment-seconds s (c .nanos) in
       rw e
@@ -55,7 +57,9 @@ module _ (i : ℕ) (c : Clock) where
   -- the three answers, by the offset at the two instants that may show the time
   pub data Answer : Type 0 where
     two : berlinClock (l - 7200) ≡ l → berlinAt i c ≡ At (momentOf (l - 7200) (c .nanos)) → Answer
-    one : offsetAt (l - 7200) ≡ 3600 → berlinClock (l - 3600) ≡ l → berlinAt i c ≡ At (momentOf (l - 3600) (c .nanos)) → Answer
+    one :
+        offsetAt (l - 7200) ≡ 3600 → berlinClock (l - 3600) ≡ l → berlinAt i c ≡ At (momentOf (l - 3600) (c .nanos)) →
+        Answer
     none : offsetAt (l - 7200) ≡ 3600 → offsetAt (l - 3600) ≡ 7200 → berlinAt i c ≡ Absent → Answer
 
   pub answer : Answer
@@ -75,7 +79,8 @@ module _ (i : ℕ) (c : Clock) where
   one-least a t h = ⊎-elim (λ e. let b = ap offsetAt e in absurd (omega arith)) (λ e. omega arith) (candidate t h)
 
   none-shows : offsetAt (l - 7200) ≡ 3600 → offsetAt (l - 3600) ≡ 7200 → (t : ℕ) → berlinClock t ≡ l → ⊥
-  none-shows a b t h = ⊎-elim (λ e. let d = ap offsetAt e in omega arith) (λ e. let d = ap offsetAt e in omega arith) (candidate t h)
+  none-shows a b t h =
+      ⊎-elim (λ e. let d = ap offsetAt e in omega arith) (λ e. let d = ap offsetAt e in omega arith) (candidate t h)
 
   module _ (h : i ≤ last) (u : ProperClock c) where
     pub is-earliest : (m : Moment) → berlinAt i c ≡ At m → Earliest i c m
@@ -166,7 +171,8 @@ module _ (i : ℕ) (c : Clock) (h : i ≤ last) (u : ProperClock c) where
       (λ a.
       ⊎-elim
       (λ b. absurd (omega (arith, r .apart)))
-      (λ b. let x = ap offsetAt a in let y = ap offsetAt b in (omega (arith, r .earlier-shown), omega (arith, r .later-shown)))
+      (λ b. let x = ap offsetAt a in let y = ap offsetAt b in
+      (omega (arith, r .earlier-shown), omega (arith, r .later-shown)))
       (candidate i c (r .later) (r .later-shown)))
       (λ a.
       ⊎-elim
@@ -193,4 +199,10 @@ module _ (i : ℕ) (c : Clock) (h : i ≤ last) (u : ProperClock c) where
   when-repeated e a b =
       let o = own i 10 in
       let v = twice i (c .second) (yearOf i .0) h (own-year i h) (u .second-lt) (omega arith) (omega arith) in
-      record { earlier = w - 7200; later = w - 3600; apart = omega arith; earlier-shown = omega arith; later-shown = omega arith }
+      record {
+        earlier = w - 7200;
+        later = w - 3600;
+        apart = omega arith;
+        earlier-shown = omega arith;
+        later-shown = omega arith;
+      }

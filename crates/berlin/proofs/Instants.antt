@@ -3,7 +3,8 @@
 --   by-86400     the facts of the divisor 86,400, for floor division
 --   not-below    from 1970 on the machine's remainder is not negative
 --   limit-rules  inside the first and the last day of the limits the second decides
---   Natural      seconds from the first day on: they are a natural number, and day and second are those of unsigned division
+--   Natural      seconds from the first day on: they are a natural number, and day and second are those of unsigned
+--                division
 --   read-rules   a lemma for each return of `read_instant`
 -- Assumes nothing.
 use Prim.Native.Nat.{ℕ, _+_, _*_, _/_, _%_, _≤_, _<_}
@@ -28,14 +29,23 @@ use Rattle.berlin.specs.Berlin.{momentOf, secondsOf, firstSecond, lastSe
 use Rattle.berlin.specs.Inside.{Proper}
 
 pub by-86400 : Steps 86400
-by-86400 = record { some = omega arith; fits = omega arith; full = λ a h. omega arith; part = λ a y h. omega arith; less = λ a. omega arith; down = λ a. omega arith; rest = λ a. omega arith }
+by-86400 = record {
+  some = omega arith;
+  fits = omega arith;
+  full = λ a h. omega arith;
+  part = λ a y h. omega arith;
+  less = λ a. omega arith;
+  down = λ a. omega arith;
+  rest = λ a. omega arith;
+}
 
 -- split_instant: from 1970 on the machine's remainder is not negative
 rest-at : (z : ℤ) → leZ (pos 0) z ≡ true → ltZ (remZ z (pos 86400)) (pos 0) ≡ false
 rest-at (pos a) h = le-ltb (a % 86400) 0 (omega arith)
 rest-at (negsuc a) h = clash false h refl
 
-pub not-below : (s : ℤ) → SFits w64 s → leZ (pos 0) (back s) ≡ true → ltZ (back (remZ (back s) (pos 86400))) (pos 0) ≡ false
+pub not-below :
+    (s : ℤ) → SFits w64 s → leZ (pos 0) (back s) ≡ true → ltZ (back (remZ (back s) (pos 86400))) (pos 0) ≡ false
 not-below s f h =
     rw (toZ-ofZ f, toZ-ofZ (sfits-le (mag-rem s (pos 86400)) f)) (rest-at s (rw (toZ-ofZ f) at h))
 
@@ -49,7 +59,11 @@ module _ (d t : ℕ) (h : t < 86400) where
   unfolding inLimits
   first-day f g =
       elim (decLe 82800 t) [
-        | yes l ↦ rw (le-leb 82800 t l, le-leb firstSecond (d * 86400 + t) (omega arith), le-leb (d * 86400 + t) lastSecond (omega arith))
+        | yes l ↦ rw (
+          le-leb 82800 t l,
+          le-leb firstSecond (d * 86400 + t) (omega arith),
+          le-leb (d * 86400 + t) lastSecond (omega arith),
+        )
         | no l ↦ rw (lt-leb 82800 t (omega arith), lt-leb firstSecond (d * 86400 + t) (omega arith))
       ]
 
@@ -61,8 +75,16 @@ module _ (d t : ℕ) (h : t < 86400) where
   unfolding inLimits
   last-day f g =
       elim (decLt t 82800) [
-        | yes l ↦ rw (lt-ltb t 82800 l, le-leb firstSecond (d * 86400 + t) (omega arith), le-leb (d * 86400 + t) lastSecond (omega arith))
-        | no l ↦ rw (le-ltb t 82800 (omega arith), le-leb firstSecond (d * 86400 + t) (omega arith), lt-leb (d * 86400 + t) lastSecond (omega arith))
+        | yes l ↦ rw (
+          lt-ltb t 82800 l,
+          le-leb firstSecond (d * 86400 + t) (omega arith),
+          le-leb (d * 86400 + t) lastSecond (omega arith),
+        )
+        | no l ↦ rw (
+          le-ltb t 82800 (omega arith),
+          le-leb firstSecond (d * 86400 + t) (omega arith),
+          lt-leb (d * 86400 + t) lastSecond (omega arith),
+        )
       ]
 
   pub between : 9495 < d → d < 339675 → true ≡ inLimits (d * 86400 + t)
@@ -104,7 +126,9 @@ pub record Natural (s d r : ℤ) : Type 0 where
   pub second : back r ≡ pos (seconds % 86400)
   pub to : seconds / 86400 ≤ 339675
 
-natural-at : (s d r z : ℤ) → s ≡ z → d ≡ floorDiv z 86400 → r ≡ floorMod z 86400 → ltZ (floorDiv z 86400) (pos 9495) ≡ false → ltZ (pos 339675) (floorDiv z 86400) ≡ false → Natural s d r
+natural-at :
+    (s d r z : ℤ) → s ≡ z → d ≡ floorDiv z 86400 → r ≡ floorMod z 86400 → ltZ (floorDiv z 86400) (pos 9495) ≡ false →
+    ltZ (pos 339675) (floorDiv z 86400) ≡ false → Natural s d r
 unfolding floorDiv floorMod
 natural-at s d r (pos a) q e f h g =
     let l = ltb-false 339675 (a / 86400) g in
@@ -128,7 +152,8 @@ module _ (s : ℤ) (x : ℕ) (f : SFits w64 s) (d : ℤ) (e : d ≡ floorDiv (ba
   pub read-late : ltZ (pos 339675) (back d) ≡ true → NoInstant ≡ readInstant s x
   read-late h = late-at s x (rw day-is at h)
 
-  module _ (r : ℤ) (k : r ≡ floorMod (back s) 86400) (h : ltZ (back d) (pos 9495) ≡ false) (g : ltZ (pos 339675) (back d) ≡ false) where
+  module _ (r : ℤ) (k : r ≡ floorMod (back s) 86400) (h : ltZ (back d) (pos 9495) ≡ false)
+      (g : ltZ (pos 339675) (back d) ≡ false) where
     natural : Natural s d r
     natural =
         natural-at s d r s refl (rw (toZ-ofZ f) at e) (rw (toZ-ofZ f) at k) (rw day-is at h) (rw day-is at g)
@@ -161,13 +186,27 @@ module _ (s : ℤ) (x : ℕ) (f : SFits w64 s) (d : ℤ) (e : d ≡ floorDiv (ba
       pub read-nanos : not b ≡ false → 999999999 < x → NoInstant ≡ readInstant s x
       read-nanos p n = nanos-at s (natural .seconds) x (natural .is) (limits-are true (not-false b p)) n
 
-      pub read-at : not b ≡ false → x ≤ 999999999 → At (record { utcday = natAbs (back d); second = natAbs (back r); nanos = x }) ≡ readInstant s x
+      pub read-at :
+          not b ≡ false → x ≤ 999999999 →
+          At (record { utcday = natAbs (back d); second = natAbs (back r); nanos = x }) ≡ readInstant s x
       read-at p n =
           let q = natural in
-          let a : At (record { utcday = natAbs (back d); second = natAbs (back r); nanos = x }) ≡ At (momentOf (q .seconds) x) = rw (q .day, q .second) in
+          let a : At (record { utcday = natAbs (back d); second = natAbs (back r); nanos = x }) ≡
+          At (momentOf (q .seconds) x) = rw (q .day, q .second) in
           a ∙ inside-at s (q .seconds) x (q .is) (limits-are true (not-false b p)) n
 
-pub ruleset read-rules = (read-early, read-late, day-sign, day-small, second-sign, second-small, second-less, read-outside, read-nanos, read-at)
+pub ruleset read-rules = (
+  read-early,
+  read-late,
+  day-sign,
+  day-small,
+  second-sign,
+  second-small,
+  second-less,
+  read-outside,
+  read-nanos,
+  read-at,
+)
 
 -- seconds_of
 pub seconds-are : (m : Moment) → Proper m → toZ w64 (m .utcday * 86400 + m .second) ≡ pos (secondsOf m)

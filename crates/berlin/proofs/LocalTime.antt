@@ -5,7 +5,8 @@
 --   twice        from 02:00 to before 03:00 of that day: both show it
 --   late         from then on: only UTC+1 shows it; by-stretch: a time lies in one of the five
 --   at-two at-one at-none   what `berlinAt` gives
---   clock-from clock-to     the Berlin day of an instant inside the limits is one of the calendar; clock-first clock-final the converse
+--   clock-from clock-to     the Berlin day of an instant inside the limits is one of the calendar; clock-first
+--                        clock-final the converse
 -- Assumes nothing.
 use Prim.Native.Nat.{ℕ, suc, _+_, _-_, _/_, _%_, _≤_, _<_}
 use mathlib.Core.Bool.{Bool, true, false, _&&_, cond}
@@ -22,7 +23,8 @@ use Rattle.berlin.specs.declared.Clock.{Clock}
 use Rattle.berlin.specs.declared.Resolved.the-variants.{At, Absent}
 use Rattle.berlin.specs.Berlin.{dayStart, momentOf, firstSecond, lastSecond, lastSunday, summerFrom, summerTo}
 use Rattle.berlin.specs.Berlin.{yearAt, offsetAt, berlinClock, berlinAt}
-use Rattle.berlin.proofs.SummerTime.{sundays, in-year, Near, year-name, year-at, after-summer, summer-in, winter-late, winter-early}
+use Rattle.berlin.proofs.SummerTime.{sundays, in-year, Near, year-name, year-at, after-summer, summer-in}
+use Rattle.berlin.proofs.SummerTime.{winter-late, winter-early}
 
 -- the offset is one or two hours
 by-test : {A : Type 0} (b : Bool) (x : ℕ) → x ≡ cond b 7200 3600 → (x ≡ 3600 → A) → (x ≡ 7200 → A) → A
@@ -77,7 +79,10 @@ module _ (i t k : ℕ) (h : i ≤ last) (n : Near i k) (u : t < 86400) where
   )
 
   -- one of the five
-  pub by-stretch : {P : Type 0} → (w < march + 7200 → P) → (march + 7200 ≤ w → w < march + 10800 → P) → (march + 10800 ≤ w → w < october + 7200 → P) → (october + 7200 ≤ w → w < october + 10800 → P) → (october + 10800 ≤ w → P) → P
+  pub by-stretch :
+      {P : Type 0} → (w < march + 7200 → P) → (march + 7200 ≤ w → w < march + 10800 → P) →
+      (march + 10800 ≤ w → w < october + 7200 → P) → (october + 7200 ≤ w → w < october + 10800 → P) →
+      (october + 10800 ≤ w → P) → P
   by-stretch a b c d e =
       elim (decLt w (march + 7200)) [
         | yes x ↦ a x
@@ -100,13 +105,16 @@ module _ (i : ℕ) (c : Clock) where
   unfolding berlinAt
   at-two a = rw (eq-eqb (berlinClock (l - 7200)) l (omega arith))
 
-  pub at-one : offsetAt (l - 7200) ≡ 3600 → offsetAt (l - 3600) ≡ 3600 → berlinAt i c ≡ At (momentOf (l - 3600) (c .nanos))
+  pub at-one :
+      offsetAt (l - 7200) ≡ 3600 → offsetAt (l - 3600) ≡ 3600 → berlinAt i c ≡ At (momentOf (l - 3600) (c .nanos))
   unfolding berlinAt
-  at-one a b = rw (ne-eqb (berlinClock (l - 7200)) l (λ z. omega arith), eq-eqb (berlinClock (l - 3600)) l (omega arith))
+  at-one a b =
+      rw (ne-eqb (berlinClock (l - 7200)) l (λ z. omega arith), eq-eqb (berlinClock (l - 3600)) l (omega arith))
 
   pub at-none : offsetAt (l - 7200) ≡ 3600 → offsetAt (l - 3600) ≡ 7200 → berlinAt i c ≡ Absent
   unfolding berlinAt
-  at-none a b = rw (ne-eqb (berlinClock (l - 7200)) l (λ z. omega arith), ne-eqb (berlinClock (l - 3600)) l (λ z. omega arith))
+  at-none a b =
+      rw (ne-eqb (berlinClock (l - 7200)) l (λ z. omega arith), ne-eqb (berlinClock (l - 3600)) l (λ z. omega arith))
 
 pub clock-from : (s : ℕ) → firstSecond ≤ s → dayStart 0 ≤ berlinClock s
 clock-from s h = offset-cases s (λ e. omega arith) (λ e. omega arith)
@@ -132,7 +140,8 @@ clock-first s h =
       | no l ↦
           offset-cases s
           (λ e. omega arith)
-          (λ e. let n = sundays 0 in let w = winter-early 0 s (omega arith) (omega (arith, start-none)) (omega arith) in omega arith)
+          (λ e. let n = sundays 0 in let w = winter-early 0 s (omega arith) (omega (arith, start-none)) (omega arith) in
+          omega arith)
     ]
 
 pub clock-final : (s : ℕ) → berlinClock s < dayStart 330180 → s ≤ lastSecond

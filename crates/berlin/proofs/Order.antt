@@ -1,5 +1,6 @@
 -- Instants by their parts: what comparing two of them by day, second and nanoseconds gives.
---   day-less day-more second-less second-more second-same   the order of two instants is that of the first part in which
+--   day-less day-more second-less second-more second-same   the order of two instants is that of the first part in
+--                        which
 --                                                           they differ
 -- Assumes nothing.
 use Prim.Native.Nat.{_≤_, _<_}

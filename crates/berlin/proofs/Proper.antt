@@ -42,11 +42,15 @@ limits-hold s h = (
 )
 
 -- read_instant, read_clock: what was read passed the tests
-read-passed : (s x : ℕ) (m : Moment) → readInstant (pos s) x ≡ At m → (m ≡ momentOf s x) × (firstSecond ≤ s) × (s ≤ lastSecond) × (x ≤ 999999999)
+read-passed :
+    (s x : ℕ) (m : Moment) → readInstant (pos s) x ≡ At m →
+    (m ≡ momentOf s x) × (firstSecond ≤ s) × (s ≤ lastSecond) × (x ≤ 999999999)
 unfolding readInstant
 read-passed s x m e = go (inLimits s && leb x 999999999) refl e
   where
-    go : (b : Bool) → (inLimits s && leb x 999999999) ≡ b → cond b (At (momentOf s x)) NoInstant ≡ At m → (m ≡ momentOf s x) × (firstSecond ≤ s) × (s ≤ lastSecond) × (x ≤ 999999999)
+    go :
+        (b : Bool) → (inLimits s && leb x 999999999) ≡ b → cond b (At (momentOf s x)) NoInstant ≡ At m →
+        (m ≡ momentOf s x) × (firstSecond ≤ s) × (s ≤ lastSecond) × (x ≤ 999999999)
     go true t q =
         let u = limits-hold s (and-left (inLimits s) _ t) in
         ((cc), u .0, u .1, leb-true x 999999999 (and-right (inLimits s) _ t))
@@ -68,7 +72,9 @@ pub clock-proper : (h m s x : ℕ) (r : ClockReading) (c : Clock) → r ≡ read
 unfolding readClock
 clock-proper h m s x r c e p = go (leb h 23 && (leb m 59 && (leb s 59 && leb x 999999999))) refl (sym e ∙ p)
   where
-    go : (b : Bool) → (leb h 23 && (leb m 59 && (leb s 59 && leb x 999999999))) ≡ b → cond b (ClockAt (record { second = hours h + minutes m + s; nanos = x })) NoClock ≡ ClockAt c → ProperClock c
+    go :
+        (b : Bool) → (leb h 23 && (leb m 59 && (leb s 59 && leb x 999999999))) ≡ b →
+        cond b (ClockAt (record { second = hours h + minutes m + s; nanos = x })) NoClock ≡ ClockAt c → ProperClock c
     go true t q =
         let u = and-right (leb h 23) _ t in
         let v = and-right (leb m 59) _ u in
@@ -90,18 +96,26 @@ shown-proper i c m h u e =
       to = clock-final (secondsOf m) (omega (arith, e .shown, u .second-lt));
     }
 
-pub at-proper : (i : ℕ) (c : Clock) (r : Resolved) (m : Moment) → i ≤ last → ProperClock c → r ≡ berlinAt i c → r ≡ ResolvedAt m → Proper m
+pub at-proper :
+    (i : ℕ) (c : Clock) (r : Resolved) (m : Moment) → i ≤ last → ProperClock c → r ≡ berlinAt i c → r ≡ ResolvedAt m →
+    Proper m
 at-proper i c r m h u e p = shown-proper i c m h u (is-earliest i c h u m (sym e ∙ p))
 
 -- what `is_before` asks
-pub shown-second : (i : ℕ) (c : Clock) (r : Resolved) (m : Moment) → i ≤ last → ProperClock c → r ≡ berlinAt i c → r ≡ ResolvedAt m → m .second < 86400
+pub shown-second :
+    (i : ℕ) (c : Clock) (r : Resolved) (m : Moment) → i ≤ last → ProperClock c → r ≡ berlinAt i c → r ≡ ResolvedAt m →
+    m .second < 86400
 shown-second i c r m h u e p = at-proper i c r m h u e p .second-lt
 
 -- a time that is not from 02:00 to before 03:00 is never absent
-pub not-absent : (i : ℕ) (c : Clock) (r : Resolved) → i ≤ last → ProperClock c → (7200 ≤ c .second → c .second < 10800 → ⊥) → r ≡ berlinAt i c → r ≡ Absent → ⊥
+pub not-absent :
+    (i : ℕ) (c : Clock) (r : Resolved) → i ≤ last → ProperClock c → (7200 ≤ c .second → c .second < 10800 → ⊥) →
+    r ≡ berlinAt i c → r ≡ Absent → ⊥
 not-absent i c r h u n e p = let q = absent-when i c h u (sym e ∙ p) in n (q .1) (q .2)
 
-pub resolved-is : (i : ℕ) (c : Clock) → i ≤ last → ProperClock c → (7200 ≤ c .second → c .second < 10800 → ⊥) → Earliest i c (resolvedOr (berlinAt i c))
+pub resolved-is :
+    (i : ℕ) (c : Clock) → i ≤ last → ProperClock c → (7200 ≤ c .second → c .second < 10800 → ⊥) →
+    Earliest i c (resolvedOr (berlinAt i c))
 resolved-is i c h u n = go (berlinAt i c) refl
   where
     go : (r : Resolved) → berlinAt i c ≡ r → Earliest i c (resolvedOr r)
@@ -109,10 +123,14 @@ resolved-is i c h u n = go (berlinAt i c) refl
     go Absent e = absurd (not-absent i c Absent h u n (sym e) refl)
 
 -- from 03:00 on: 12:00, say
-pub never-absent : (i : ℕ) (c : Clock) (r : Resolved) → i ≤ last → ProperClock c → 10800 ≤ c .second → r ≡ berlinAt i c → r ≡ Absent → ⊥
+pub never-absent :
+    (i : ℕ) (c : Clock) (r : Resolved) → i ≤ last → ProperClock c → 10800 ≤ c .second → r ≡ berlinAt i c → r ≡ Absent →
+    ⊥
 never-absent i c r h u n e p = not-absent i c r h u (λ a b. omega arith) e p
 
-pub resolved-proper : (i : ℕ) (c : Clock) (r : Resolved) (m : Moment) → i ≤ last → ProperClock c → 10800 ≤ c .second → r ≡ berlinAt i c → m ≡ resolvedOr r → Proper m
+pub resolved-proper :
+    (i : ℕ) (c : Clock) (r : Resolved) (m : Moment) → i ≤ last → ProperClock c → 10800 ≤ c .second → r ≡ berlinAt i c →
+    m ≡ resolvedOr r → Proper m
 resolved-proper i c r m h u n e p =
     rw (p, e) (shown-proper i c (resolvedOr (berlinAt i c)) h u (resolved-is i c h u (λ a b. omega arith)))
 
@@ -139,18 +157,21 @@ module _ (i : ℕ) (h : i ≤ last) where
   gas-earliest = resolved-is i six h (proper-clock _ (omega arith) (omega arith)) (λ a b. omega arith)
 
   pub midnight-proper : (m : Moment) → m ≡ berlinMidnight i → Proper m
-  midnight-proper m e = rw e (shown-proper i midnight (berlinMidnight i) h (proper-clock _ (omega arith) (omega arith)) midnight-earliest)
+  midnight-proper m e =
+      rw e (shown-proper i midnight (berlinMidnight i) h (proper-clock _ (omega arith) (omega arith)) midnight-earliest)
 
   pub midnight-second : (m : Moment) → m ≡ berlinMidnight i → m .second < 86400
   midnight-second m e = midnight-proper m e .second-lt
 
   pub end-proper : (m : Moment) → m ≡ endOfDayBerlin i → Proper m
-  end-proper m e = rw e (shown-proper i last-second (endOfDayBerlin i) h (proper-clock _ (omega arith) (omega arith)) end-earliest)
+  end-proper m e =
+      rw e (shown-proper i last-second (endOfDayBerlin i) h (proper-clock _ (omega arith) (omega arith)) end-earliest)
 
   begin-proper-at : (sp : Sparte) → Proper (tagesbeginnUtc i sp)
   unfolding tagesbeginnUtc
   begin-proper-at Strom = midnight-proper (berlinMidnight i) refl
-  begin-proper-at Gas = shown-proper i six (tagesbeginnUtc i Gas) h (proper-clock _ (omega arith) (omega arith)) gas-earliest
+  begin-proper-at Gas =
+      shown-proper i six (tagesbeginnUtc i Gas) h (proper-clock _ (omega arith) (omega arith)) gas-earliest
 
   pub begin-proper : (sp : Sparte) (m : Moment) → m ≡ tagesbeginnUtc i sp → Proper m
   begin-proper sp m e = rw e (begin-proper-at sp)
@@ -163,7 +184,8 @@ moment-same : (m n : Moment) → m .utcday ≡ n .utcday → m .second ≡ n .se
 moment-same m n d s x = rw (d, s, x)
 
 -- tag_des_beginns: a day that was found is the Berlin day, and the instant is its beginning
-pub begins-it : (m : Moment) (sp : Sparte) (i : ℕ) → tagDesBeginns m sp ≡ Day i → (berlinDate m ≡ i) × (m ≡ tagesbeginnUtc i sp)
+pub begins-it :
+    (m : Moment) (sp : Sparte) (i : ℕ) → tagDesBeginns m sp ≡ Day i → (berlinDate m ≡ i) × (m ≡ tagesbeginnUtc i sp)
 unfolding tagDesBeginns
 begins-it m sp i e = go (sameInstant b m) refl e
   where
@@ -184,7 +206,19 @@ begins-it m sp i e = go (sameInstant b m) refl e
         (k, z ∙ ap (λ (x : ℕ). tagesbeginnUtc x sp) k)
     go false t q = let z : _≡_ {A = ℕ} 0 1 = cc in absurd (omega arith)
 
-pub beginn-le : (m : Moment) (sp : Sparte) (r : Beginn) (i : ℕ) → Proper m → r ≡ tagDesBeginns m sp → r ≡ Day i → i ≤ last
+pub beginn-le :
+    (m : Moment) (sp : Sparte) (r : Beginn) (i : ℕ) → Proper m → r ≡ tagDesBeginns m sp → r ≡ Day i → i ≤ last
 beginn-le m sp r i p e q = let b = begins-it m sp i (sym e ∙ q) in omega (arith, day-le m p)
 
-pub ruleset proper-rules = (read-proper, clock-proper, proper-clock, at-proper, resolved-proper, midnight-proper, end-proper, begin-proper, day-le, beginn-le)
+pub ruleset proper-rules = (
+  read-proper,
+  clock-proper,
+  proper-clock,
+  at-proper,
+  resolved-proper,
+  midnight-proper,
+  end-proper,
+  begin-proper,
+  day-le,
+  beginn-le,
+)

@@ -45,7 +45,9 @@ module _ (h m s x : ℕ) where
   unfolding readClock
   clock-nanos a b c d = rw (le-leb h 23 a, le-leb m 59 b, le-leb s 59 c, lt-leb x 999999999 d)
 
-  pub clock-at : h ≤ 23 → m ≤ 59 → s ≤ 59 → x ≤ 999999999 → ClockAt (record { second = h * 3600 + m * 60 + s; nanos = x }) ≡ readClock h m s x
+  pub clock-at :
+      h ≤ 23 → m ≤ 59 → s ≤ 59 → x ≤ 999999999 →
+      ClockAt (record { second = h * 3600 + m * 60 + s; nanos = x }) ≡ readClock h m s x
   unfolding readClock
   clock-at a b c d = rw (le-leb h 23 a, le-leb m 59 b, le-leb s 59 c, le-leb x 999999999 d)
 
@@ -65,7 +67,14 @@ len-3 l = refl
 march-valid : (y : ℕ) → 1996 ≤ y → y ≤ 2899 → isDate (record { year = y; month = 3; day = 31 }) ≡ true
 march-valid y h g =
     is-valid (record { year = y; month = 3; day = 31 })
-    (record { from = h; to = g; month-from = omega arith; month-to = omega arith; day-from = omega arith; day-to = omega (arith, len-3 (isLeap y)) })
+    (record {
+      from = h;
+      to = g;
+      month-from = omega arith;
+      month-to = omega arith;
+      day-from = omega arith;
+      day-to = omega (arith, len-3 (isLeap y));
+    })
 
 pub guess-valid : (i : ℕ) → i ≤ last → isDate (record { year = guessedYear i; month = 3; day = 31 }) ≡ true
 guess-valid i h = march-valid (1996 + guess i) (omega arith) (guess-few i h)
@@ -78,7 +87,8 @@ module _ (y n : ℕ) (e : n ≡ daysBefore (record { year = y; month = 3; day = 
   pub october-is : (b : ℕ) → b ≡ n + 214 - (weekday (n + 214) + 1) % 7 → b ≡ lastSunday y 10
   unfolding lastSunday
   october-is b p =
-      let q : n + 214 ≡ daysBefore (record { year = y; month = 10; day = 31 }) = omega (arith, start-3 (isLeap y), start-10 (isLeap y)) in
+      let q : n + 214 ≡ daysBefore (record { year = y; month = 10; day = 31 }) =
+      omega (arith, start-3 (isLeap y), start-10 (isLeap y)) in
       rw q at p
 
 pub ruleset switch-rules = (guess-valid, march-is, october-is)
@@ -88,33 +98,45 @@ pub before-is : (i t j u : ℕ) → ltb (i * 86400 + t) (j * 86400 + u) ≡ ltb 
 before-is i t j u =
     elim (decLt (i * 86400 + t) (j * 86400 + u)) [
       | yes l ↦ lt-ltb (i * 86400 + t) (j * 86400 + u) l ∙ sym (lt-ltb (dayStart i + t) (dayStart j + u) (omega arith))
-      | no l ↦ le-ltb (i * 86400 + t) (j * 86400 + u) (omega arith) ∙ sym (le-ltb (dayStart i + t) (dayStart j + u) (omega arith))
+      | no l ↦ le-ltb (i * 86400 + t) (j * 86400 + u) (omega arith) ∙
+          sym (le-ltb (dayStart i + t) (dayStart j + u) (omega arith))
     ]
 
 -- offset_at: a and b are what `switches_by` returned, f and g what `is_shown_before` returned
 module _ (i t : ℕ) (h : i ≤ last) (v : t < 86400) where
-  pub offset-early : (a : ℕ) (f : Bool) → a ≡ lastSunday (guessedYear i) 3 → f ≡ ltb (dayStart i + t) (dayStart a + 7200) → f ≡ true → 3600 ≡ offsetAt (dayStart i + t - 3600)
+  pub offset-early :
+      (a : ℕ) (f : Bool) → a ≡ lastSunday (guessedYear i) 3 → f ≡ ltb (dayStart i + t) (dayStart a + 7200) → f ≡ true →
+      3600 ≡ offsetAt (dayStart i + t - 3600)
   offset-early a f p q y =
       let l = ltb-true (dayStart i + t) (dayStart a + 7200) (sym q ∙ y) in
       sym (early i t (guess i) h (guessed i h) v (omega arith) .1)
 
-  pub offset-summer : (a b : ℕ) (f g : Bool) → a ≡ lastSunday (guessedYear i) 3 → f ≡ ltb (dayStart i + t) (dayStart a + 7200) → f ≡ false → b ≡ lastSunday (guessedYear i) 10 → g ≡ ltb (dayStart i + t) (dayStart b + 7200) → g ≡ true → 7200 ≡ offsetAt (dayStart i + t - 3600)
+  pub offset-summer :
+      (a b : ℕ) (f g : Bool) → a ≡ lastSunday (guessedYear i) 3 → f ≡ ltb (dayStart i + t) (dayStart a + 7200) →
+      f ≡ false → b ≡ lastSunday (guessedYear i) 10 → g ≡ ltb (dayStart i + t) (dayStart b + 7200) → g ≡ true →
+      7200 ≡ offsetAt (dayStart i + t - 3600)
   offset-summer a b f g p q y r s z =
       let k = ltb-false (dayStart i + t) (dayStart a + 7200) (sym q ∙ y) in
       let l = ltb-true (dayStart i + t) (dayStart b + 7200) (sym s ∙ z) in
       sym (summer-in (guess i) (dayStart i + t - 3600) (guessed i h .few) (omega arith) (omega arith))
 
-  pub offset-late : (b : ℕ) (g : Bool) → b ≡ lastSunday (guessedYear i) 10 → g ≡ ltb (dayStart i + t) (dayStart b + 7200) → g ≡ false → 3600 ≡ offsetAt (dayStart i + t - 3600)
+  pub offset-late :
+      (b : ℕ) (g : Bool) → b ≡ lastSunday (guessedYear i) 10 → g ≡ ltb (dayStart i + t) (dayStart b + 7200) →
+      g ≡ false → 3600 ≡ offsetAt (dayStart i + t - 3600)
   offset-late b g p q y =
       let n = guessed i h in
       let l = ltb-false (dayStart i + t) (dayStart b + 7200) (sym q ∙ y) in
       sym (winter-late (guess i) (dayStart i + t - 3600) (n .few) (omega arith) (omega arith) (omega arith))
 
 -- local_of: w is what the clock shows that never changes, o what `offset_at` returned, r what the Berlin clock shows
-pub local-is : (m : Moment) (w r : Local) (o : ℕ) → Proper m → w .berlinday * 86400 + w .second ≡ secondsOf m + 3600 → w .second < 86400 → o ≡ offsetAt (dayStart (w .berlinday - 9496) + w .second - 3600) → r .berlinday * 86400 + r .second ≡ secondsOf m + o → r .second < 86400 → r ≡ localOf (secondsOf m)
+pub local-is :
+    (m : Moment) (w r : Local) (o : ℕ) → Proper m → w .berlinday * 86400 + w .second ≡ secondsOf m + 3600 →
+    w .second < 86400 → o ≡ offsetAt (dayStart (w .berlinday - 9496) + w .second - 3600) →
+    r .berlinday * 86400 + r .second ≡ secondsOf m + o → r .second < 86400 → r ≡ localOf (secondsOf m)
 local-is m w r o u e v p f h =
     let z : dayStart (w .berlinday - 9496) + w .second - 3600 ≡ secondsOf m = omega (arith, u .from) in
-    let k : r .berlinday * 86400 + r .second ≡ secondsOf m + offsetAt (secondsOf m) = f ∙ ap (λ (x : ℕ). secondsOf m + x) (p ∙ ap offsetAt z) in
+    let k : r .berlinday * 86400 + r .second ≡ secondsOf m + offsetAt (secondsOf m) =
+    f ∙ ap (λ (x : ℕ). secondsOf m + x) (p ∙ ap offsetAt z) in
     let q = parts (secondsOf m + offsetAt (secondsOf m)) (r .berlinday) (r .second) (sym k) h in
     rw (q .0, q .1)
 
@@ -136,12 +158,18 @@ pub ruleset local-rules = (local-is, date-from, date-is, date-le)
 
 -- behind
 module _ (i a : ℕ) (c : Clock) (f : c .second < 86400) (g : a ≤ 7200) where
-  pub day-before : c .second < a → _≡_ {A = Moment} (record { utcday = i + 9496 - 1; second = c .second + 86400 - a; nanos = c .nanos }) (momentOf (dayStart i + c .second - a) (c .nanos))
+  pub day-before :
+      c .second < a →
+      _≡_ {A = Moment} (record { utcday = i + 9496 - 1; second = c .second + 86400 - a; nanos = c .nanos })
+      (momentOf (dayStart i + c .second - a) (c .nanos))
   day-before h =
       let q = parts (dayStart i + c .second - a) (i + 9496 - 1) (c .second + 86400 - a) (omega arith) (omega arith) in
       rw (q .0, q .1)
 
-  pub day-same : a ≤ c .second → _≡_ {A = Moment} (record { utcday = i + 9496; second = c .second - a; nanos = c .nanos }) (momentOf (dayStart i + c .second - a) (c .nanos))
+  pub day-same :
+      a ≤ c .second →
+      _≡_ {A = Moment} (record { utcday = i + 9496; second = c .second - a; nanos = c .nanos })
+      (momentOf (dayStart i + c .second - a) (c .nanos))
   day-same h =
       let q = parts (dayStart i + c .second - a) (i + 9496) (c .second - a) (omega arith) (omega arith) in
       rw (q .0, q .1)
@@ -150,13 +178,18 @@ pub ruleset behind-rules = (day-before, day-same)
 
 -- berlin_at: a and b are what `switches_by` returned, f and g what `is_shown_before` returned, m what `behind` returned
 module _ (i : ℕ) (c : Clock) (h : i ≤ last) (u : ProperClock c) where
-  pub at-early : (a : ℕ) (f : Bool) (m : Moment) → a ≡ lastSunday (guessedYear i) 3 → f ≡ ltb (dayStart i + c .second) (dayStart a + 7200) → f ≡ true → m ≡ momentOf (dayStart i + c .second - 3600) (c .nanos) → At m ≡ berlinAt i c
+  pub at-early :
+      (a : ℕ) (f : Bool) (m : Moment) → a ≡ lastSunday (guessedYear i) 3 →
+      f ≡ ltb (dayStart i + c .second) (dayStart a + 7200) → f ≡ true →
+      m ≡ momentOf (dayStart i + c .second - 3600) (c .nanos) → At m ≡ berlinAt i c
   at-early a f m p q y e =
       let l = ltb-true (dayStart i + c .second) (dayStart a + 7200) (sym q ∙ y) in
       let v = early i (c .second) (guess i) h (guessed i h) (u .second-lt) (omega arith) in
       rw e (sym (at-one i c (v .0) (v .1)))
 
-  pub at-gap : (a : ℕ) (f g : Bool) → a ≡ lastSunday (guessedYear i) 3 → f ≡ ltb (dayStart i + c .second) (dayStart a + 7200) → f ≡ false → g ≡ ltb (dayStart i + c .second) (dayStart a + 10800) → g ≡ true → Absent ≡ berlinAt i c
+  pub at-gap :
+      (a : ℕ) (f g : Bool) → a ≡ lastSunday (guessedYear i) 3 → f ≡ ltb (dayStart i + c .second) (dayStart a + 7200) →
+      f ≡ false → g ≡ ltb (dayStart i + c .second) (dayStart a + 10800) → g ≡ true → Absent ≡ berlinAt i c
   at-gap a f g p q y s z =
       let k = ltb-false (dayStart i + c .second) (dayStart a + 7200) (sym q ∙ y) in
       let l = ltb-true (dayStart i + c .second) (dayStart a + 10800) (sym s ∙ z) in
@@ -164,13 +197,21 @@ module _ (i : ℕ) (c : Clock) (h : i ≤ last) (u : ProperClock c) where
       sym (at-none i c (v .0) (v .1))
 
   -- x is 03:00, or earlier: up to then the earlier instant is the one by UTC+2
-  pub at-summer : (a b x : ℕ) (f g : Bool) (m : Moment) → a ≡ lastSunday (guessedYear i) 3 → f ≡ ltb (dayStart i + c .second) (dayStart a + 10800) → f ≡ false → b ≡ lastSunday (guessedYear i) 10 → g ≡ ltb (dayStart i + c .second) (dayStart b + x) → g ≡ true → x ≤ 10800 → m ≡ momentOf (dayStart i + c .second - 7200) (c .nanos) → At m ≡ berlinAt i c
+  pub at-summer :
+      (a b x : ℕ) (f g : Bool) (m : Moment) → a ≡ lastSunday (guessedYear i) 3 →
+      f ≡ ltb (dayStart i + c .second) (dayStart a + 10800) → f ≡ false → b ≡ lastSunday (guessedYear i) 10 →
+      g ≡ ltb (dayStart i + c .second) (dayStart b + x) → g ≡ true → x ≤ 10800 →
+      m ≡ momentOf (dayStart i + c .second - 7200) (c .nanos) → At m ≡ berlinAt i c
   at-summer a b x f g m p q y r s z w e =
       let k = ltb-false (dayStart i + c .second) (dayStart a + 10800) (sym q ∙ y) in
       let l = ltb-true (dayStart i + c .second) (dayStart b + x) (sym s ∙ z) in
-      rw e (sym (at-two i c (summer-in (guess i) (dayStart i + c .second - 7200) (guessed i h .few) (omega arith) (omega arith))))
+      rw e (sym (at-two i c (summer-in (guess i) (dayStart i + c .second - 7200) (guessed i h .few) (omega arith)
+      (omega arith))))
 
-  pub at-late : (b : ℕ) (g : Bool) (m : Moment) → b ≡ lastSunday (guessedYear i) 10 → g ≡ ltb (dayStart i + c .second) (dayStart b + 10800) → g ≡ false → m ≡ momentOf (dayStart i + c .second - 3600) (c .nanos) → At m ≡ berlinAt i c
+  pub at-late :
+      (b : ℕ) (g : Bool) (m : Moment) → b ≡ lastSunday (guessedYear i) 10 →
+      g ≡ ltb (dayStart i + c .second) (dayStart b + 10800) → g ≡ false →
+      m ≡ momentOf (dayStart i + c .second - 3600) (c .nanos) → At m ≡ berlinAt i c
   at-late b g m p q y e =
       let l = ltb-false (dayStart i + c .second) (dayStart b + 10800) (sym q ∙ y) in
       let v = late i (c .second) (guess i) h (guessed i h) (u .second-lt) (omega arith) in
@@ -178,7 +219,8 @@ module _ (i : ℕ) (c : Clock) (h : i ≤ last) (u : ProperClock c) where
 
 -- resolved_or, berlin_midnight, end_of_day_berlin, tagesbeginn_utc: c is what `o_clock` returned, f what `berlin_at`
 -- returned, m what `resolved_or` returned
-pub none-given : (f : Resolved) → f ≡ Absent → _≡_ {A = Moment} (record { utcday = 0; second = 0; nanos = 0 }) (resolvedOr f)
+pub none-given :
+    (f : Resolved) → f ≡ Absent → _≡_ {A = Moment} (record { utcday = 0; second = 0; nanos = 0 }) (resolvedOr f)
 none-given f e = rw e
 
 module _ (i : ℕ) (c : Clock) (f : Resolved) (m : Moment) (g : f ≡ berlinAt i c) (e : m ≡ resolvedOr f) where
@@ -193,7 +235,9 @@ module _ (i : ℕ) (c : Clock) (f : Resolved) (m : Moment) (g : f ≡ berlinAt i
   unfolding tagesbeginnUtc
   gas-is sp q p = rw q (resolved (oClock 6) p)
 
-pub end-is : (i : ℕ) (f : Resolved) (m : Moment) → f ≡ berlinAt i (record { second = 86399; nanos = 999999999 }) → m ≡ resolvedOr f → m ≡ endOfDayBerlin i
+pub end-is :
+    (i : ℕ) (f : Resolved) (m : Moment) → f ≡ berlinAt i (record { second = 86399; nanos = 999999999 }) →
+    m ≡ resolvedOr f → m ≡ endOfDayBerlin i
 unfolding endOfDayBerlin
 end-is i f m p e = e ∙ ap resolvedOr p
 
@@ -213,10 +257,13 @@ module _ (m b : Moment) (i : ℕ) (sp : Sparte) (e : i ≡ berlinDate m) (p : b 
   unfolding tagDesBeginns
   other-second h k = rw (← e, ← p, eq-eqb (b .utcday) (m .utcday) h, ne-eqb (b .second) (m .second) k)
 
-  pub other-nanos : b .utcday ≡ m .utcday → b .second ≡ m .second → (b .nanos ≡ m .nanos → ⊥) → NoBeginning ≡ tagDesBeginns m sp
+  pub other-nanos :
+      b .utcday ≡ m .utcday → b .second ≡ m .second → (b .nanos ≡ m .nanos → ⊥) → NoBeginning ≡ tagDesBeginns m sp
   unfolding tagDesBeginns
-  other-nanos h k l = rw (← e, ← p, eq-eqb (b .utcday) (m .utcday) h, eq-eqb (b .second) (m .second) k, ne-eqb (b .nanos) (m .nanos) l)
+  other-nanos h k l =
+      rw (← e, ← p, eq-eqb (b .utcday) (m .utcday) h, eq-eqb (b .second) (m .second) k, ne-eqb (b .nanos) (m .nanos) l)
 
   pub begins : b .utcday ≡ m .utcday → b .second ≡ m .second → b .nanos ≡ m .nanos → Day i ≡ tagDesBeginns m sp
   unfolding tagDesBeginns
-  begins h k l = rw (← e, ← p, eq-eqb (b .utcday) (m .utcday) h, eq-eqb (b .second) (m .second) k, eq-eqb (b .nanos) (m .nanos) l)
+  begins h k l =
+      rw (← e, ← p, eq-eqb (b .utcday) (m .utcday) h, eq-eqb (b .second) (m .second) k, eq-eqb (b .nanos) (m .nanos) l)

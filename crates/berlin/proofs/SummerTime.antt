@@ -16,7 +16,8 @@ use Rattle.zaehlung.specs.Walk.{bit, last}
 use Rattle.zaehlung.specs.Blocks.{start}
 use Rattle.zaehlung.proofs.BlockLaws.{start-suc, at-is, at-sum, at-below}
 use Rattle.datum.proofs.Dates.{yearLen-at}
-use Rattle.datum.specs.Calendar.{isLeap, yearLen, yearStart, yearOf, daysInMonth, monthStart, daysBefore, dateIn, dateOf}
+use Rattle.datum.specs.Calendar.{isLeap, yearLen, yearStart, yearOf, daysInMonth, monthStart, daysBefore, dateIn}
+use Rattle.datum.specs.Calendar.{dateOf}
 use Rattle.datum.proofs.Years.{closed, yearLen-bounds, start-all, start-none}
 use Rattle.berlin.specs.Berlin.{dayStart, lastSunday, summerFrom, summerTo, yearAt, offsetAt}
 
@@ -40,7 +41,9 @@ unfolding start daysInMonth
 start-10 true = refl
 start-10 false = refl
 
-last-is : (y m : ℕ) → (i : ℕ) → daysBefore (record { year = y; month = m; day = 31 }) ≡ i → 6 ≤ i → (lastSunday y m ≤ i) × (i ≤ lastSunday y m + 6) × (lastSunday y m % 7 ≡ 6)
+last-is :
+    (y m : ℕ) → (i : ℕ) → daysBefore (record { year = y; month = m; day = 31 }) ≡ i → 6 ≤ i →
+    (lastSunday y m ≤ i) × (i ≤ lastSunday y m + 6) × (lastSunday y m % 7 ≡ 6)
 unfolding lastSunday
 last-is y m i e h =
     let b : ℕ = (i % 7 + 1) % 7 in
@@ -67,7 +70,14 @@ sundays k =
     let v = yearLen-bounds k in
     let m = last-is (1996 + k) 3 (yearStart (1996 + k - 1996) + monthStart l 3 + 30) refl (omega arith) in
     let o = last-is (1996 + k) 10 (yearStart (1996 + k - 1996) + monthStart l 10 + 30) refl (omega arith) in
-    record { march-from = omega arith; march-to = omega arith; october-from = omega arith; october-to = omega arith; march-sunday = m .2; october-sunday = o .2 }
+    record {
+      march-from = omega arith;
+      march-to = omega arith;
+      october-from = omega arith;
+      october-to = omega arith;
+      march-sunday = m .2;
+      october-sunday = o .2;
+    }
 
 pub record InYear (i k : ℕ) : Type 0 where
   pub few : k ≤ 903
@@ -89,7 +99,8 @@ year-name i = refl
 pub year-is : (i k : ℕ) → InYear i k → dateOf i .year ≡ 1996 + k
 year-is i k y =
     let c = start-suc yearLen k in
-    let q = at-is yearLen 903 0 k i (i - yearStart k) (omega arith) (y .few) (omega (arith, start-none)) (omega arith) in
+    let q = at-is yearLen 903 0 k i (i - yearStart k) (omega arith) (y .few) (omega (arith, start-none)) (omega arith)
+    in
     year-name i ∙ ap (λ (p : ℕ × ℕ). 1996 + p .0) q
 
 pub year-at : (s i t k : ℕ) → s + 3600 ≡ dayStart i + t → t < 86400 → dateOf i .year ≡ k → yearAt s ≡ k
@@ -113,12 +124,15 @@ module _ (s y : ℕ) (e : yearAt s ≡ y) where
   after-summer h g = rw (e, le-leb (summerFrom y) s h, le-ltb s (summerTo y) g)
 
 -- the year of an instant by UTC+1
-year-by : (s k : ℕ) → k ≤ 903 → dayStart (yearStart k) ≤ s + 3600 → s + 3600 < dayStart (yearStart (suc k)) → yearAt s ≡ 1996 + k
+year-by :
+    (s k : ℕ) → k ≤ 903 → dayStart (yearStart k) ≤ s + 3600 → s + 3600 < dayStart (yearStart (suc k)) →
+    yearAt s ≡ 1996 + k
 year-by s k f h g =
     let i : ℕ = (s + 3600) / 86400 - 9496 in
     let a : s + 3600 ≡ dayStart i + (s + 3600) % 86400 = omega arith in
     let b : (s + 3600) % 86400 < 86400 = omega arith in
-    year-at s i ((s + 3600) % 86400) (1996 + k) a b (year-is i k (record { few = f; from = omega arith; to = omega arith }))
+    year-at s i ((s + 3600) % 86400) (1996 + k) a b
+    (year-is i k (record { few = f; from = omega arith; to = omega arith }))
 
 -- before the calendar the definition takes its first year
 year-first : (s : ℕ) → s + 3600 < dayStart 0 → yearAt s ≡ 1996
@@ -126,7 +140,12 @@ unfolding yearAt
 year-first s h =
     let q : (s + 3600) / 86400 - 9496 ≡ 0 = omega arith in
     let b = yearLen-bounds 0 in
-    ap (λ (x : ℕ). dateOf x .year) q ∙ year-is 0 0 (record { few = omega arith; from = omega (arith, start-none); to = omega (arith, start-none, start-suc yearLen 0) })
+    ap (λ (x : ℕ). dateOf x .year) q ∙ year-is 0 0
+    (record {
+      few = omega arith;
+      from = omega (arith, start-none);
+      to = omega (arith, start-none, start-suc yearLen 0);
+    })
 
 module _ (k s : ℕ) (f : k ≤ 903) where
   pub summer-in : summerFrom (1996 + k) ≤ s → s < summerTo (1996 + k) → offsetAt s ≡ 7200
@@ -137,7 +156,8 @@ module _ (k s : ℕ) (f : k ≤ 903) where
   winter-end h g = let n = sundays k in after-summer s (1996 + k) (year-by s k f (omega arith) g) (omega arith) h
 
 -- from some days before the year
-pub winter-early : (k s : ℕ) → k ≤ 903 → dayStart (yearStart k) ≤ s + 604800 → s < summerFrom (1996 + k) → offsetAt s ≡ 3600
+pub winter-early :
+    (k s : ℕ) → k ≤ 903 → dayStart (yearStart k) ≤ s + 604800 → s < summerFrom (1996 + k) → offsetAt s ≡ 3600
 winter-early k s f a h =
     let n = sundays k in
     elim (decLe (dayStart (yearStart k)) (s + 3600)) [
@@ -145,12 +165,16 @@ winter-early k s f a h =
       | no l ↦ go k f a h (omega arith)
     ]
   where
-    go : (k : ℕ) → k ≤ 903 → dayStart (yearStart k) ≤ s + 604800 → s < summerFrom (1996 + k) → s + 3600 < dayStart (yearStart k) → offsetAt s ≡ 3600
+    go :
+        (k : ℕ) → k ≤ 903 → dayStart (yearStart k) ≤ s + 604800 → s < summerFrom (1996 + k) →
+        s + 3600 < dayStart (yearStart k) → offsetAt s ≡ 3600
     go zero f a h l = before-summer s 1996 (year-first s (omega (arith, start-none))) h
     go (suc k) f a h l = let n = sundays k in winter-end k s (omega arith) (omega arith) l
 
 -- to some days after the year, but inside the calendar
-pub winter-late : (k s : ℕ) → k ≤ 903 → summerTo (1996 + k) ≤ s → s + 3600 < dayStart (yearStart (suc k)) + 604800 → s + 3600 < dayStart 330180 → offsetAt s ≡ 3600
+pub winter-late :
+    (k s : ℕ) → k ≤ 903 → summerTo (1996 + k) ≤ s → s + 3600 < dayStart (yearStart (suc k)) + 604800 →
+    s + 3600 < dayStart 330180 → offsetAt s ≡ 3600
 winter-late k s f h g b =
     elim (decLt (s + 3600) (dayStart (yearStart (suc k)))) [
       | yes l ↦ winter-end k s f h l
@@ -171,7 +195,10 @@ pub own-year : (i : ℕ) → i ≤ last → Near i (yearOf i .0)
 own-year i h = let y = in-year i h in record { few = y .few; from = omega arith; to = omega arith }
 
 -- 146,097 days in 400 years; s is the year's first day, p, q and r the quotients of its closed form
-average : (s k p q r : ℕ) → s + 483 + q ≡ 365 * k + (p + r) → 4 * p ≤ k + 1995 → k + 1995 < 4 * p + 4 → 100 * q ≤ k + 1995 → k + 1995 < 100 * q + 100 → 400 * r ≤ k + 1995 → k + 1995 < 400 * r + 400 → (400 * s ≤ 146097 * k + 715) × (146097 * k ≤ 400 * s + 485)
+average :
+    (s k p q r : ℕ) → s + 483 + q ≡ 365 * k + (p + r) → 4 * p ≤ k + 1995 → k + 1995 < 4 * p + 4 → 100 * q ≤ k + 1995 →
+    k + 1995 < 100 * q + 100 → 400 * r ≤ k + 1995 → k + 1995 < 400 * r + 400 →
+    (400 * s ≤ 146097 * k + 715) × (146097 * k ≤ 400 * s + 485)
 average s k p q r e a b c d f g = (omega arith, omega arith)
 
 by-4 : (y : ℕ) → (4 * (y / 4) ≤ y) × (y < 4 * (y / 4) + 4)

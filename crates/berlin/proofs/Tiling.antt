@@ -22,7 +22,8 @@ pub record Begins (i m : ℕ) : Type 0 where
 -- m shows midnight of day i
 module _ (i m : ℕ) (h : i ≤ last) (e : berlinClock m ≡ dayStart i) where
   -- midnight by UTC+1: the hour before it has that offset too
-  at-winter : offsetAt m ≡ 3600 → ((s : ℕ) → dayStart i ≤ s + 7200 → s + 3600 < dayStart i → offsetAt s ≡ 3600) → Begins i m
+  at-winter :
+      offsetAt m ≡ 3600 → ((s : ℕ) → dayStart i ≤ s + 7200 → s + 3600 < dayStart i → offsetAt s ≡ 3600) → Begins i m
   at-winter a f =
       record {
         before = λ s b. elim (decLt (s + 7200) (dayStart i)) [
@@ -33,7 +34,8 @@ module _ (i m : ℕ) (h : i ≤ last) (e : berlinClock m ≡ dayStart i) where
       }
 
   -- midnight by UTC+2: the hour after it has that offset too
-  at-summer : offsetAt m ≡ 7200 → ((s : ℕ) → dayStart i ≤ s + 7200 → s + 3600 < dayStart i → offsetAt s ≡ 7200) → Begins i m
+  at-summer :
+      offsetAt m ≡ 7200 → ((s : ℕ) → dayStart i ≤ s + 7200 → s + 3600 < dayStart i → offsetAt s ≡ 7200) → Begins i m
   at-summer a f =
       record {
         before = λ s b. offset-cases s (λ x. omega arith) (λ x. omega arith);
@@ -51,40 +53,50 @@ module _ (i m : ℕ) (h : i ≤ last) (e : berlinClock m ≡ dayStart i) where
       by-stretch i 0 k h y (omega arith)
       (λ a.
       at-winter
-      (offset-cases m (λ x. x) (λ x. let z = winter-early k m (y .few) (omega arith) (omega arith) in absurd (omega arith)))
+      (offset-cases m (λ x. x) (λ x. let z = winter-early k m (y .few) (omega arith) (omega arith) in
+      absurd (omega arith)))
       (λ s b c. winter-early k s (y .few) (omega arith) (omega arith)))
       (λ a b. absurd (omega arith))
       (λ a b.
       at-summer
-      (offset-cases m (λ x. let z = summer-in k m (y .few) (omega arith) (omega arith) in absurd (omega arith)) (λ x. x))
+      (offset-cases m (λ x. let z = summer-in k m (y .few) (omega arith) (omega arith) in absurd (omega arith))
+      (λ x. x))
       (λ s c d. summer-in k s (y .few) (omega arith) (omega arith)))
       (λ a b. absurd (omega arith))
       (λ a.
       at-winter
-      (offset-cases m (λ x. x) (λ x. let z = winter-late k m (y .few) (omega arith) (omega arith) (omega arith) in absurd (omega arith)))
+      (offset-cases m (λ x. x) (λ x. let z = winter-late k m (y .few) (omega arith) (omega arith) (omega arith) in
+      absurd (omega arith)))
       (λ s b c. winter-late k s (y .few) (omega arith) (omega arith) (omega arith)))
 
 pub midnight-begins : (i : ℕ) → i ≤ last → Begins i (secondsOf (berlinMidnight i))
-midnight-begins i h = let e = midnight-earliest i h in begins i (secondsOf (berlinMidnight i)) h (omega (arith, e .shown))
+midnight-begins i h =
+    let e = midnight-earliest i h in begins i (secondsOf (berlinMidnight i)) h (omega (arith, e .shown))
 
 -- s is after the instant m that shows 23:59:59, and shows no later time
-module _ (i m s : ℕ) (h : i ≤ last) (e : berlinClock m ≡ dayStart i + 86399) (g : m < s) (f : berlinClock s < dayStart i + 86400) where
+module _ (i m s : ℕ) (h : i ≤ last) (e : berlinClock m ≡ dayStart i + 86399) (g : m < s)
+    (f : berlinClock s < dayStart i + 86400) where
   no-later : ⊥
   no-later =
       let k : ℕ = yearOf i .0 in
       let y = own-year i h in
       let n = sundays k in
       by-stretch i 86399 k h y (omega arith)
-      (λ a. offset-cases m (λ x. offset-cases s (λ z. omega arith) (λ z. omega arith)) (λ x. let z = winter-early k m (y .few) (omega arith) (omega arith) in omega arith))
+      (λ a. offset-cases m (λ x. offset-cases s (λ z. omega arith) (λ z. omega arith))
+      (λ x. let z = winter-early k m (y .few) (omega arith) (omega arith) in omega arith))
       (λ a b. omega arith)
-      (λ a b. offset-cases s (λ x. let z = summer-in k s (y .few) (offset-cases m (λ v. omega arith) (λ v. omega arith)) (omega arith) in omega arith) (λ x. offset-cases m (λ v. let z = summer-in k m (y .few) (omega arith) (omega arith) in omega arith) (λ v. omega arith)))
+      (λ a b. offset-cases s (λ x. let z = summer-in k s (y .few) (offset-cases m (λ v. omega arith) (λ v. omega arith))
+      (omega arith) in omega arith) (λ x. offset-cases m
+      (λ v. let z = summer-in k m (y .few) (omega arith) (omega arith) in omega arith) (λ v. omega arith)))
       (λ a b. omega arith)
-      (λ a. offset-cases m (λ x. offset-cases s (λ z. omega arith) (λ z. omega arith)) (λ x. let z = winter-late k m (y .few) (omega arith) (omega arith) (omega arith) in omega arith))
+      (λ a. offset-cases m (λ x. offset-cases s (λ z. omega arith) (λ z. omega arith))
+      (λ x. let z = winter-late k m (y .few) (omega arith) (omega arith) (omega arith) in omega arith))
 
 pub end-last : (i s : ℕ) → i ≤ last → berlinClock s < dayStart (suc i) → s ≤ secondsOf (endOfDayBerlin i)
 end-last i s h f =
     let e = end-earliest i h in
     elim (decLe s (secondsOf (endOfDayBerlin i))) [
       | yes y ↦ y
-      | no y ↦ absurd (no-later i (secondsOf (endOfDayBerlin i)) s h (omega (arith, e .shown)) (omega arith) (omega arith))
+      | no y ↦ absurd (no-later i (secondsOf (endOfDayBerlin i)) s h (omega (arith, e .shown)) (omega arith)
+          (omega arith))
     ]

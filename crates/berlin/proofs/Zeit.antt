@@ -4,7 +4,8 @@
 --   earliest     'A repeated local time means its earlier instant'; no-instant 'An absent one .. is refusal 6'
 --   absent       a local time is absent exactly from 02:00 to before 03:00 of the last Sunday of March
 --   repeated     it is repeated exactly from 02:00 to before 03:00 of the last Sunday of October
---   tiling       'Consecutive days tile the timeline without gap or overlap' (lib.rs); end-of-day 'the last moment of `date`'
+--   tiling       'Consecutive days tile the timeline without gap or overlap' (lib.rs); end-of-day 'the last moment of
+--                `date`'
 --   switch-days  the clock changes on Sundays
 -- Assumes nothing.
 use Prim.Native.Nat.{ℕ, suc, _+_, _-_, _≤_, _<_}
@@ -45,7 +46,8 @@ module _ (i : ℕ) (c : Clock) (h : i ≤ last) (u : ProperClock c) where
   pub no-instant : (berlinAt i c ≡ Absent) ↔ ((s : ℕ) → berlinClock s ≡ dayStart i + c .second → ⊥)
   no-instant = (absent-none i c h u, none-absent i c h u)
 
-  pub absent : (berlinAt i c ≡ Absent) ↔ ((i ≡ lastSunday (dateOf i .year) 3) × (hours 2 ≤ c .second) × (c .second < hours 3))
+  pub absent :
+      (berlinAt i c ≡ Absent) ↔ ((i ≡ lastSunday (dateOf i .year) 3) × (hours 2 ≤ c .second) × (c .second < hours 3))
   absent = (absent-when i c h u, λ q. when-absent i c h u (q .0) (q .1) (q .2))
 
   pub repeated : Repeated i c ↔ ((i ≡ lastSunday (dateOf i .year) 10) × (hours 2 ≤ c .second) × (c .second < hours 3))
@@ -60,7 +62,8 @@ module _ (i s : ℕ) (h : i ≤ last) (from : firstSecond ≤ s) (to : s ≤ las
   next-after : berlinClock s < dayStart (suc i) → s < nextMidnight i
   next-after k =
       elim (decLt i last) [
-        | yes l ↦ rw (lt-ltb i last l) (elim (decLt s (secondsOf (berlinMidnight (suc i)))) [ yes y ↦ y | no y ↦ absurd (omega (arith, midnight-begins (suc i) l .after s (omega arith))) ])
+        | yes l ↦ rw (lt-ltb i last l) (elim (decLt s (secondsOf (berlinMidnight (suc i))))
+            [ yes y ↦ y | no y ↦ absurd (omega (arith, midnight-begins (suc i) l .after s (omega arith))) ])
         | no l ↦ rw (le-ltb i last (omega arith)) (omega arith)
       ]
 
@@ -73,7 +76,8 @@ module _ (i s : ℕ) (h : i ≤ last) (from : firstSecond ≤ s) (to : s ≤ las
 
   this-by : dayStart i ≤ berlinClock s → secondsOf (berlinMidnight i) ≤ s
   this-by k =
-      elim (decLt s (secondsOf (berlinMidnight i))) [ yes y ↦ absurd (omega (arith, midnight-begins i h .before s y)) | no y ↦ omega arith ]
+      elim (decLt s (secondsOf (berlinMidnight i)))
+      [ yes y ↦ absurd (omega (arith, midnight-begins i h .before s y)) | no y ↦ omega arith ]
 
   pub tiling : (berlinDay s ≡ i) ↔ ((secondsOf (berlinMidnight i) ≤ s) × (s < nextMidnight i))
   tiling = (

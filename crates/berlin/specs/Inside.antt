@@ -3,6 +3,7 @@
 --   ProperClock c   c is a time of day
 --   guessedYear i   = the year of day i by the average length of a year: its own, or one at most two days away
 use Prim.Native.Nat.{ℕ, _+_, _*_, _/_, _≤_, _<_}
+use Rattle.datum.specs.Calendar.{firstYear}
 use Rattle.berlin.specs.declared.Moment.{Moment}
 use Rattle.berlin.specs.declared.Clock.{Clock}
 use Rattle.berlin.specs.Berlin.{daySeconds, mostNanos, secondsOf, firstSecond, lastSecond}
@@ -18,4 +19,4 @@ pub record ProperClock (c : Clock) : Type 0 where
   pub nanos-le : c .nanos ≤ mostNanos
 
 abbrev pub guessedYear : ℕ → ℕ
-guessedYear i = 1996 + i * 400 / 146097
+guessedYear i = firstYear + i * 400 / 146097

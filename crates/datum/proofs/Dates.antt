@@ -69,7 +69,14 @@ valid-is d t =
 pub is-valid : (d : Date) → Valid d → isDate d ≡ true
 unfolding isDate
 is-valid d v =
-    rw (le-leb 1996 (d .year) (v .from), le-leb (d .year) 2899 (v .to), le-leb 1 (d .month) (v .month-from), le-leb (d .month) 12 (v .month-to), le-leb 1 (d .day) (v .day-from)) (le-leb (d .day) (daysInMonth (isLeap (d .year)) (d .month)) (v .day-to))
+    rw (
+      le-leb 1996 (d .year) (v .from),
+      le-leb (d .year) 2899 (v .to),
+      le-leb 1 (d .month) (v .month-from),
+      le-leb (d .month) 12 (v .month-to),
+      le-leb 1 (d .day) (v .day-from),
+    )
+    (le-leb (d .day) (daysInMonth (isLeap (d .year)) (d .month)) (v .day-to))
 
 -- each number of a list is at most b, as a test that computes
 unfoldable pub all-le : ℕ → List ℕ → Bool
@@ -123,7 +130,8 @@ month-found l r m g h a b =
 
 -- the day of the year, from 0
 in-year : (l : Bool) (m d : ℕ) → m ≤ 12 → 1 ≤ d → d ≤ daysInMonth l m → monthStart l m + (d - 1) < 365 + bit l
-in-year l m d h a b = omega (arith, start-suc (daysInMonth l) m, start-mono (daysInMonth l) (suc m) 13 (omega arith), months-sum l)
+in-year l m d h a b =
+    omega (arith, start-suc (daysInMonth l) m, start-mono (daysInMonth l) (suc m) 13 (omega arith), months-sum l)
 
 pub yearLen-at : (y k : ℕ) → y ≡ 1996 + k → yearLen k ≡ 365 + bit (isLeap y)
 unfolding yearLen
@@ -139,9 +147,15 @@ date-index d v =
     let s : ℕ = monthStart l m + (d .day - 1) in
     let e : 1996 + k ≡ y = omega (arith, v .from) in
     let i : ℕ = yearStart k + monthStart l m + (d .day - 1) in
-    let n : s < yearLen k = omega (arith, in-year l m (d .day) (v .month-to) (v .day-from) (v .day-to), yearLen-at y k (sym e)) in
-    let q : yearOf i ≡ (k, s) = at-is yearLen 903 0 k i s (omega arith) (omega (arith, v .to)) (omega (arith, start-none)) n in
-    let p : monthOf l s ≡ (m, d .day - 1) = at-is (daysInMonth l) 11 1 m s (d .day - 1) (v .month-from) (v .month-to) (omega (arith, month-first l)) (omega (arith, v .day-from, v .day-to)) in
+    let n : s < yearLen k = omega (
+      arith,
+      in-year l m (d .day) (v .month-to) (v .day-from) (v .day-to),
+      yearLen-at y k (sym e),
+    ) in
+    let q : yearOf i ≡ (k, s) = at-is yearLen 903 0 k i s (omega arith) (omega (arith, v .to))
+    (omega (arith, start-none)) n in
+    let p : monthOf l s ≡ (m, d .day - 1) = at-is (daysInMonth l) 11 1 m s (d .day - 1) (v .month-from) (v .month-to)
+    (omega (arith, month-first l)) (omega (arith, v .day-from, v .day-to)) in
     let u : d .day - 1 + 1 ≡ d .day = omega (arith, v .day-from) in
     rw (q, e, p, u)
 
@@ -171,8 +185,16 @@ index-date i h =
     let b = year-below i h in
     let m = monthOf l (y .1) in
     let c = at-sum (daysInMonth l) 11 1 (y .1) in
-    let e : m .1 < daysInMonth l (m .0) = at-below (daysInMonth l) 11 1 (y .1) (omega (arith, months-sum l, month-first l)) in
+    let e : m .1 < daysInMonth l (m .0) = at-below (daysInMonth l) 11 1 (y .1)
+    (omega (arith, months-sum l, month-first l)) in
     let z : 1996 + k - 1996 ≡ k = omega arith in (
-      record { from = omega arith; to = omega arith; month-from = omega arith; month-to = omega arith; day-from = omega arith; day-to = omega arith },
+      record {
+        from = omega arith;
+        to = omega arith;
+        month-from = omega arith;
+        month-to = omega arith;
+        day-from = omega arith;
+        day-to = omega arith;
+      },
       rw z (omega (arith, month-first l, start-none)),
     )

@@ -30,7 +30,15 @@ pub record Steps (d : ℕ) : Type 0 where
   pub rest : (a : ℕ) → a % d < d
 
 pub by-12 : Steps 12
-by-12 = record { some = omega arith; fits = omega arith; full = λ a h. omega arith; part = λ a y h. omega arith; less = λ a. omega arith; down = λ a. omega arith; rest = λ a. omega arith }
+by-12 = record {
+  some = omega arith;
+  fits = omega arith;
+  full = λ a h. omega arith;
+  part = λ a y h. omega arith;
+  less = λ a. omega arith;
+  down = λ a. omega arith;
+  rest = λ a. omega arith;
+}
 
 mag-neg : (r a : ℕ) → r ≤ suc a → mag (negℤ (pos r)) ≤ a
 mag-neg zero a h = omega arith

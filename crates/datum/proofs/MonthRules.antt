@@ -25,15 +25,22 @@ use Rattle.datum.proofs.Signed.{back, clash, pos-fits, neg-fits, back-p
 module _ (y m x : ℕ) (l : Bool) (n : ℕ) (a : 1996 ≤ y) (b : y ≤ 2899) (g : l ≡ isLeap y) (e : n ≡ daysInMonth l m) where
   pub cut : n < x → _≡_ {A = Shifted} (On (record { year = y; month = m; day = n })) (inMonth y m x)
   unfolding inMonth
-  cut h = let q : n ≡ min x (daysInMonth (isLeap y) m) = (let k : n ≡ daysInMonth (isLeap y) m = rw g at e in omega arith) in rw (le-leb 1996 y a, le-leb y 2899 b, q)
+  cut h =
+      let q : n ≡ min x (daysInMonth (isLeap y) m) =
+      (let k : n ≡ daysInMonth (isLeap y) m = rw g at e in omega arith) in rw (le-leb 1996 y a, le-leb y 2899 b, q)
 
   pub kept : x ≤ n → _≡_ {A = Shifted} (On (record { year = y; month = m; day = x })) (inMonth y m x)
   unfolding inMonth
-  kept h = let q : min x (daysInMonth (isLeap y) m) ≡ x = (let k : n ≡ daysInMonth (isLeap y) m = rw g at e in omega arith) in rw (le-leb 1996 y a, le-leb y 2899 b, q)
+  kept h =
+      let q : min x (daysInMonth (isLeap y) m) ≡ x =
+      (let k : n ≡ daysInMonth (isLeap y) m = rw g at e in omega arith) in rw (le-leb 1996 y a, le-leb y 2899 b, q)
 
 -- a day that every month has
-pub kept-in-all : (y m x : ℕ) → 1996 ≤ y → y ≤ 2899 → 1 ≤ m → m ≤ 12 → x ≤ 28 → _≡_ {A = Shifted} (On (record { year = y; month = m; day = x })) (inMonth y m x)
-kept-in-all y m x a b c e h = kept y m x (isLeap y) (daysInMonth (isLeap y) m) a b refl refl (omega (arith, len-ge (isLeap y) m c e))
+pub kept-in-all :
+    (y m x : ℕ) → 1996 ≤ y → y ≤ 2899 → 1 ≤ m → m ≤ 12 → x ≤ 28 →
+    _≡_ {A = Shifted} (On (record { year = y; month = m; day = x })) (inMonth y m x)
+kept-in-all y m x a b c e h =
+    kept y m x (isLeap y) (daysInMonth (isLeap y) m) a b refl refl (omega (arith, len-ge (isLeap y) m c e))
 
 pub ruleset in-month-rules = (cut, kept, kept-in-all)
 
@@ -49,7 +56,9 @@ pub record InRange (t y m : ℤ) : Type 0 where
 module _ (t y m : ℤ) (x : ℕ) (f : SFits w64 t) (ey : y ≡ floorDiv (back t) 12) (em : m ≡ floorMod (back t) 12) where
   early-at : (z : ℤ) → SFits w64 z → y ≡ floorDiv z 12 → ltZ (back y) (pos 1996) ≡ true → Outside ≡ onMonth z x
   unfolding floorDiv onMonth inMonth
-  early-at (pos a) k e h = let l = ltb-true (a / 12) 1996 (rw (e, back-pos (a / 12) (omega (arith, k .sfits))) at h) in rw (lt-leb 1996 (a / 12) l)
+  early-at (pos a) k e h =
+      let l = ltb-true (a / 12) 1996 (rw (e, back-pos (a / 12) (omega (arith, k .sfits))) at h) in
+      rw (lt-leb 1996 (a / 12) l)
   early-at (negsuc a) k e h = refl
 
   pub early : ltZ (back y) (pos 1996) ≡ true → Outside ≡ onMonth t x
@@ -98,7 +107,9 @@ module _ {t y m : ℤ} (r : InRange t y m) where
   pub month-cast : T (nonNeg (back (back m +ℤ pos 1))) × Fits w8 (natAbs (back (back m +ℤ pos 1)))
   month-cast = rw month-back (tt, record { fits = omega arith })
 
-  pub within : (1996 ≤ natAbs (back y)) × (natAbs (back y) ≤ 2899) × (1 ≤ natAbs (back (back m +ℤ pos 1))) × (natAbs (back (back m +ℤ pos 1)) ≤ 12)
+  pub within :
+      (1996 ≤ natAbs (back y)) × (natAbs (back y) ≤ 2899) × (1 ≤ natAbs (back (back m +ℤ pos 1))) ×
+      (natAbs (back (back m +ℤ pos 1)) ≤ 12)
   within = rw (r .year, month-back) (r .from, r .to, omega arith, omega arith)
 
   pub on-it :

@@ -88,7 +88,9 @@ module _ (d : Date) (n : ℕ) (s : Shifted) (v : isDate d ≡ true) (p : s ≡ a
     date-kept h = M-kept n (daysBefore d) d s (own-date d v) p e q h
 
     -- w is what it returned for the first of the month reached
-    pub date-first : (w : Shifted) → e .day < d .day → w ≡ addMonths (record { year = e .year; month = e .month; day = 1 }) 1 → toStep w ≡ M n (daysBefore d)
+    pub date-first :
+        (w : Shifted) → e .day < d .day → w ≡ addMonths (record { year = e .year; month = e .month; day = 1 }) 1 →
+        toStep w ≡ M n (daysBefore d)
     date-first w h f = M-cut n (daysBefore d) d s (own-date d v) p e w (toStep w) q h f refl
 
 pub ruleset date-shift-rules = (date-month, date-gone, date-reached, reached-month, date-kept, date-first, first-dated)
@@ -103,4 +105,15 @@ M-dated n i d s u h e p q =
     let k : daysBefore d ≡ i = rw e (index-date i h .1) in
     q ∙ p ∙ ap (M n) k
 
-pub ruleset month-rules = (month-some, later-dated, earlier-dated, date-valid, toStep-on, toStep-gone, later-is, earlier-is, day-valid, M-dated)
+pub ruleset month-rules = (
+  month-some,
+  later-dated,
+  earlier-dated,
+  date-valid,
+  toStep-on,
+  toStep-gone,
+  later-is,
+  earlier-is,
+  day-valid,
+  M-dated,
+)

@@ -161,7 +161,8 @@ module _ (n i : ℕ) (d : Date) (s : Shifted) (g : d ≡ dateOf i) (p : s ≡ ad
       cc
 
   -- the first of the target month, and a month
-  first-of : (e : Date) → e ≡ dayOf t (d .day) → ordinalOf (record { year = e .year; month = e .month; day = 1 }) + 1 ≡ suc t
+  first-of :
+      (e : Date) → e ≡ dayOf t (d .day) → ordinalOf (record { year = e .year; month = e .month; day = 1 }) + 1 ≡ suc t
   first-of e q =
       let y = ap (λ (x : Date). x .year) q in
       let m = ap (λ (x : Date). x .month) q in
@@ -169,7 +170,8 @@ module _ (n i : ℕ) (d : Date) (s : Shifted) (g : d ≡ dateOf i) (p : s ≡ ad
 
   pub M-cut :
       (e : Date) (v : Shifted) (u : Step) →
-      s ≡ On e → e .day < d .day → v ≡ addMonths (record { year = e .year; month = e .month; day = 1 }) 1 → u ≡ toStep v → u ≡ M n i
+      s ≡ On e → e .day < d .day → v ≡ addMonths (record { year = e .year; month = e .month; day = 1 }) 1 → u ≡
+      toStep v → u ≡ M n i
   unfolding len
   M-cut e v u q h f g′ =
       let r = reached e q in

@@ -81,15 +81,21 @@ late = refl
 
 pub start-common : (l : Bool) (m : ℕ) → m ≤ 13 → l ≡ false → getD before m 0 ≡ monthStart l m
 unfolding agrees
-start-common l m h e = rw e (let q = eqb-true (getD before m 0 + 0) (monthStart false m) (run-at (agrees false 0) 14 0 common m (omega arith) (omega arith)) in omega arith)
+start-common l m h e =
+    rw e (let q = eqb-true (getD before m 0 + 0) (monthStart false m)
+    (run-at (agrees false 0) 14 0 common m (omega arith) (omega arith)) in omega arith)
 
 pub start-early : (l : Bool) (m : ℕ) → m ≤ 13 → l ≡ true → m ≤ 2 → getD before m 0 ≡ monthStart l m
 unfolding agrees
-start-early l m h e g = rw e (let q = eqb-true (getD before m 0 + 0) (monthStart true m) (run-at (agrees true 0) 3 0 early m (omega arith) (omega arith)) in omega arith)
+start-early l m h e g =
+    rw e (let q = eqb-true (getD before m 0 + 0) (monthStart true m)
+    (run-at (agrees true 0) 3 0 early m (omega arith) (omega arith)) in omega arith)
 
 pub start-late : (l : Bool) (m : ℕ) → m ≤ 13 → l ≡ true → 2 < m → getD before m 0 + 1 ≡ monthStart l m
 unfolding agrees
-start-late l m h e g = rw e (let q = eqb-true (getD before m 0 + 1) (monthStart true m) (run-at (agrees true 1) 11 3 late m (omega arith) (omega arith)) in omega arith)
+start-late l m h e g =
+    rw e (let q = eqb-true (getD before m 0 + 1) (monthStart true m)
+    (run-at (agrees true 1) 11 3 late m (omega arith) (omega arith)) in omega arith)
 
 pub before-le : (m : ℕ) → getD before m 0 ≤ 366
 unfolding all-le
@@ -116,7 +122,11 @@ start-is k = solve (yearStart k) ((k + 1995) / 4) ((k + 1995) / 100) ((k + 1995)
 
 -- year_of: s is what `year_start` returned. A year that starts after a day is not the first
 pub not-first : (i k s : ℕ) → s ≡ yearStart k → i < s → 0 < k
-not-first i k s e h = elim (decLt 0 k) [ yes l ↦ l | no l ↦ absurd (let z : k ≡ 0 = omega arith in omega (arith, ap yearStart z, start-none)) ]
+not-first i k s e h = elim (decLt 0 k) [
+  | yes l ↦ l
+  | no l ↦ absurd
+      (let z : k ≡ 0 = omega arith in omega (arith, ap yearStart z, start-none))
+]
 
 pub falls : (i k s : ℕ) → s ≡ yearStart k → i < s → k - 1 < k
 falls i k s e h = let l = not-first i k s e h in omega arith
@@ -147,7 +157,11 @@ guess-le l r h = omega (arith, bit-le l)
 
 pub month-again : (l : Bool) (r m s : ℕ) → r < 365 + bit l → m ≤ 12 → s ≡ monthStart l (m + 1) → s ≤ r → m + 1 ≤ 12
 month-again l r m s h g e a =
-    elim (decLe (m + 1) 12) [ yes y ↦ y | no y ↦ absurd (let z : m + 1 ≡ 13 = omega arith in omega (arith, ap (monthStart l) z, months-sum l)) ]
+    elim (decLe (m + 1) 12) [
+      | yes y ↦ y
+      | no y ↦ absurd
+          (let z : m + 1 ≡ 13 = omega arith in omega (arith, ap (monthStart l) z, months-sum l))
+    ]
 
 pub month-less :
     (l : Bool) (r m s : ℕ) → r < 365 + bit l → m ≤ 12 → s ≡ monthStart l (m + 1) → s ≤ r → 12 - (m + 1) < 12 - m
@@ -202,23 +216,45 @@ module _ (d : Date) where
 
     pub month-over : 1 ≤ d .month → 12 < d .month → false ≡ isDate d
     unfolding isDate
-    month-over c e = rw (le-leb 1996 (d .year) a, le-leb (d .year) 2899 b, le-leb 1 (d .month) c, lt-leb (d .month) 12 e)
+    month-over c e =
+        rw (le-leb 1996 (d .year) a, le-leb (d .year) 2899 b, le-leb 1 (d .month) c, lt-leb (d .month) 12 e)
 
     module _ (c : 1 ≤ d .month) (e : d .month ≤ 12) where
       pub no-day : d .day < 1 → false ≡ isDate d
       unfolding isDate
-      no-day f = rw (le-leb 1996 (d .year) a, le-leb (d .year) 2899 b, le-leb 1 (d .month) c, le-leb (d .month) 12 e, lt-leb 1 (d .day) f)
+      no-day f = rw (
+        le-leb 1996 (d .year) a,
+        le-leb (d .year) 2899 b,
+        le-leb 1 (d .month) c,
+        le-leb (d .month) 12 e,
+        lt-leb 1 (d .day) f,
+      )
 
       pub in-every-month : 1 ≤ d .day → d .day ≤ 28 → true ≡ isDate d
       in-every-month f h =
-          sym (is-valid d (record { from = a; to = b; month-from = c; month-to = e; day-from = f; day-to = omega (arith, len-ge (isLeap (d .year)) (d .month) c e) }))
+          sym (is-valid d (record {
+            from = a;
+            to = b;
+            month-from = c;
+            month-to = e;
+            day-from = f;
+            day-to = omega (arith, len-ge (isLeap (d .year)) (d .month) c e);
+          }))
 
       -- l and n are what `is_leap` and `days_in_month` returned
       pub by-length :
           (l : Bool) (n : ℕ) → 1 ≤ d .day → l ≡ isLeap (d .year) → n ≡ daysInMonth l (d .month) →
           leb (d .day) n ≡ isDate d
       unfolding isDate
-      by-length l n f g h = rw (le-leb 1996 (d .year) a, le-leb (d .year) 2899 b, le-leb 1 (d .month) c, le-leb (d .month) 12 e, le-leb 1 (d .day) f, ← g, h)
+      by-length l n f g h = rw (
+        le-leb 1996 (d .year) a,
+        le-leb (d .year) 2899 b,
+        le-leb 1 (d .month) c,
+        le-leb (d .month) 12 e,
+        le-leb 1 (d .day) f,
+        ← g,
+        h,
+      )
 
 pub ruleset valid-rules = (too-early, too-late, no-month, month-over, no-day, in-every-month, by-length)
 
@@ -238,35 +274,36 @@ module _ (d : Date) (b : Bool) (g : b ≡ isDate d) where
 pub ruleset index-rules = (is-asked, has-day, no-date)
 
 -- date_of: y and x are the year and the day in it that `year_of` returned
-module _ (i y x : ℕ) (h : i ≤ last) (e : y ≡ yearOf i .0) (f : x ≡ yearOf i .1) (l : Bool) (g : l ≡ isLeap (1996 + y)) where
-  pub day-in-year : x < 365 + bit l
-  day-in-year = rw (g, e, f) (year-below i h)
+module _ (i y x : ℕ) (h : i ≤ last) (e : y ≡ yearOf i .0) (f : x ≡ yearOf i .1) (l : Bool) (g : l ≡ isLeap (1996 + y))
+  where
+    pub day-in-year : x < 365 + bit l
+    day-in-year = rw (g, e, f) (year-below i h)
 
-  module _ (m s : ℕ) (p : m ≡ monthOf l x .0) (q : s ≡ monthStart l m) where
-    parts : (s + monthOf l x .1 ≡ x) × (monthOf l x .1 < daysInMonth l m) × (monthOf l x .1 < 31)
-    parts =
-        let d = day-in-year in
-        let a = at-sum (daysInMonth l) 11 1 x in
-        let b = at-below (daysInMonth l) 11 1 x (omega (arith, months-sum l, month-first l)) in
-        let c = ap (monthStart l) p in
-        let k = ap (daysInMonth l) p in
-        let n = len-le l m in
-        omega (arith, month-first l)
+    module _ (m s : ℕ) (p : m ≡ monthOf l x .0) (q : s ≡ monthStart l m) where
+      parts : (s + monthOf l x .1 ≡ x) × (monthOf l x .1 < daysInMonth l m) × (monthOf l x .1 < 31)
+      parts =
+          let d = day-in-year in
+          let a = at-sum (daysInMonth l) 11 1 x in
+          let b = at-below (daysInMonth l) 11 1 x (omega (arith, months-sum l, month-first l)) in
+          let c = ap (monthStart l) p in
+          let k = ap (daysInMonth l) p in
+          let n = len-le l m in
+          omega (arith, month-first l)
 
-    pub month-by : s ≤ x
-    month-by = omega (arith, parts)
+      pub month-by : s ≤ x
+      month-by = omega (arith, parts)
 
-    pub day-fits : Fits w8 (x - s + 1)
-    day-fits = record { fits = omega (arith, parts) }
+      pub day-fits : Fits w8 (x - s + 1)
+      day-fits = record { fits = omega (arith, parts) }
 
-    pub day-fits-32 : Fits w32 (x - s + 1)
-    day-fits-32 = record { fits = omega (arith, parts) }
+      pub day-fits-32 : Fits w32 (x - s + 1)
+      day-fits-32 = record { fits = omega (arith, parts) }
 
-    pub date-is : _≡_ {A = Date} (record { year = 1996 + y; month = m; day = x - s + 1 }) (dateOf i)
-    unfolding dateOf dateIn
-    date-is =
-        let d : x - s ≡ monthOf l x .1 = omega (arith, parts) in
-        let b : _≡_ {A = Date} (record { year = 1996 + y; month = m; day = x - s + 1 }) (dateIn y x) = rw (d, p, g) in
-        b ∙ ap₂ dateIn e f
+      pub date-is : _≡_ {A = Date} (record { year = 1996 + y; month = m; day = x - s + 1 }) (dateOf i)
+      unfolding dateOf dateIn
+      date-is =
+          let d : x - s ≡ monthOf l x .1 = omega (arith, parts) in
+          let b : _≡_ {A = Date} (record { year = 1996 + y; month = m; day = x - s + 1 }) (dateIn y x) = rw (d, p, g) in
+          b ∙ ap₂ dateIn e f
 
 pub ruleset date-rules = (day-in-year, month-by, day-fits, day-fits-32, date-is)

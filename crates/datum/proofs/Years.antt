@@ -48,14 +48,18 @@ cancel p q r p′ q′ r′ a b c e f g h = omega arith
 leap-tests :
     (y : ℕ) (a b c : Bool) → eqb (suc y % 4) 0 ≡ a → eqb (suc y % 100) 0 ≡ b → eqb (suc y % 400) 0 ≡ c →
     bit (a && (not b || c)) + (y / 4 + y / 400) + suc y / 100 ≡ suc y / 4 + suc y / 400 + y / 100
-leap-tests y true true true p q r = cancel (suc y / 4) (suc y / 100) (suc y / 400) (y / 4) (y / 100) (y / 400) true true true (step4 y true p) (step100 y true q) (step400 y true r) refl
-leap-tests y true true false p q r = cancel (suc y / 4) (suc y / 100) (suc y / 400) (y / 4) (y / 100) (y / 400) true true false (step4 y true p) (step100 y true q) (step400 y false r) refl
+leap-tests y true true true p q r = cancel (suc y / 4) (suc y / 100) (suc y / 400) (y / 4) (y / 100) (y / 400) true true
+    true (step4 y true p) (step100 y true q) (step400 y true r) refl
+leap-tests y true true false p q r = cancel (suc y / 4) (suc y / 100) (suc y / 400) (y / 4) (y / 100) (y / 400) true
+    true false (step4 y true p) (step100 y true q) (step400 y false r) refl
 leap-tests y true false true p q r = absurd (eqb-false (suc y % 100) 0 q (by400 (suc y) (eqb-true (suc y % 400) 0 r)))
-leap-tests y true false false p q r = cancel (suc y / 4) (suc y / 100) (suc y / 400) (y / 4) (y / 100) (y / 400) true false false (step4 y true p) (step100 y false q) (step400 y false r) refl
+leap-tests y true false false p q r = cancel (suc y / 4) (suc y / 100) (suc y / 400) (y / 4) (y / 100) (y / 400) true
+    false false (step4 y true p) (step100 y false q) (step400 y false r) refl
 leap-tests y false true true p q r = absurd (eqb-false (suc y % 4) 0 p (by100 (suc y) (eqb-true (suc y % 100) 0 q)))
 leap-tests y false true false p q r = absurd (eqb-false (suc y % 4) 0 p (by100 (suc y) (eqb-true (suc y % 100) 0 q)))
 leap-tests y false false true p q r = absurd (eqb-false (suc y % 100) 0 q (by400 (suc y) (eqb-true (suc y % 400) 0 r)))
-leap-tests y false false false p q r = cancel (suc y / 4) (suc y / 100) (suc y / 400) (y / 4) (y / 100) (y / 400) false false false (step4 y false p) (step100 y false q) (step400 y false r) refl
+leap-tests y false false false p q r = cancel (suc y / 4) (suc y / 100) (suc y / 400) (y / 4) (y / 100) (y / 400) false
+    false false (step4 y false p) (step100 y false q) (step400 y false r) refl
 
 leap-step : (y : ℕ) → bit (isLeap (suc y)) + (y / 4 + y / 400) + suc y / 100 ≡ suc y / 4 + suc y / 400 + y / 100
 unfolding isLeap
@@ -77,7 +81,8 @@ closed zero = refl
 closed (suc k) =
     let f : suc k + 1995 ≡ suc (k + 1995) = omega arith in
     let y : ℕ = k + 1995 in
-    rw (f, yearLen-is k) (join (yearStart k) (bit (isLeap (suc y))) k (y / 4) (y / 100) (y / 400) (suc y / 4) (suc y / 100) (suc y / 400) (closed k) (leap-step y))
+    rw (f, yearLen-is k) (join (yearStart k) (bit (isLeap (suc y))) k (y / 4) (y / 100) (y / 400) (suc y / 4)
+    (suc y / 100) (suc y / 400) (closed k) (leap-step y))
 
 pub yearLen-bounds : (k : ℕ) → (365 ≤ yearLen k) × (yearLen k ≤ 366)
 yearLen-bounds k = go (isLeap (suc (k + 1995))) (yearLen-is k)

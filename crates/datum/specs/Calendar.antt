@@ -1,4 +1,5 @@
 -- The Gregorian calendar from 1 January 1996 to 31 December 2899.
+--   firstYear, lastYear = 1996 and 2899
 --   isLeap y         = whether y is a leap year
 --   daysInMonth l m  = days of month m, counted from 1, in a leap (l) or a common year; 0 for no month
 --   monthStart l m   = days of the year before month m
@@ -24,6 +25,13 @@ use Rattle.datum.specs.declared.Date.{Date}
 use Rattle.datum.specs.declared.Index.{Index}
 use Rattle.datum.specs.declared.Index.the-variants.{Day, NoDate}
 
+-- 'A date lies from 1 January 1996 to 31 December 2899 (330,180 days).'
+abbrev pub firstYear : ℕ
+firstYear = 1996
+
+abbrev pub lastYear : ℕ
+lastYear = 2899
+
 -- every fourth year, of the full hundreds every fourth
 unfoldable pub isLeap : ℕ → Bool
 isLeap y = eqb (y % 4) 0 && (not (eqb (y % 100) 0) || eqb (y % 400) 0)
@@ -38,20 +46,20 @@ abbrev pub monthStart : Bool → ℕ → ℕ
 monthStart l m = start (daysInMonth l) m
 
 unfoldable pub yearLen : ℕ → ℕ
-yearLen k = 365 + bit (isLeap (1996 + k))
+yearLen k = 365 + bit (isLeap (firstYear + k))
 
 abbrev pub yearStart : ℕ → ℕ
 yearStart k = start yearLen k
 
 unfoldable pub isDate : Date → Bool
 isDate d =
-    leb 1996 (d .year) && (leb (d .year) 2899
+    leb firstYear (d .year) && (leb (d .year) lastYear
     && (leb 1 (d .month) && (leb (d .month) 12
     && (leb 1 (d .day) && leb (d .day) (daysInMonth (isLeap (d .year)) (d .month))))))
 
 -- the days of the years, of the months and of the month before a date
 abbrev pub daysBefore : Date → ℕ
-daysBefore d = yearStart (d .year - 1996) + monthStart (isLeap (d .year)) (d .month) + (d .day - 1)
+daysBefore d = yearStart (d .year - firstYear) + monthStart (isLeap (d .year)) (d .month) + (d .day - 1)
 
 unfoldable pub indexOf : Date → Index
 indexOf d = cond (isDate d) (Day (daysBefore d)) NoDate
@@ -64,7 +72,9 @@ monthOf l r = at (daysInMonth l) 11 1 r
 
 -- the date of day r of the year 1996 + k
 unfoldable pub dateIn : ℕ → ℕ → Date
-dateIn k r = let m = monthOf (isLeap (1996 + k)) r in record { year = 1996 + k; month = m .0; day = m .1 + 1 }
+dateIn k r =
+    let m = monthOf (isLeap (firstYear + k)) r in
+    record { year = firstYear + k; month = m .0; day = m .1 + 1 }
 
 unfoldable pub dateOf : ℕ → Date
 dateOf i = let y = yearOf i in dateIn (y .0) (y .1)

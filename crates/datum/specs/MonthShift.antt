@@ -11,7 +11,7 @@ use lib.IntN.{ℤ, pos, negsuc, _+ℤ_, _-ℤ_}
 use Rattle.datum.specs.declared.Date.{Date}
 use Rattle.datum.specs.declared.Shifted.{Shifted}
 use Rattle.datum.specs.declared.Shifted.the-variants.{On, Outside}
-use Rattle.datum.specs.Calendar.{isLeap, daysInMonth}
+use Rattle.datum.specs.Calendar.{firstYear, lastYear, isLeap, daysInMonth}
 
 abbrev pub ordinalOf : Date → ℕ
 ordinalOf d = d .year * 12 + (d .month - 1)
@@ -19,7 +19,7 @@ ordinalOf d = d .year * 12 + (d .month - 1)
 -- the day in month m of year y
 unfoldable pub inMonth : ℕ → ℕ → ℕ → Shifted
 inMonth y m x =
-    cond (leb 1996 y && leb y 2899)
+    cond (leb firstYear y && leb y lastYear)
     (On (record { year = y; month = m; day = min x (daysInMonth (isLeap y) m) }))
     Outside
 

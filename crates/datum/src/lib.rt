@@ -7,7 +7,7 @@ ghost use Prim.Native.Nat.{_+_, _-_, _*_, _≤_, _<_};
 ghost use lib.IntN.{pos};
 ghost use Rattle.zaehlung.specs.Walk.{last, bit};
 ghost use Rattle.datum.specs.Calendar.{isLeap, yearStart, yearOf, daysInMonth, monthStart, monthOf};
-ghost use Rattle.datum.specs.Calendar.{isDate, daysBefore, indexOf, dateOf, weekday};
+ghost use Rattle.datum.specs.Calendar.{firstYear, lastYear, isDate, daysBefore, indexOf, dateOf, weekday};
 ghost use Rattle.datum.specs.Floor.{floorDiv, floorMod};
 ghost use Rattle.datum.specs.MonthShift.{ordinalOf, inMonth, onMonth, addMonths, subtractMonths};
 
@@ -294,7 +294,7 @@ fn split_months(t: i64) -> YearMonth
 
 /// The day in a month of the calendar; one that the month lacks becomes its last.
 fn in_month(year: u16, month: u8, day: u8) -> Shifted
-    requires { ⌜ (1996 ≤ year) × (year ≤ 2899) × (1 ≤ month) × (month ≤ 12) ⌝ }
+    requires { ⌜ (firstYear ≤ year) × (year ≤ lastYear) × (1 ≤ month) × (month ≤ 12) ⌝ }
     ensures { λ r. ⌜ r ≡ inMonth year month day ⌝ }
 {
     if day <= SHORTEST_MONTH {

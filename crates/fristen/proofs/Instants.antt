@@ -50,7 +50,8 @@ module _ (m : Moment) (p : Proper m) where
       pub later-in : b ≡ true → At sum ≡ instantLater m (d * 86400 + t)
       unfolding instantLater
       later-in y =
-          let a : momentOf (secondsOf m + (d * 86400 + t)) (m .nanos) ≡ sum = rw (← sum-seconds) (seconds-moment sum (omega arith)) in
+          let a : momentOf (secondsOf m + (d * 86400 + t)) (m .nanos) ≡ sum =
+          rw (← sum-seconds) (seconds-moment sum (omega arith)) in
           rw (limits-are true y, a)
 
       pub later-proper : b ≡ true → Proper sum
@@ -65,5 +66,6 @@ module _ (m : Moment) (p : Proper m) where
 pub ruleset later-rules = (days-fit, day-fits, later-in, later-proper, later-out)
 
 -- add_hours
-pub hours-parts : (m : Moment) (n : ℕ) (r : Due) → r ≡ instantLater m (n / 24 * 86400 + n % 24 * 3600) → r ≡ instantLater m (hours n)
+pub hours-parts :
+    (m : Moment) (n : ℕ) (r : Due) → r ≡ instantLater m (n / 24 * 86400 + n % 24 * 3600) → r ≡ instantLater m (hours n)
 hours-parts m n r p = let e : n / 24 * 86400 + n % 24 * 3600 ≡ n * 3600 = omega arith in rw e at p

@@ -81,7 +81,8 @@ step-absent : (s : Step) (f : ℕ → Due) → ((d : ℕ) → s ≡ Day d → f 
 step-absent (Day d) f h e = h d refl e
 step-absent Left f h e = outside-is-not e
 
-cond-absent : (b : Bool) (u v : Due) → (b ≡ true → u ≡ Absent → ⊥) → (b ≡ false → v ≡ Absent → ⊥) → cond b u v ≡ Absent → ⊥
+cond-absent :
+    (b : Bool) (u v : Due) → (b ≡ true → u ≡ Absent → ⊥) → (b ≡ false → v ≡ Absent → ⊥) → cond b u v ≡ Absent → ⊥
 cond-absent true u v f g e = f refl e
 cond-absent false u v f g e = g refl e
 
@@ -89,7 +90,8 @@ pub later-never : (m : Moment) (t : ℕ) → instantLater m t ≡ Absent → ⊥
 unfolding instantLater
 later-never m t e =
     let s = secondsOf m + t in
-    cond-absent (inLimits s) (At (momentOf s (m .nanos))) Outside (λ _. at-is-not (momentOf s (m .nanos))) (λ _. outside-is-not) e
+    cond-absent (inLimits s) (At (momentOf s (m .nanos))) Outside (λ _. at-is-not (momentOf s (m .nanos)))
+    (λ _. outside-is-not) e
 
 tolerated-absent : (u : Due) → (u ≡ Absent → ⊥) → toleratedDue u ≡ Absent → ⊥
 tolerated-absent (At a) h e = at-is-not (formatumstellungToleranz a) e
@@ -126,7 +128,8 @@ strom-never m e =
     cond-absent (isSaturday d)
     (onStep Outside (dayAfter d) (λ y. clockOn y noon))
     (instantLater m aperakStromUtilmdOrders)
-    (λ _. step-absent (dayAfter d) (λ y. clockOn y noon) (λ y q. clock-shown y noon (noon-shown y (after-inside d y q))))
+    (λ _. step-absent (dayAfter d) (λ y. clockOn y noon)
+    (λ y q. clock-shown y noon (noon-shown y (after-inside d y q))))
     (λ _. later-never m aperakStromUtilmdOrders)
     e
 
@@ -147,7 +150,8 @@ pub same-day-never : (w : ℕ → Bool) (m : Moment) → dueAtOf w SameDay m ≡
 unfolding dueAtOf
 same-day-never w m e = at-is-not (endOfDayBerlin (receiptDay m)) e
 
-resolved-absent : (x : Resolved) (f : Moment → Due) → ((a : Moment) → f a ≡ Absent → ⊥) → onResolved Absent x f ≡ Absent → x ≡ Never
+resolved-absent :
+    (x : Resolved) (f : Moment → Due) → ((a : Moment) → f a ≡ Absent → ⊥) → onResolved Absent x f ≡ Absent → x ≡ Never
 resolved-absent (Shown a) f h e = absurd (h a e)
 resolved-absent Never f h e = refl
 
@@ -174,7 +178,8 @@ module _ (w : ℕ → Bool) (shut : (i : ℕ) → weekday i ≡ 6 → w i ≡ fa
   unfolding dueAtOf
   werktag-at-never n c k e = nth-never n c k e
 
-  pub same-day-at-absent : (c : Clock) → ProperClock c → (dueAtOf w (SameDayAt c) m ≡ Absent) ↔ (berlinAt (receiptDay m) c ≡ Never)
+  pub same-day-at-absent :
+      (c : Clock) → ProperClock c → (dueAtOf w (SameDayAt c) m ≡ Absent) ↔ (berlinAt (receiptDay m) c ≡ Never)
   unfolding dueAtOf sameDayAt
   same-day-at-absent c k = (
     λ e.

@@ -69,11 +69,13 @@ module _ (d : ℕ) (a : ContrlAnlass) where
   unfolding contrlSeconds
   regelfall e = rw e
 
-  pub strom-saturday : (b : Bool) → a ≡ StromUtilmdOderOrders → b ≡ isSaturday d → b ≡ true → contrlFrist ≡ contrlSeconds d a
+  pub strom-saturday :
+      (b : Bool) → a ≡ StromUtilmdOderOrders → b ≡ isSaturday d → b ≡ true → contrlFrist ≡ contrlSeconds d a
   unfolding contrlSeconds
   strom-saturday b e p q = rw (e, sym p ∙ q)
 
-  pub strom-other : (b : Bool) → a ≡ StromUtilmdOderOrders → b ≡ isSaturday d → b ≡ false → contrlStromSchnell ≡ contrlSeconds d a
+  pub strom-other :
+      (b : Bool) → a ≡ StromUtilmdOderOrders → b ≡ isSaturday d → b ≡ false → contrlStromSchnell ≡ contrlSeconds d a
   unfolding contrlSeconds
   strom-other b e p q = rw (e, sym p ∙ q)
 
@@ -84,9 +86,11 @@ module _ (d : ℕ) (a : ContrlAnlass) where
 pub ruleset seconds-rules = (regelfall, strom-saturday, strom-other, alocat)
 
 -- contrl_due_at: d is the receipt day, t the seconds, u the due instant before the tolerance
-module _ (m : Moment) (a : ContrlAnlass) (d t : ℕ) (u : Due) (p : d ≡ receiptDay m) (q : t ≡ contrlSeconds d a) (e : u ≡ instantLater m (0 * 86400 + t)) where
+module _ (m : Moment) (a : ContrlAnlass) (d t : ℕ) (u : Due) (p : d ≡ receiptDay m) (q : t ≡ contrlSeconds d a)
+    (e : u ≡ instantLater m (0 * 86400 + t)) where
   contrl-is : u ≡ instantLater m (contrlSeconds (receiptDay m) a)
-  contrl-is = let z : 0 * 86400 + t ≡ t = omega arith in e ∙ ap (instantLater m) (z ∙ q ∙ ap (λ (x : ℕ). contrlSeconds x a) p)
+  contrl-is =
+      let z : 0 * 86400 + t ≡ t = omega arith in e ∙ ap (instantLater m) (z ∙ q ∙ ap (λ (x : ℕ). contrlSeconds x a) p)
 
   pub contrl-at : (x r : Moment) → u ≡ At x → r ≡ formatumstellungToleranz x → At r ≡ contrlDueAt m a
   unfolding contrlDueAt
@@ -152,14 +156,15 @@ module _ (m : Moment) (y a b : ℕ) (k : a ≡ dayOn y 3 31) (l : b ≡ dayOn y 
   unfolding toleranzIn
   spring r t q = rw (← k, ← l, sym u ∙ t) q
 
-  module _ (v w : ℕ) (n : f ≡ false) (i : v ≡ dayOn y 9 30) (j : w ≡ dayOn y 10 2) (g : Bool) (o : g ≡ inWindow v w m) where
-    pub autumn : (r : Moment) → g ≡ true → r ≡ berlinMidnight w → r ≡ toleranzIn y m
-    unfolding toleranzIn
-    autumn r t q = rw (← k, ← l, sym u ∙ n, ← i, ← j, sym o ∙ t) q
+  module _ (v w : ℕ) (n : f ≡ false) (i : v ≡ dayOn y 9 30) (j : w ≡ dayOn y 10 2) (g : Bool) (o : g ≡ inWindow v w m)
+    where
+      pub autumn : (r : Moment) → g ≡ true → r ≡ berlinMidnight w → r ≡ toleranzIn y m
+      unfolding toleranzIn
+      autumn r t q = rw (← k, ← l, sym u ∙ n, ← i, ← j, sym o ∙ t) q
 
-    pub no-window : g ≡ false → m ≡ toleranzIn y m
-    unfolding toleranzIn
-    no-window t = rw (← k, ← l, sym u ∙ n, ← i, ← j, sym o ∙ t)
+      pub no-window : g ≡ false → m ≡ toleranzIn y m
+      unfolding toleranzIn
+      no-window t = rw (← k, ← l, sym u ∙ n, ← i, ← j, sym o ∙ t)
 
 pub ruleset date-rules = (march-31, april-2, september-30, october-2)
 
@@ -188,7 +193,8 @@ module _ (m : Moment) (d : ℕ) (b : Bool) (p : d ≡ receiptDay m) (e : b ≡ i
   unfolding aperakStromDueAt dayAfter
   strom-edge y h = rw (saturday-is ∙ y, ← p, le-ltb d last h)
 
-  pub strom-sunday : (c : Clock) (r : Due) → b ≡ true → d < last → c ≡ noon → r ≡ clockOn (d + 1) c → r ≡ aperakStromDueAt m
+  pub strom-sunday :
+      (c : Clock) (r : Due) → b ≡ true → d < last → c ≡ noon → r ≡ clockOn (d + 1) c → r ≡ aperakStromDueAt m
   unfolding aperakStromDueAt dayAfter
   strom-sunday c r y h u q = rw (saturday-is ∙ y, ← p, lt-ltb d last h, ← add-one d, ← u) q
 
@@ -212,7 +218,9 @@ module _ (pid i : ℕ) (e : any (eqb pid) (drop i gasInitialprozessPids) ≡ isI
   unfolding isInitial
   pid-hit h q = search-hit (eqb pid) gasInitialprozessPids 0 i whole h (eq-eqb pid (getD gasInitialprozessPids i 0) q)
 
-  pub pid-miss : i < 4 → (pid ≡ getD gasInitialprozessPids i 0 → ⊥) → any (eqb pid) (drop (i + 1) gasInitialprozessPids) ≡ isInitial pid
+  pub pid-miss :
+      i < 4 → (pid ≡ getD gasInitialprozessPids i 0 → ⊥) →
+      any (eqb pid) (drop (i + 1) gasInitialprozessPids) ≡ isInitial pid
   unfolding isInitial
   pid-miss h q = search-miss (eqb pid) gasInitialprozessPids 0 i whole h (ne-eqb pid (getD gasInitialprozessPids i 0) q)
 
@@ -221,16 +229,21 @@ module _ (pid i : ℕ) (e : any (eqb pid) (drop i gasInitialprozessPids) ≡ isI
   pid-none h = search-none (eqb pid) gasInitialprozessPids 0 i whole h
 
 -- aperak_strom_allgemein_due_at, aperak_gas_folgeprozess_due_at: c is what `o_clock` returned, r the due instant
-pub at-noon : (w : ℕ → Bool) (m : Moment) (c : Clock) (r : Due) → c ≡ noon → r ≡ nextWerktagAt w m c → r ≡ nextWerktagAt w m noon
+pub at-noon :
+    (w : ℕ → Bool) (m : Moment) (c : Clock) (r : Due) → c ≡ noon → r ≡ nextWerktagAt w m c → r ≡ nextWerktagAt w m noon
 at-noon w m c r u q = rw u at q
 
 -- aperak_gas_due_at: b is what `is_initial` returned, r the due instant
 module _ (w : ℕ → Bool) (pid : ℕ) (m : Moment) (b : Bool) (r : Due) (e : b ≡ isInitial pid) where
-  pub gas-initial : b ≡ true → r ≡ endOfWerktagAfter w m 3 → _≡_ {A = GasDue} (record { initial = true; due = r }) (aperakGasDueAt w pid m)
+  pub gas-initial :
+      b ≡ true → r ≡ endOfWerktagAfter w m 3 →
+      _≡_ {A = GasDue} (record { initial = true; due = r }) (aperakGasDueAt w pid m)
   unfolding aperakGasDueAt
   gas-initial y q = rw (sym e ∙ y, q)
 
-  pub gas-folge : b ≡ false → r ≡ nextWerktagAt w m noon → _≡_ {A = GasDue} (record { initial = false; due = r }) (aperakGasDueAt w pid m)
+  pub gas-folge :
+      b ≡ false → r ≡ nextWerktagAt w m noon →
+      _≡_ {A = GasDue} (record { initial = false; due = r }) (aperakGasDueAt w pid m)
   unfolding aperakGasDueAt
   gas-folge y q = rw (sym e ∙ y, q)
 
@@ -255,7 +268,8 @@ module _ (w : ℕ → Bool) (m : Moment) (n k d : ℕ) (x : Step) (p : d ≡ rec
   unfolding nthWerktagAt
   nth-out c g q = rw (← g, step-is Left q)
 
-  pub nth-day : (c : Clock) (y : ℕ) (r : Due) → k ≡ atLeastOne n → x ≡ Day y → r ≡ clockOn y c → r ≡ nthWerktagAt w m n c
+  pub nth-day :
+      (c : Clock) (y : ℕ) (r : Due) → k ≡ atLeastOne n → x ≡ Day y → r ≡ clockOn y c → r ≡ nthWerktagAt w m n c
   unfolding nthWerktagAt
   nth-day c y r g q l = rw (← g, step-is (Day y) q) l
 
@@ -270,30 +284,31 @@ module _ (w : ℕ → Bool) (m : Moment) (n k d : ℕ) (x : Step) (p : d ≡ rec
 pub ruleset werktag-rules = (reached, nth-out, nth-day, end-out, end-day, end-proper)
 
 -- same_day_at: d is the receipt day, x what `berlin_at` returned, b what `is_werktag` and f what `is_before` returned
-module _ (w : ℕ → Bool) (m : Moment) (c : Clock) (d : ℕ) (x : Resolved) (p : d ≡ receiptDay m) (e : x ≡ berlinAt d c) where
-  shown-is : (y : Resolved) → x ≡ y → berlinAt (receiptDay m) c ≡ y
-  shown-is y q = ap (λ (z : ℕ). berlinAt z c) (sym p) ∙ sym e ∙ q
+module _ (w : ℕ → Bool) (m : Moment) (c : Clock) (d : ℕ) (x : Resolved) (p : d ≡ receiptDay m) (e : x ≡ berlinAt d c)
+  where
+    shown-is : (y : Resolved) → x ≡ y → berlinAt (receiptDay m) c ≡ y
+    shown-is y q = ap (λ (z : ℕ). berlinAt z c) (sym p) ∙ sym e ∙ q
 
-  pub same-absent : x ≡ Never → Absent ≡ sameDayAt w m c
-  unfolding sameDayAt
-  same-absent q = rw (shown-is Never q)
-
-  module _ (a : Moment) (q : x ≡ Shown a) (b : Bool) (k : b ≡ w d) where
-    open-is : (y : Bool) → b ≡ y → w (receiptDay m) ≡ y
-    open-is y z = ap w (sym p) ∙ sym k ∙ z
-
-    pub same-shut : (r : Due) → not b ≡ true → r ≡ nextWerktagAt w m c → r ≡ sameDayAt w m c
+    pub same-absent : x ≡ Never → Absent ≡ sameDayAt w m c
     unfolding sameDayAt
-    same-shut r y g = rw (shown-is (Shown a) q, open-is false (not-true b y)) g
+    same-absent q = rw (shown-is Never q)
 
-    module _ (f : Bool) (y : not b ≡ false) (l : f ≡ isBefore m a) where
-      pub same-day : f ≡ true → At a ≡ sameDayAt w m c
-      unfolding sameDayAt
-      same-day z = rw (shown-is (Shown a) q, open-is true (not-false b y), sym l ∙ z)
+    module _ (a : Moment) (q : x ≡ Shown a) (b : Bool) (k : b ≡ w d) where
+      open-is : (y : Bool) → b ≡ y → w (receiptDay m) ≡ y
+      open-is y z = ap w (sym p) ∙ sym k ∙ z
 
-      pub same-late : (r : Due) → f ≡ false → r ≡ nextWerktagAt w m c → r ≡ sameDayAt w m c
+      pub same-shut : (r : Due) → not b ≡ true → r ≡ nextWerktagAt w m c → r ≡ sameDayAt w m c
       unfolding sameDayAt
-      same-late r z g = rw (shown-is (Shown a) q, open-is true (not-false b y), sym l ∙ z) g
+      same-shut r y g = rw (shown-is (Shown a) q, open-is false (not-true b y)) g
+
+      module _ (f : Bool) (y : not b ≡ false) (l : f ≡ isBefore m a) where
+        pub same-day : f ≡ true → At a ≡ sameDayAt w m c
+        unfolding sameDayAt
+        same-day z = rw (shown-is (Shown a) q, open-is true (not-false b y), sym l ∙ z)
+
+        pub same-late : (r : Due) → f ≡ false → r ≡ nextWerktagAt w m c → r ≡ sameDayAt w m c
+        unfolding sameDayAt
+        same-late r z g = rw (shown-is (Shown a) q, open-is true (not-false b y), sym l ∙ z) g
 
 pub ruleset same-rules = (same-absent, same-shut, same-day, same-late, at-proper, shown-second)
 

@@ -1,6 +1,7 @@
 -- When an answer is due: the shapes of an answer's Frist. m is the instant at which the message was received, w any
 -- test of a day.
---   sameDayAt w m c       = the clock c on the receipt day, if that is a Werktag and the clock is still to come; else on
+--   sameDayAt w m c       = the clock c on the receipt day, if that is a Werktag and the clock is still to come; else
+--                           on
 --                           the first Werktag after it
 --   sameDay m             = the end of the receipt day
 --   dueAtOf w shape m     = when an answer of that shape is due

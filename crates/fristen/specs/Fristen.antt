@@ -1,6 +1,7 @@
 -- When a message is due. m is the instant at which it was received, w any test of a day; for the holiday list's, a day
 -- that passes it is a Werktag.
---   contrlFrist contrlStromSchnell contrlAlocat aperakStromUtilmdOrders = how many seconds after its receipt a message is
+--   contrlFrist contrlStromSchnell contrlAlocat aperakStromUtilmdOrders = how many seconds after its receipt a message
+--                        is
 --                            due
 --   noon windowOpens       = 12:00; 18:00, from which on the tolerance of a Formatumstellung holds
 --   receiptDay m           = the Berlin day of the receipt, the Übertragungstag (ÜT)

@@ -10,6 +10,7 @@ ghost use Rattle.zaehlung.specs.Walk.{last};
 ghost use Rattle.werktag.specs.Werktag.{isWerktag};
 ghost use Rattle.berlin.specs.Berlin.{daySeconds};
 ghost use Rattle.berlin.specs.Inside.{Proper, ProperClock};
+ghost use Rattle.datum.specs.Calendar.{firstYear, lastYear};
 ghost use Rattle.fristen.specs.Fristen.{instantLater, clockOn, isSaturday, contrlSeconds, contrlDueAt, inWindow};
 ghost use Rattle.fristen.specs.Fristen.{toleranzIn, formatumstellungToleranz, aperakStromDueAt};
 ghost use Rattle.fristen.specs.Fristen.{aperakStromAllgemeinDueAt, aperakGasFolgeprozessDueAt};
@@ -150,7 +151,7 @@ fn in_window(at: Moment, von: u32, bis: u32) -> bool
 
 /// The tolerance in a year.
 fn toleranz_in(year: u16, due: Moment) -> Moment
-    requires { ⌜ Proper due × (1996 ≤ year) × (year ≤ 2899) ⌝ }
+    requires { ⌜ Proper due × (firstYear ≤ year) × (year ≤ lastYear) ⌝ }
     ensures { λ r. ⌜ (r ≡ toleranzIn year due) × Proper r ⌝ }
 {
     let march = datum::days_before(Date {

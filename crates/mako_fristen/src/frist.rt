@@ -2,7 +2,7 @@
 ghost use mathlib.Core.Path.{_≡_};
 ghost use Rattle.werktag.specs.declared.HolidayCalendar.the-variants.{BdewMaKo};
 ghost use Rattle.werktag.specs.Werktag.{isWerktag};
-ghost use Rattle.antwortsatz.specs.Bytes.{repliedTo};
+ghost use Rattle.antwortsatz.specs.Bytes.{reply};
 ghost use Rattle.berlin.specs.Berlin.{readInstant, readClock};
 ghost use Rattle.antworten_frist.specs.Frist.{contrlDueAtAnswer, aperakStromDueAtAnswer};
 ghost use Rattle.antworten_frist.specs.Frist.{aperakStromAllgemeinDueAtAnswer, aperakGasFolgeprozessDueAtAnswer};
@@ -18,7 +18,7 @@ use werktag::HolidayCalendar;
 #[no_mangle]
 pub extern "C" fn mf_contrl_due_at(seconds: i64, nanos: u32, anlass: u8, answer: &mut [u8]) -> u8
     ensures { λ r. ⌜
-        (r, now (answer .exit)) ≡ repliedTo (now (answer .entry))
+        (r, now (answer .exit)) ≡ reply (now (answer .entry))
         (contrlDueAtAnswer (readInstant seconds nanos) anlass)
         ⌝ }
 {
@@ -33,7 +33,7 @@ pub extern "C" fn mf_contrl_due_at(seconds: i64, nanos: u32, anlass: u8, answer:
 #[no_mangle]
 pub extern "C" fn mf_aperak_strom_due_at(seconds: i64, nanos: u32, answer: &mut [u8]) -> u8
     ensures { λ r. ⌜
-        (r, now (answer .exit)) ≡ repliedTo (now (answer .entry))
+        (r, now (answer .exit)) ≡ reply (now (answer .entry))
         (aperakStromDueAtAnswer (readInstant seconds nanos))
         ⌝ }
 {
@@ -51,7 +51,7 @@ pub extern "C" fn mf_aperak_strom_allgemein_due_at(
     answer: &mut [u8],
 ) -> u8
     ensures { λ r. ⌜
-        (r, now (answer .exit)) ≡ repliedTo (now (answer .entry))
+        (r, now (answer .exit)) ≡ reply (now (answer .entry))
         (aperakStromAllgemeinDueAtAnswer (isWerktag BdewMaKo) (readInstant seconds nanos))
         ⌝ }
 {
@@ -72,7 +72,7 @@ pub extern "C" fn mf_aperak_gas_folgeprozess_due_at(
     answer: &mut [u8],
 ) -> u8
     ensures { λ r. ⌜
-        (r, now (answer .exit)) ≡ repliedTo (now (answer .entry))
+        (r, now (answer .exit)) ≡ reply (now (answer .entry))
         (aperakGasFolgeprozessDueAtAnswer (isWerktag BdewMaKo) (readInstant seconds nanos))
         ⌝ }
 {
@@ -93,7 +93,7 @@ pub extern "C" fn mf_aperak_gas_initialprozess_due_at(
     answer: &mut [u8],
 ) -> u8
     ensures { λ r. ⌜
-        (r, now (answer .exit)) ≡ repliedTo (now (answer .entry))
+        (r, now (answer .exit)) ≡ reply (now (answer .entry))
         (aperakGasInitialprozessDueAtAnswer (isWerktag BdewMaKo) (readInstant seconds nanos))
         ⌝ }
 {
@@ -110,7 +110,7 @@ pub extern "C" fn mf_aperak_gas_initialprozess_due_at(
 #[no_mangle]
 pub extern "C" fn mf_aperak_gas_due_at(pid: u32, seconds: i64, nanos: u32, answer: &mut [u8]) -> u8
     ensures { λ r. ⌜
-        (r, now (answer .exit)) ≡ repliedTo (now (answer .entry))
+        (r, now (answer .exit)) ≡ reply (now (answer .entry))
         (aperakGasDueAtAnswer (isWerktag BdewMaKo) pid (readInstant seconds nanos))
         ⌝ }
 {
@@ -124,7 +124,7 @@ pub extern "C" fn mf_aperak_gas_due_at(pid: u32, seconds: i64, nanos: u32, answe
 #[no_mangle]
 pub extern "C" fn mf_add_hours(seconds: i64, nanos: u32, hours: u32, answer: &mut [u8]) -> u8
     ensures { λ r. ⌜
-        (r, now (answer .exit)) ≡ repliedTo (now (answer .entry))
+        (r, now (answer .exit)) ≡ reply (now (answer .entry))
         (addHoursAnswer (readInstant seconds nanos) hours)
         ⌝ }
 {
@@ -143,7 +143,7 @@ pub extern "C" fn mf_deadline_at_werktage(
     answer: &mut [u8],
 ) -> u8
     ensures { λ r. ⌜
-        (r, now (answer .exit)) ≡ repliedTo (now (answer .entry))
+        (r, now (answer .exit)) ≡ reply (now (answer .entry))
         (deadlineAtWerktageAnswer (isWerktag BdewMaKo) (readInstant seconds nanos) werktage)
         ⌝ }
 {
@@ -166,7 +166,7 @@ pub extern "C" fn mf_end_of_werktag_after(
     answer: &mut [u8],
 ) -> u8
     ensures { λ r. ⌜
-        (r, now (answer .exit)) ≡ repliedTo (now (answer .entry))
+        (r, now (answer .exit)) ≡ reply (now (answer .entry))
         (endOfWerktagAfterAnswer (isWerktag BdewMaKo) (readInstant seconds nanos) werktage)
         ⌝ }
 {
@@ -192,7 +192,7 @@ pub extern "C" fn mf_next_werktag_at(
     answer: &mut [u8],
 ) -> u8
     ensures { λ r. ⌜
-        (r, now (answer .exit)) ≡ repliedTo (now (answer .entry))
+        (r, now (answer .exit)) ≡ reply (now (answer .entry))
         (nextWerktagAtAnswer (isWerktag BdewMaKo) (readInstant seconds nanos)
         (readClock hour minute second «nanos_of_second»))
         ⌝ }
@@ -216,7 +216,7 @@ pub extern "C" fn mf_nth_werktag_at(
     answer: &mut [u8],
 ) -> u8
     ensures { λ r. ⌜
-        (r, now (answer .exit)) ≡ repliedTo (now (answer .entry))
+        (r, now (answer .exit)) ≡ reply (now (answer .entry))
         (nthWerktagAtAnswer (isWerktag BdewMaKo) (readInstant seconds nanos) n
         (readClock hour minute second «nanos_of_second»))
         ⌝ }
@@ -242,7 +242,7 @@ pub extern "C" fn mf_frist_due_at(
     answer: &mut [u8],
 ) -> u8
     ensures { λ r. ⌜
-        (r, now (answer .exit)) ≡ repliedTo (now (answer .entry))
+        (r, now (answer .exit)) ≡ reply (now (answer .entry))
         (fristDueAtAnswer (isWerktag BdewMaKo) shape werktage (readClock hour minute second «nanos_of_second»)
         (readInstant seconds nanos))
         ⌝ }

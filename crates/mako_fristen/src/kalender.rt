@@ -2,7 +2,7 @@
 ghost use mathlib.Core.Path.{_≡_};
 ghost use Rattle.werktag.specs.declared.HolidayCalendar.the-variants.{BdewMaKo};
 ghost use Rattle.werktag.specs.Werktag.{isWerktag};
-ghost use Rattle.antwortsatz.specs.Bytes.{repliedTo};
+ghost use Rattle.antwortsatz.specs.Bytes.{reply};
 ghost use Rattle.antworten.specs.Reading.{dateFrom};
 ghost use Rattle.antworten.specs.Kalender.{isWerktagAnswer, nextWerktagAnswer, addWerktageAnswer, subWerktageAnswer};
 ghost use Rattle.antworten.specs.Kalender.{werktageBetweenAnswer, addMonthsAnswer, subtractMonthsAnswer};
@@ -14,7 +14,7 @@ use werktag::HolidayCalendar;
 #[no_mangle]
 pub extern "C" fn mf_is_werktag(year: u16, month: u8, day: u8, answer: &mut [u8]) -> u8
     ensures { λ r. ⌜
-        (r, now (answer .exit)) ≡ repliedTo (now (answer .entry))
+        (r, now (answer .exit)) ≡ reply (now (answer .entry))
         (isWerktagAnswer (isWerktag BdewMaKo) (dateFrom year month day))
         ⌝ }
 {
@@ -28,7 +28,7 @@ pub extern "C" fn mf_is_werktag(year: u16, month: u8, day: u8, answer: &mut [u8]
 #[no_mangle]
 pub extern "C" fn mf_next_werktag(year: u16, month: u8, day: u8, answer: &mut [u8]) -> u8
     ensures { λ r. ⌜
-        (r, now (answer .exit)) ≡ repliedTo (now (answer .entry))
+        (r, now (answer .exit)) ≡ reply (now (answer .entry))
         (nextWerktagAnswer (isWerktag BdewMaKo) (dateFrom year month day))
         ⌝ }
 {
@@ -42,7 +42,7 @@ pub extern "C" fn mf_next_werktag(year: u16, month: u8, day: u8, answer: &mut [u
 #[no_mangle]
 pub extern "C" fn mf_add_werktage(year: u16, month: u8, day: u8, n: u32, answer: &mut [u8]) -> u8
     ensures { λ r. ⌜
-        (r, now (answer .exit)) ≡ repliedTo (now (answer .entry))
+        (r, now (answer .exit)) ≡ reply (now (answer .entry))
         (addWerktageAnswer (isWerktag BdewMaKo) (dateFrom year month day) n)
         ⌝ }
 {
@@ -55,7 +55,7 @@ pub extern "C" fn mf_add_werktage(year: u16, month: u8, day: u8, n: u32, answer:
 #[no_mangle]
 pub extern "C" fn mf_sub_werktage(year: u16, month: u8, day: u8, n: u32, answer: &mut [u8]) -> u8
     ensures { λ r. ⌜
-        (r, now (answer .exit)) ≡ repliedTo (now (answer .entry))
+        (r, now (answer .exit)) ≡ reply (now (answer .entry))
         (subWerktageAnswer (isWerktag BdewMaKo) (dateFrom year month day) n)
         ⌝ }
 {
@@ -77,7 +77,7 @@ pub extern "C" fn mf_werktage_between(
     answer: &mut [u8],
 ) -> u8
     ensures { λ r. ⌜
-        (r, now (answer .exit)) ≡ repliedTo (now (answer .entry))
+        (r, now (answer .exit)) ≡ reply (now (answer .entry))
         (werktageBetweenAnswer (isWerktag BdewMaKo) (dateFrom year month day) (dateFrom year2 month2 day2))
         ⌝ }
 {
@@ -96,7 +96,7 @@ pub extern "C" fn mf_werktage_between(
 #[no_mangle]
 pub extern "C" fn mf_add_months(year: u16, month: u8, day: u8, n: u32, answer: &mut [u8]) -> u8
     ensures { λ r. ⌜
-        (r, now (answer .exit)) ≡ repliedTo (now (answer .entry))
+        (r, now (answer .exit)) ≡ reply (now (answer .entry))
         (addMonthsAnswer (dateFrom year month day) n)
         ⌝ }
 {
@@ -110,7 +110,7 @@ pub extern "C" fn mf_add_months(year: u16, month: u8, day: u8, n: u32, answer: &
 #[no_mangle]
 pub extern "C" fn mf_subtract_months(year: u16, month: u8, day: u8, n: u32, answer: &mut [u8]) -> u8
     ensures { λ r. ⌜
-        (r, now (answer .exit)) ≡ repliedTo (now (answer .entry))
+        (r, now (answer .exit)) ≡ reply (now (answer .entry))
         (subtractMonthsAnswer (dateFrom year month day) n)
         ⌝ }
 {

@@ -1,6 +1,6 @@
 // Clock on a date (document 01, refusals 3, 5, 6) and day of an instant (4, 7).
 ghost use mathlib.Core.Path.{_≡_};
-ghost use Rattle.antwortsatz.specs.Bytes.{repliedTo};
+ghost use Rattle.antwortsatz.specs.Bytes.{reply};
 ghost use Rattle.berlin.specs.Berlin.{readInstant, readClock};
 ghost use Rattle.antworten.specs.Reading.{dateFrom};
 ghost use Rattle.antworten.specs.Uhrzeit.{berlinAtAnswer, berlinMidnightAnswer, endOfDayBerlinAnswer};
@@ -21,7 +21,7 @@ pub extern "C" fn mf_berlin_at(
     answer: &mut [u8],
 ) -> u8
     ensures { λ r. ⌜
-        (r, now (answer .exit)) ≡ repliedTo (now (answer .entry))
+        (r, now (answer .exit)) ≡ reply (now (answer .entry))
         (berlinAtAnswer (dateFrom year month day) (readClock hour minute second «nanos_of_second»))
         ⌝ }
 {
@@ -35,7 +35,7 @@ pub extern "C" fn mf_berlin_at(
 #[no_mangle]
 pub extern "C" fn mf_berlin_midnight(year: u16, month: u8, day: u8, answer: &mut [u8]) -> u8
     ensures { λ r. ⌜
-        (r, now (answer .exit)) ≡ repliedTo (now (answer .entry))
+        (r, now (answer .exit)) ≡ reply (now (answer .entry))
         (berlinMidnightAnswer (dateFrom year month day))
         ⌝ }
 {
@@ -48,7 +48,7 @@ pub extern "C" fn mf_berlin_midnight(year: u16, month: u8, day: u8, answer: &mut
 #[no_mangle]
 pub extern "C" fn mf_end_of_day_berlin(year: u16, month: u8, day: u8, answer: &mut [u8]) -> u8
     ensures { λ r. ⌜
-        (r, now (answer .exit)) ≡ repliedTo (now (answer .entry))
+        (r, now (answer .exit)) ≡ reply (now (answer .entry))
         (endOfDayBerlinAnswer (dateFrom year month day))
         ⌝ }
 {
@@ -68,7 +68,7 @@ pub extern "C" fn mf_tagesbeginn_utc(
     answer: &mut [u8],
 ) -> u8
     ensures { λ r. ⌜
-        (r, now (answer .exit)) ≡ repliedTo (now (answer .entry))
+        (r, now (answer .exit)) ≡ reply (now (answer .entry))
         (tagesbeginnUtcAnswer (dateFrom year month day) sparte)
         ⌝ }
 {
@@ -81,7 +81,7 @@ pub extern "C" fn mf_tagesbeginn_utc(
 #[no_mangle]
 pub extern "C" fn mf_berlin_date(seconds: i64, nanos: u32, answer: &mut [u8]) -> u8
     ensures { λ r. ⌜
-        (r, now (answer .exit)) ≡ repliedTo (now (answer .entry))
+        (r, now (answer .exit)) ≡ reply (now (answer .entry))
         (berlinDateAnswer (readInstant seconds nanos))
         ⌝ }
 {
@@ -95,7 +95,7 @@ pub extern "C" fn mf_berlin_date(seconds: i64, nanos: u32, answer: &mut [u8]) ->
 #[no_mangle]
 pub extern "C" fn mf_tag_des_beginns(seconds: i64, nanos: u32, sparte: u8, answer: &mut [u8]) -> u8
     ensures { λ r. ⌜
-        (r, now (answer .exit)) ≡ repliedTo (now (answer .entry))
+        (r, now (answer .exit)) ≡ reply (now (answer .entry))
         (tagDesBeginnsAnswer (readInstant seconds nanos) sparte)
         ⌝ }
 {

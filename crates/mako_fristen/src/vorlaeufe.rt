@@ -2,7 +2,7 @@
 ghost use mathlib.Core.Path.{_≡_};
 ghost use Rattle.werktag.specs.declared.HolidayCalendar.the-variants.{BdewMaKo};
 ghost use Rattle.werktag.specs.Werktag.{isWerktag};
-ghost use Rattle.antwortsatz.specs.Bytes.{repliedTo};
+ghost use Rattle.antwortsatz.specs.Bytes.{reply};
 ghost use Rattle.berlin.specs.Berlin.{readInstant};
 ghost use Rattle.antworten.specs.Reading.{dateFrom};
 ghost use Rattle.antworten_vorlauf.specs.Vorlauf.{vorlaufCheckAnswer, vorlaufCheckAtAnswer, vorlaufSpanAnswer};
@@ -28,7 +28,7 @@ pub extern "C" fn mf_vorlauf_check(
     answer: &mut [u8],
 ) -> u8
     ensures { λ r. ⌜
-        (r, now (answer .exit)) ≡ repliedTo (now (answer .entry))
+        (r, now (answer .exit)) ≡ reply (now (answer .entry))
         (vorlaufCheckAnswer (isWerktag BdewMaKo) shape count count2 (dateFrom year month day)
         (dateFrom year2 month2 day2))
         ⌝ }
@@ -66,7 +66,7 @@ pub extern "C" fn mf_vorlauf_check_at(
     answer: &mut [u8],
 ) -> u8
     ensures { λ r. ⌜
-        (r, now (answer .exit)) ≡ repliedTo (now (answer .entry))
+        (r, now (answer .exit)) ≡ reply (now (answer .entry))
         (vorlaufCheckAtAnswer (isWerktag BdewMaKo) shape count count2 sparte (readInstant seconds nanos)
         (readInstant seconds2 nanos2))
         ⌝ }
@@ -98,7 +98,7 @@ pub extern "C" fn mf_vorlauf_span(
     answer: &mut [u8],
 ) -> u8
     ensures { λ r. ⌜
-        (r, now (answer .exit)) ≡ repliedTo (now (answer .entry))
+        (r, now (answer .exit)) ≡ reply (now (answer .entry))
         (vorlaufSpanAnswer (isWerktag BdewMaKo) shape count count2 (dateFrom year month day))
         ⌝ }
 {
@@ -118,7 +118,7 @@ pub extern "C" fn mf_vorlauf_span(
 #[no_mangle]
 pub extern "C" fn mf_abmeldung_fuer(reason: &[u8], eeg: u8, answer: &mut [u8]) -> u8
     ensures { λ r. ⌜
-        (r, now (answer .exit)) ≡ repliedTo (now (answer .entry))
+        (r, now (answer .exit)) ≡ reply (now (answer .entry))
         (abmeldungFuerAnswer (now (reason .entry)) eeg)
         ⌝ }
 {
@@ -141,7 +141,7 @@ pub extern "C" fn mf_abmeldung_check(
     answer: &mut [u8],
 ) -> u8
     ensures { λ r. ⌜
-        (r, now (answer .exit)) ≡ repliedTo (now (answer .entry))
+        (r, now (answer .exit)) ≡ reply (now (answer .entry))
         (abmeldungCheckAnswer (isWerktag BdewMaKo) (now (reason .entry)) eeg (dateFrom year month day)
         (dateFrom year2 month2 day2))
         ⌝ }
@@ -174,7 +174,7 @@ pub extern "C" fn mf_eog_ankuendigung_fristgerecht(
     answer: &mut [u8],
 ) -> u8
     ensures { λ r. ⌜
-        (r, now (answer .exit)) ≡ repliedTo (now (answer .entry))
+        (r, now (answer .exit)) ≡ reply (now (answer .entry))
         (eogAnkuendigungFristgerechtAnswer (isWerktag BdewMaKo) (readInstant seconds nanos) (dateFrom year month day))
         ⌝ }
 {

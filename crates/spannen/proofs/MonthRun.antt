@@ -46,14 +46,27 @@ year-run : (y j : ℕ) → j ≤ 12 → start monthDays (y * 12 + j) ≡ start m
 year-run y zero h = rw add-zero (omega (arith, month-first (isLeap y)))
 year-run y (suc j) h =
     rw add-suc
-    (omega (arith, year-run y j (omega arith), start-suc monthDays (y * 12 + j), start-suc (daysInMonth (isLeap y)) (suc j), month-at y j (omega arith)))
+    (omega (
+      arith,
+      year-run y j (omega arith),
+      start-suc monthDays (y * 12 + j),
+      start-suc (daysInMonth (isLeap y)) (suc j),
+      month-at y j (omega arith),
+    ))
 
 years-run : (k : ℕ) → start monthDays ((1996 + k) * 12) ≡ origin + yearStart k
 years-run zero = omega (arith, start-none)
 years-run (suc k) =
     let e : (1996 + suc k) * 12 ≡ (1996 + k) * 12 + 12 = omega arith in
     rw e
-    (omega (arith, years-run k, year-run (1996 + k) 12 (omega arith), months-sum (isLeap (1996 + k)), start-suc yearLen k, yearLen-at (1996 + k) k refl))
+    (omega (
+      arith,
+      years-run k,
+      year-run (1996 + k) 12 (omega arith),
+      months-sum (isLeap (1996 + k)),
+      start-suc yearLen k,
+      yearLen-at (1996 + k) k refl,
+    ))
 
 pub date-run :
     (d : Date) → 1996 ≤ d .year → 1 ≤ d .month → d .month ≤ 12 →
@@ -69,14 +82,18 @@ date-run d h g k =
 -- a day of the calendar: its month has the day
 pub day-run :
     (i : ℕ) → i ≤ last →
-    (i + origin ≡ start monthDays (ordinalOf (dateOf i)) + (dateOf i .day - 1)) × (1 ≤ dateOf i .day) × (dateOf i .day ≤ monthDays (ordinalOf (dateOf i)))
+    (i + origin ≡ start monthDays (ordinalOf (dateOf i)) + (dateOf i .day - 1)) × (1 ≤ dateOf i .day) ×
+    (dateOf i .day ≤ monthDays (ordinalOf (dateOf i)))
 day-run i h =
     let v = index-date i h in
     let d : Date = dateOf i in
     let m = month-at (d .year) (d .month - 1) (omega (arith, v .0 .month-to, v .0 .month-from)) in
     let q : suc (d .month - 1) ≡ d .month = omega (arith, v .0 .month-from) in
-    let b = ap (daysInMonth (isLeap (d .year))) q in
-    (omega (arith, date-run d (v .0 .from) (v .0 .month-from) (v .0 .month-to)), v .0 .day-from, omega (arith, v .0 .day-to))
+    let b = ap (daysInMonth (isLeap (d .year))) q in (
+      omega (arith, date-run d (v .0 .from) (v .0 .month-from) (v .0 .month-to)),
+      v .0 .day-from,
+      omega (arith, v .0 .day-to),
+    )
 
 -- day x of the month numbered t
 on-date :

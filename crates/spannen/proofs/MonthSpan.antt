@@ -33,18 +33,22 @@ module _ (len : ℕ → ℕ) where
     -- the same: the days decide, and a day that block t has is not cut
     level :
         t + n ≡ a →
-        (start len t ≡ start len (a - n)) × (len t ≡ len (a - n)) × (start len (t + n) ≡ start len a) × (len (t + n) ≡ len a)
+        (start len t ≡ start len (a - n)) × (len t ≡ len (a - n)) × (start len (t + n) ≡ start len a) ×
+        (len (t + n) ≡ len a)
     level q =
         let u : t ≡ a - n = omega arith in
         (ap (start len) u, ap len u, ap (start len) q, ap len q)
 
     cases : {A : Type 0} → (t + n < a → A) → (t + n ≡ a → A) → (a < t + n → A) → A
-    cases f g h = elim (decLt (t + n) a) [ yes l ↦ f l | no l ↦ elim (decLt a (t + n)) [ yes m ↦ h m | no m ↦ g (omega arith) ] ]
+    cases f g h =
+        elim (decLt (t + n) a) [ yes l ↦ f l | no l ↦ elim (decLt a (t + n)) [ yes m ↦ h m | no m ↦ g (omega arith) ] ]
 
     pub kept : d < len (t + n) → (start len t + d ≤ backDay a e n) ↔ (start len (t + n) + d ≤ start len a + e)
     kept h = (
-      λ p. cases (λ l. omega (arith, earlier (t + n) a d e h l)) (λ q. omega (arith, level q)) (λ m. absurd (omega (arith, late m))),
-      λ p. cases (λ l. omega (arith, early l)) (λ q. omega (arith, level q)) (λ m. absurd (omega (arith, earlier a (t + n) e d he m))),
+      λ p. cases (λ l. omega (arith, earlier (t + n) a d e h l)) (λ q. omega (arith, level q))
+          (λ m. absurd (omega (arith, late m))),
+      λ p. cases (λ l. omega (arith, early l)) (λ q. omega (arith, level q))
+          (λ m. absurd (omega (arith, earlier a (t + n) e d he m))),
     )
 
     pub cut : len (t + n) ≤ d → (start len t + d ≤ backDay a e n) ↔ (start len (suc (t + n)) ≤ start len a + e)

@@ -45,7 +45,8 @@ first-least Outside f a b i = absurd i
 from-first :
     (s : Step) (f : ℕ) → ((d : ℕ) → s ≡ Day d → d ≤ last) → begins (spanFrom s) f → liesIn (spanFrom s) f × (f ≤ last)
 from-first s f g =
-    from-cases (λ p. begins p f → liesIn p f × (f ≤ last)) s (λ b. absurd b) (λ d q b. (omega arith, omega (arith, g d q)))
+    from-cases (λ p. begins p f → liesIn p f × (f ≤ last)) s (λ b. absurd b)
+    (λ d q b. (omega arith, omega (arith, g d q)))
 
 both-first :
     (s u : Step) (f : ℕ) → ((d : ℕ) → s ≡ Day d → d ≤ last) → begins (spanBetween s u) f →
@@ -61,7 +62,8 @@ module _ (w : ℕ → Bool) (t : ℕ) (ht : t ≤ last) where
   first-lies : (f : ℕ) (s : VorlaufShape) → begins (spanOf w s t) f → liesIn (spanOf w s t) f × (f ≤ last)
   unfolding spanOf
   first-lies f (LatestWerktageBefore n) = from-first (W w t n) f (λ d. W-inside w t n d ht)
-  first-lies f (WindowWerktageBefore earliest latest) = both-first (W w t latest) (add w t earliest) f (λ d. W-inside w t latest d ht)
+  first-lies f (WindowWerktageBefore earliest latest) =
+      both-first (W w t latest) (add w t earliest) f (λ d. W-inside w t latest d ht)
   first-lies f (LatestWerktageAfter n) = from-first (sub w t n) f (λ d. sub-inside w t n d ht)
   first-lies f (EarliestWerktageAfter n) = from-first (add w t n) f (λ d. add-inside w t n d ht)
   first-lies f (Korridor n) = both-first (sub w t n) (add w t n) f (λ d. sub-inside w t n d ht)
@@ -81,7 +83,8 @@ module _ (w : ℕ → Bool) (t : ℕ) (ht : t ≤ last) where
   accepted-lies s a ha h p = shape-spans w t ht a ha s h (λ q. let z : _≡_ {A = ℕ} 0 1 = cc in omega arith) .0 p
 
   pub accepted-least : (s : VorlaufShape) (f a : ℕ) → a ≤ last → begins (spanOf w s t) f → checkOf w s t a ≡ Ok → f ≤ a
-  accepted-least s f a ha b p = first-least (spanOf w s t) f a b (accepted-lies s a ha (begins-inside (spanOf w s t) f b) p)
+  accepted-least s f a ha b p =
+      first-least (spanOf w s t) f a b (accepted-lies s a ha (begins-inside (spanOf w s t) f b) p)
 
   pub first-accepted :
       (s : VorlaufShape) (f : ℕ) → begins (spanOf w s t) f → checkOf w s t f ≢ Refused → checkOf w s t f ≡ Ok

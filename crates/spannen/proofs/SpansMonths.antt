@@ -90,11 +90,13 @@ month-iff t a n x f h g p q =
     let m = month-has (monthAt a - n) in
     by-day n t
     (λ l.
-    let k = kept monthDays (monthAt t) (dayAt t) (monthAt a) (dayAt a) n (omega arith) (omega arith) (e .0) m (omega arith) in
+    let k = kept monthDays (monthAt t) (dayAt t) (monthAt a) (dayAt a) n (omega arith) (omega arith) (e .0) m
+    (omega arith) in
     let u = later-run t n f (sym (M-kept n t l) ∙ q) in
     (λ y. omega (arith, k .0 (omega arith)), λ y. omega (arith, k .1 (omega arith))))
     (λ l.
-    let k = cut monthDays (monthAt t) (dayAt t) (monthAt a) (dayAt a) n (omega arith) (omega arith) (e .0) m (omega arith) in
+    let k = cut monthDays (monthAt t) (dayAt t) (monthAt a) (dayAt a) n (omega arith) (omega arith) (e .0) m
+    (omega arith) in
     let u = cut-run n t f l q in
     (λ y. omega (arith, k .0 (omega arith)), λ y. omega (arith, k .1 (omega arith))))
 

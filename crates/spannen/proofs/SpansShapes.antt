@@ -91,7 +91,8 @@ module _ (w : ℕ → Bool) (t : ℕ) (ht : t ≤ last) (a : ℕ) (ha : a ≤ la
 
   month-werktag-spans :
       (monate werktage : ℕ) →
-      Spans (spanOf w (LatestMonateUndWerktageBefore monate werktage) t) (checkOf w (LatestMonateUndWerktageBefore monate werktage) t a) a
+      Spans (spanOf w (LatestMonateUndWerktageBefore monate werktage) t)
+      (checkOf w (LatestMonateUndWerktageBefore monate werktage) t a) a
   unfolding spanOf checkOf closes reaches
   month-werktag-spans monate werktage =
       from-spans (onStep Left (W w t werktage) (M monate)) _ a (λ f q.

@@ -71,7 +71,13 @@ module _ (w : ℕ → Bool) where
       from m =
           order t e (λ y. y) (λ y.
           let o = count-open w f (d .is-open (omega (arith, r .after))) in
-          absurd (omega (arith, d .counted, r .counted, count-mono w (suc f) (suc a) (omega arith), count-mono w (suc e) t y)))
+          absurd (omega (
+            arith,
+            d .counted,
+            r .counted,
+            count-mono w (suc f) (suc a) (omega arith),
+            count-mono w (suc e) t y,
+          )))
 
   pub add-mono : (d e n x y : ℕ) → e ≤ last → d ≤ e → add w d n ≡ Day x → add w e n ≡ Day y → x ≤ y
   add-mono d e n x y h m p q =
@@ -108,7 +114,11 @@ module _ (w : ℕ → Bool) where
       let x = count-open w e (down-open a 1 e (omega arith) d .1) in
       let y = count-open w f (up-open t 1 f (omega arith) r .1) in (
         λ m. count-back w f a (omega (arith, d .counted, r .counted, count-mono w (suc t) e m)),
-        λ m. omega (arith, count-back w (suc t) (suc e) (omega (arith, d .counted, r .counted, count-mono w (suc f) a m))),
+        λ m. omega (
+          arith,
+          count-back w (suc t) (suc e)
+              (omega (arith, d .counted, r .counted, count-mono w (suc f) a m)),
+        ),
       )
 
   -- a day that adds one to the count is open
@@ -141,7 +151,11 @@ module _ (w : ℕ → Bool) where
       from : (n ≡ 0) ⊎ ((w t ≡ true) × (w f ≡ true)) → f ≡ y
       from (inl z) = let s = W-none w t in let v = add-none w t in cc
       from (inr o) =
-          let b : w y ≡ true = elim (decLt t y) [ yes l ↦ u .is-open l | no l ↦ let e : y ≡ t = omega (arith, u .after) in rw e (o .0) ] in
+          let b : w y ≡ true = elim (decLt t y) [
+            | yes l ↦ u .is-open l
+            | no l ↦ let e : y ≡
+                t = omega (arith, u .after) in rw e (o .0)
+          ] in
           count-same w f y (o .1) b
           (omega (arith, r .counted, u .counted, count-open w t (o .0), count-open w f (o .1), count-open w y b))
 

@@ -48,7 +48,8 @@ same-at :
     sameBytes (drop i a) (drop i b) ≡ (t && sameBytes (drop (i + 1) a) (drop (i + 1) b))
 same-at a b i t e h q =
     let g : i < length a = omega arith in
-    rw (drop-cons a i 0 g, drop-cons b i 0 h, add-one) (same-cons (getD a i 0) (getD b i 0) (drop (suc i) a) (drop (suc i) b) t q)
+    rw (drop-cons a i 0 g, drop-cons b i 0 h, add-one)
+    (same-cons (getD a i 0) (getD b i 0) (drop (suc i) a) (drop (suc i) b) t q)
 
 pub bytes-differ :
     (x : Bool) (a b : List ℕ) (i : ℕ) →

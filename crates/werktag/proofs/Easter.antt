@@ -52,7 +52,8 @@ unfolding daysInMonth
 days l = (refl, refl)
 
 -- the date with n from 114 to 149
-dated : (y x : ℕ) → 1996 ≤ y → y ≤ 2899 → 114 ≤ x → x ≤ 149 → Valid (record { year = y; month = x / 31; day = x % 31 + 1 })
+dated :
+    (y x : ℕ) → 1996 ≤ y → y ≤ 2899 → 114 ≤ x → x ≤ 149 → Valid (record { year = y; month = x / 31; day = x % 31 + 1 })
 dated y x a b p q = go (x / 31) refl
   where
     go : (m : ℕ) → x / 31 ≡ m → Valid (record { year = y; month = x / 31; day = x % 31 + 1 })
@@ -61,10 +62,24 @@ dated y x a b p q = go (x / 31) refl
     go (suc (suc zero)) e = absurd (omega arith)
     go (suc (suc (suc zero))) e =
         let k = ap (daysInMonth (isLeap y)) e in
-        record { from = a; to = b; month-from = omega arith; month-to = omega arith; day-from = omega arith; day-to = omega (arith, days (isLeap y)) }
+        record {
+          from = a;
+          to = b;
+          month-from = omega arith;
+          month-to = omega arith;
+          day-from = omega arith;
+          day-to = omega (arith, days (isLeap y));
+        }
     go (suc (suc (suc (suc zero)))) e =
         let k = ap (daysInMonth (isLeap y)) e in
-        record { from = a; to = b; month-from = omega arith; month-to = omega arith; day-from = omega arith; day-to = omega (arith, days (isLeap y)) }
+        record {
+          from = a;
+          to = b;
+          month-from = omega arith;
+          month-to = omega arith;
+          day-from = omega arith;
+          day-to = omega (arith, days (isLeap y));
+        }
     go (suc (suc (suc (suc (suc m))))) e = absurd (omega arith)
 
 pub easter-valid : (y : ℕ) (d : Date) → 1996 ≤ y → y ≤ 2899 → d ≡ easterSunday y → isDate d ≡ true

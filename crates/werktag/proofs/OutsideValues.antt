@@ -20,7 +20,8 @@ abbrev on : ℕ → ℕ → ℕ → Date
 on y m d = record { year = y; month = m; day = d }
 
 pub easters :
-    easterSunday 1996 ∷ easterSunday 2000 ∷ easterSunday 2008 ∷ easterSunday 2019 ∷ easterSunday 2026 ∷ easterSunday 2038 ∷ easterSunday 2049
+    easterSunday 1996 ∷ easterSunday 2000 ∷ easterSunday 2008 ∷ easterSunday 2019 ∷ easterSunday 2026 ∷
+    easterSunday 2038 ∷ easterSunday 2049
     ∷ easterSunday 2100 ∷ easterSunday 2285 ∷ easterSunday 2353 ∷ easterSunday 2500 ∷ easterSunday 2899 ∷ []
     ≡ on 1996 4 7 ∷ on 2000 4 23 ∷ on 2008 3 23 ∷ on 2019 4 21 ∷ on 2026 4 5 ∷ on 2038 4 25 ∷ on 2049 4 18
     ∷ on 2100 3 28 ∷ on 2285 3 22 ∷ on 2353 3 22 ∷ on 2500 4 18 ∷ on 2899 4 19 ∷ []

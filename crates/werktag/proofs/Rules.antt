@@ -68,7 +68,8 @@ module _ (m d i : ℕ) (e : any (onDay m d) (drop i fixedDays) ≡ isFixed m d) 
   unfolding isFixed
   fixed-hit h p q =
       let k = entry-is i h in
-      search-hit (onDay m d) fixedDays (0, 0) i whole h (rw (eq-eqb (entry i .0) d (k .0 ∙ q)) (eq-eqb (entry i .1) m (k .1 ∙ p)))
+      search-hit (onDay m d) fixedDays (0, 0) i whole h
+      (rw (eq-eqb (entry i .0) d (k .0 ∙ q)) (eq-eqb (entry i .1) m (k .1 ∙ p)))
 
   pub fixed-other-day :
       i < 13 → getD months i 0 ≡ m → (getD days i 0 ≡ d → ⊥) → any (onDay m d) (drop (i + 1) fixedDays) ≡ isFixed m d
@@ -81,7 +82,8 @@ module _ (m d i : ℕ) (e : any (onDay m d) (drop i fixedDays) ≡ isFixed m d) 
   unfolding isFixed
   fixed-other-month h q =
       let k = entry-is i h in
-      search-miss (onDay m d) fixedDays (0, 0) i whole h (rw (ne-eqb (entry i .1) m (λ x. q (sym (k .1) ∙ x))) (and-no (eqb (entry i .0) d)))
+      search-miss (onDay m d) fixedDays (0, 0) i whole h
+      (rw (ne-eqb (entry i .1) m (λ x. q (sym (k .1) ∙ x))) (and-no (eqb (entry i .0) d)))
 
   pub fixed-none : 13 ≤ i → false ≡ isFixed m d
   unfolding isFixed
@@ -127,19 +129,22 @@ fits-is (negsuc a) t = neg-fits a (omega (arith, leb-true a 60 t))
 offset-fits : (i : ℕ) → i < 6 → SFits w64 (offset i)
 offset-fits i h = fits-is (offset i) (run-at (λ i. fits (offset i)) 6 0 all-fit i (omega arith) (omega arith))
 
-module _ (z : ℤ) (i : ℕ) (f : SFits w64 z) (e : any (eqZ (back z)) (drop i easterOffsets) ≡ any (eqZ (back z)) easterOffsets) where
+module _ (z : ℤ) (i : ℕ) (f : SFits w64 z) (e : any (eqZ (back z)) (drop i easterOffsets) ≡
+    any (eqZ (back z)) easterOffsets) where
   at-z : any (eqZ (back z)) easterOffsets ≡ any (eqZ z) easterOffsets
   at-z = ap (λ (x : ℤ). any (eqZ x) easterOffsets) (toZ-ofZ f)
 
   pub offset-hit : i < 6 → ofZ w64 (offset i) ≡ ofZ w64 z → true ≡ any (eqZ z) easterOffsets
   offset-hit h p =
-      search-hit (eqZ (back z)) easterOffsets (pos 0) i e h (eq-eqZ (back z) (offset i) (toZ-ofZ f ∙ sym (same-bits (offset i) z (offset-fits i h) f p))) ∙ at-z
+      search-hit (eqZ (back z)) easterOffsets (pos 0) i e h
+      (eq-eqZ (back z) (offset i) (toZ-ofZ f ∙ sym (same-bits (offset i) z (offset-fits i h) f p))) ∙ at-z
 
   pub offset-miss :
       i < 6 → (ofZ w64 (offset i) ≡ ofZ w64 z → ⊥) →
       any (eqZ (back z)) (drop (i + 1) easterOffsets) ≡ any (eqZ (back z)) easterOffsets
   offset-miss h n =
-      search-miss (eqZ (back z)) easterOffsets (pos 0) i e h (ne-eqZ (back z) (offset i) (λ q. n (ap (ofZ w64) (sym q ∙ toZ-ofZ f))))
+      search-miss (eqZ (back z)) easterOffsets (pos 0) i e h
+      (ne-eqZ (back z) (offset i) (λ q. n (ap (ofZ w64) (sym q ∙ toZ-ofZ f))))
 
   pub offset-none : 6 ≤ i → false ≡ any (eqZ z) easterOffsets
   offset-none h = search-none (eqZ (back z)) easterOffsets (pos 0) i e h ∙ at-z
@@ -153,7 +158,8 @@ module _ (i y s : ℕ) (d : Date) (h : i ≤ last) (e : d ≡ easterSunday y) (q
   unfolding isEasterFeast easterIndex any
   feast r p =
       let k : s ≡ daysBefore (easterSunday y) = q ∙ ap daysBefore e in
-      let t : back (toZ w64 i -ℤ toZ w64 s) ≡ pos i -ℤ pos (easterIndex y) = toZ-ofZ distance-fits ∙ (rw (back-pos i (omega arith), back-pos s (omega arith), k)) in
+      let t : back (toZ w64 i -ℤ toZ w64 s) ≡ pos i -ℤ pos (easterIndex y) =
+      toZ-ofZ distance-fits ∙ (rw (back-pos i (omega arith), back-pos s (omega arith), k)) in
       p ∙ ap (λ (x : ℤ). any (eqZ x) easterOffsets) t ∙ simp (from-distance (pos i) (pos (easterIndex y)))
 
 -- is_bdew_mako_holiday: d is the date that `date_of` returned

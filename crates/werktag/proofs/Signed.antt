@@ -41,4 +41,5 @@ from-distance i e o = go (eqZ (i -ℤ e) o) refl
   where
     go : (t : Bool) → eqZ (i -ℤ e) o ≡ t → eqZ (i -ℤ e) o ≡ eqZ i (e +ℤ o)
     go true q = q ∙ sym (eq-eqZ i (e +ℤ o) (reached i e o (eqZ-true (i -ℤ e) o q)))
-    go false q = q ∙ sym (ne-eqZ i (e +ℤ o) (λ h. let c = sym q ∙ eq-eqZ (i -ℤ e) o (distant i e o h) in subst T (sym c) tt))
+    go false q =
+        q ∙ sym (ne-eqZ i (e +ℤ o) (λ h. let c = sym q ∙ eq-eqZ (i -ℤ e) o (distant i e o h) in subst T (sym c) tt))

@@ -4,6 +4,7 @@
 ghost use mathlib.Core.Path.{_≡_};
 ghost use Prim.Native.Nat.{_≤_};
 ghost use Rattle.zaehlung.specs.Walk.{last};
+ghost use Rattle.datum.specs.Calendar.{firstYear, lastYear};
 ghost use Rattle.werktag.specs.Easter.{easterSunday};
 ghost use Rattle.werktag.specs.Werktag.{isFixed, isBussUndBettag, isOffset, isEasterFeast};
 ghost use Rattle.werktag.specs.Werktag.{isBdewMakoHoliday, isWerktag};
@@ -72,7 +73,7 @@ fn is_buss_und_bettag(month: u8, day: u8, weekday: u32) -> bool
 ///
 /// In 2026 it is 5 April; the earliest is 22 March (2285), the latest 25 April (2038).
 pub fn easter_sunday(year: u16) -> Date
-    requires { ⌜ (1996 ≤ year) × (year ≤ 2899) ⌝ }
+    requires { ⌜ (firstYear ≤ year) × (year ≤ lastYear) ⌝ }
     ensures { λ r. ⌜ r ≡ easterSunday year ⌝ }
 {
     let y = year as u32;
@@ -113,7 +114,7 @@ fn is_offset(distance: i64) -> bool
 
 /// Whether a day is one of the feasts that move with Easter Sunday of its year.
 fn is_easter_feast(index: u32, year: u16) -> bool
-    requires { ⌜ (index ≤ last) × (1996 ≤ year) × (year ≤ 2899) ⌝ }
+    requires { ⌜ (index ≤ last) × (firstYear ≤ year) × (year ≤ lastYear) ⌝ }
     ensures { λ r. ⌜ r ≡ isEasterFeast index year ⌝ }
 {
     let easter = datum::days_before(easter_sunday(year));

@@ -56,7 +56,8 @@ module _ (len : ℕ → ℕ) where
 
   pub at-sum :
       (f j r : ℕ) →
-      (start len (at len f j r .0) + at len f j r .1 ≡ start len j + r) × (j ≤ at len f j r .0) × (at len f j r .0 ≤ j + f)
+      (start len (at len f j r .0) + at len f j r .1 ≡ start len j + r) × (j ≤ at len f j r .0) ×
+      (at len f j r .0 ≤ j + f)
   unfolding at
   at-sum zero j r = (refl, omega arith, omega arith)
   at-sum (suc f) j r =

@@ -73,7 +73,13 @@ module _ (w : ℕ → Bool) where
     λ r.
         let l = count-back w t e (omega arith) in
         W-day w t n e h .1
-        (record { counted = r .3; after = omega arith; within = r .4; is-open = λ v _ g. let q : v ≡ r .0 = omega arith in rw q (r .2) }),
+        (record {
+          counted = r .3;
+          after = omega arith;
+          within = r .4;
+          is-open = λ v _ g. let q : v ≡
+              r .0 = omega arith in rw q (r .2);
+        }),
   )
 
   pub add-out-iff : (d n : ℕ) → d ≤ last → (add w d n ≡ Outside) ↔ (count w (suc last) < count w (suc d) + n)

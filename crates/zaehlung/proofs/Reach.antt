@@ -85,7 +85,12 @@ module _ (w : ℕ → Bool) where
   past-here k d e p =
       let q : d ≡ e = cc (past-none w k d) in
       let c = ap (count w) q in
-      record { counted = omega arith; after = omega arith; within = omega arith; is-open = λ v h g. absurd (omega arith) }
+      record {
+        counted = omega arith;
+        after = omega arith;
+        within = omega arith;
+        is-open = λ v h g. absurd (omega arith);
+      }
 
   past-took : (k d n e : ℕ) → w d ≡ true → Past w (suc d + k) (suc d) n e → Past w (d + suc k) d (suc n) e
   past-took k d n e h r =
@@ -93,7 +98,8 @@ module _ (w : ℕ → Bool) where
         counted = omega (arith, count-open w d h);
         after = omega arith;
         within = omega arith;
-        is-open = λ v m g. elim (decLe (suc d) v) [ yes q ↦ r .is-open v q g | no q ↦ let s : v ≡ d = omega arith in rw s h ];
+        is-open =
+            λ v m g. elim (decLe (suc d) v) [ yes q ↦ r .is-open v q g | no q ↦ let s : v ≡ d = omega arith in rw s h ];
       }
 
   past-left : (k d n e : ℕ) → w d ≡ false → Past w (suc d + k) (suc d) (suc n) e → Past w (d + suc k) d (suc n) e
@@ -235,7 +241,8 @@ module _ (w : ℕ → Bool) where
       b = before-day k (suc d) n (up w k d n) (up-past k d n) e
 
       to : Past w (suc d + k) (suc d) n (suc e) → Up w (d + k) d n e
-      to r = record { counted = r .counted; after = omega arith; within = omega arith; is-open = λ h. r .is-open e h refl }
+      to r =
+          record { counted = r .counted; after = omega arith; within = omega arith; is-open = λ h. r .is-open e h refl }
 
       from : Up w (d + k) d n e → Past w (suc d + k) (suc d) n (suc e)
       from r =

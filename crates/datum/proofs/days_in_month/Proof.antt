@@ -20,7 +20,9 @@ array-read-result : tie.Need-array-read-result
 array-read-result c = search needs
 
 returns-4 : tie.Need-returns-4
-returns-4 c = let a = c .before .before .args in let e = len-other (a .leap) (a .month) (c .if2 .left) in (e, omega (arith, len-le (a .leap) (a .month)))
+returns-4 c =
+    let a = c .before .before .args in let e = len-other (a .leap) (a .month) (c .if2 .left) in
+    (e, omega (arith, len-le (a .leap) (a .month)))
 
 pub days-in-month-spec : {M : Type 1} → statement M
 days-in-month-spec = tie.close (tie.spec returns returns-2 returns-3 array-read-result returns-4)

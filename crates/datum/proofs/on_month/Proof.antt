@@ -13,10 +13,15 @@ use Rattle.datum.proofs.in_month.Reads as in-month-reads
 
 -- what the two tests leave
 range :
-    (c : lts.Else2 (split-months-reads.Asked, split-months-reads.Learnt, in-month-reads.Asked, in-month-reads.Learnt) reads.Pre reads.Post) → InRange (c .before .before .before .before .before .args .t) (c .before .before .before .before .split-months .result .year) (c .before .before .before .before .split-months .result .month)
+    (c : lts.Else2 (split-months-reads.Asked, split-months-reads.Learnt, in-month-reads.Asked, in-month-reads.Learnt)
+    reads.Pre reads.Post) → InRange (c .before .before .before .before .before .args .t)
+    (c .before .before .before .before .split-months .result .year)
+    (c .before .before .before .before .split-months .result .month)
 range c =
     let s = c .before .before .before .before in
-    in-range (s .before .args .t) (s .split-months .result .year) (s .split-months .result .month) (s .before .args .day) (s .before .fits .t) (s .split-months .ensures .0) (s .split-months .ensures .1) (c .before .if1 .left) (c .if2 .left)
+    in-range (s .before .args .t) (s .split-months .result .year) (s .split-months .result .month)
+    (s .before .args .day) (s .before .fits .t) (s .split-months .ensures .0) (s .split-months .ensures .1)
+    (c .before .if1 .left) (c .if2 .left)
 
 split-months-requires : tie.Need-split-months-requires
 split-months-requires c κs = search needs
@@ -24,12 +29,14 @@ split-months-requires c κs = search needs
 returns : tie.Need-returns
 returns c =
     let s = c .before .before .before in
-    early (s .before .args .t) (s .split-months .result .year) (s .split-months .result .month) (s .before .args .day) (s .before .fits .t) (s .split-months .ensures .0) (s .split-months .ensures .1) (c .if1 .taken)
+    early (s .before .args .t) (s .split-months .result .year) (s .split-months .result .month) (s .before .args .day)
+    (s .before .fits .t) (s .split-months .ensures .0) (s .split-months .ensures .1) (c .if1 .taken)
 
 returns-2 : tie.Need-returns-2
 returns-2 c =
     let s = c .before .before .before .before in
-    late (s .before .args .t) (s .split-months .result .year) (s .split-months .result .month) (s .before .args .day) (s .before .fits .t) (s .split-months .ensures .0) (s .split-months .ensures .1) (c .if2 .taken)
+    late (s .before .args .t) (s .split-months .result .year) (s .split-months .result .month) (s .before .args .day)
+    (s .before .fits .t) (s .split-months .ensures .0) (s .split-months .ensures .1) (c .if2 .taken)
 
 cast-in-month : tie.Need-cast-in-month
 cast-in-month c = year-cast (range c)
@@ -44,7 +51,8 @@ in-month-requires : tie.Need-in-month-requires
 in-month-requires c κs = within (range c)
 
 returns-3 : tie.Need-returns-3
-returns-3 c = on-it (range (c .before)) (c .before .before .before .before .before .before .args .day) (c .in-month .result) (c .in-month .ensures)
+returns-3 c = on-it (range (c .before)) (c .before .before .before .before .before .before .args .day)
+    (c .in-month .result) (c .in-month .ensures)
 
 pub on-month-spec : {M : Type 1} → statement M
 on-month-spec =

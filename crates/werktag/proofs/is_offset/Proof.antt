@@ -12,7 +12,8 @@ use Rattle.werktag.proofs.is_offset.Statement.{statement}
 use Rattle.werktag.proofs.is_offset.Tie as tie
 
 abbrev Inv-loop : tie.InvT-loop
-Inv-loop distance i₀ i = (i ≤ 6) × (any (eqZ (toZ w64 distance)) (drop i easterOffsets) ≡ any (eqZ (toZ w64 distance)) easterOffsets)
+Inv-loop distance i₀ i =
+    (i ≤ 6) × (any (eqZ (toZ w64 distance)) (drop i easterOffsets) ≡ any (eqZ (toZ w64 distance)) easterOffsets)
 
 abbrev μ-loop : tie.MeasureT-loop
 μ-loop distance i₀ i = 6 - i
