@@ -2,5 +2,4 @@ pub mod Search
 pub mod Signed
 pub mod Easter
 pub mod Rules
-pub mod Computed
 pub mod OutsideValues

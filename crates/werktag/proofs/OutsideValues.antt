@@ -1,20 +1,17 @@
 -- The list's definitions against values from outside: Easter Sundays of published tables (Physikalisch-Technische
 -- Bundesanstalt; the earliest and the latest possible date among them), days whose holidays of 2026 are published, and
--- Werktage counted on the calendar of Python.
+-- the calendar's first and last Werktag.
 -- Assumes nothing.
 use Prim.Native.Nat.{ℕ}
 use mathlib.Core.Bool.{Bool, true, false}
 use mathlib.Core.List.{[], _∷_}
-use mathlib.Core.Path.{_≡_, refl, _∙_}
-use native.Mathlib.Omega.{arith}
-use Rattle.zaehlung.specs.Walk.{count}
+use mathlib.Core.Path.{_≡_, refl}
 use Rattle.zaehlung.specs.Blocks.{start, at}
 use Rattle.datum.specs.declared.Date.{Date}
-use Rattle.datum.specs.Calendar.{isLeap, yearLen, yearStart, daysInMonth, dateIn, daysBefore}
+use Rattle.datum.specs.Calendar.{isLeap, yearLen, daysInMonth, dateIn, daysBefore}
 use Rattle.werktag.specs.declared.HolidayCalendar.the-variants.{BdewMaKo}
 use Rattle.werktag.specs.Easter.{easterSunday, easterIndex}
 use Rattle.werktag.specs.Werktag.{any, isFixed, isBussUndBettag, isEasterFeast, isWerktagIn, isWerktag}
-use Rattle.werktag.proofs.Computed.{yearAt, openIn, inYear, years-count}
 
 abbrev on : ℕ → ℕ → ℕ → Date
 on y m d = record { year = y; month = m; day = d }
@@ -50,11 +47,3 @@ pub edges :
     ≡ false ∷ true ∷ true ∷ false ∷ []
 unfolding isFixed isBussUndBettag isEasterFeast any easterIndex easterSunday dateIn at start yearLen daysInMonth isLeap
 edges = refl
-
--- the Werktage of 1996 to 2095
-century-sum : start inYear 100 ≡ 24565
-unfolding start count openIn yearAt easterSunday any at daysInMonth isLeap yearLen
-century-sum = refl
-
-pub century : count (isWerktag BdewMaKo) (yearStart 100) ≡ 24565
-century = years-count 100 (omega arith) ∙ century-sum

@@ -10,7 +10,7 @@
 --   isWerktagIn cal k r   = whether day r, from 0 on, of the year 1996 + k is a Werktag
 --   isWerktag cal i       = whether the day with index i is a Werktag
 -- The day test is one of a year and a day in it, so that a fact about all days can be computed year by year;
--- proofs/Computed.antt has a form of it for that.
+-- the crate jahre has a form of it for that.
 -- Source: GPKE Teil 1 (Werktag: 'alle Tage .., die kein Samstag, Sonntag oder gesetzlicher Feiertag sind'; a holiday of
 -- one Land counts everywhere; 24.12. and 31.12. count as holidays); document 01, 'lib.rs, calendar', for the list.
 use Prim.Native.Nat.{ℕ, _+_}

@@ -2,9 +2,9 @@
 -- is then looked up. A century takes some three seconds.
 --   Year        a year: the weekday of its 1 January; its fixed days and Buß- und Bettag, as days of the year from 0
 --               on; the feasts that move with Easter, the same
---   yearAt k    = the year 1996 + k
+--   yearFor k   = the year 1996 + k
 --   openIn y r  = whether day r of the year y is a Werktag
---   open-is     isWerktagIn BdewMaKo k r ≡ openIn (yearAt k) r
+--   open-is     isWerktagIn BdewMaKo k r ≡ openIn (yearFor k) r
 --   index-is    isWerktag cal (yearStart k + r) ≡ isWerktagIn cal k r
 --   years-count the Werktage before a year are those of the years before it, each counted by openIn
 -- for k < 904 and r < yearLen k.
@@ -59,8 +59,8 @@ easterIn y = let d = easterSunday y in dayIn (isLeap y) (d .month) (d .day)
 abbrev firstOf : ℕ → ℕ
 firstOf k = (365 * k + ((k + 1995) / 4 + (k + 1995) / 400 - (k + 1995) / 100) - 483) % 7
 
-unfoldable pub yearAt : ℕ → Year
-yearAt k =
+unfoldable pub yearFor : ℕ → Year
+yearFor k =
     let l = isLeap (1996 + k) in
     let f = firstOf k in
     let e = easterIn (1996 + k) in
@@ -202,8 +202,8 @@ in-order false true false z = refl
 in-order false false true z = refl
 in-order false false false z = refl
 
-pub open-is : (k r : ℕ) → r < yearLen k → isWerktagIn BdewMaKo k r ≡ openIn (yearAt k) r
-unfolding openIn yearAt dateIn any
+pub open-is : (k r : ℕ) → r < yearLen k → isWerktagIn BdewMaKo k r ≡ openIn (yearFor k) r
+unfolding openIn yearFor dateIn any
 open-is k r h =
     let l : Bool = isLeap (1996 + k) in
     let f : ℕ = firstOf k in
@@ -223,7 +223,7 @@ index-is cal k r h g =
     rw q
 
 abbrev pub inYear : ℕ → ℕ
-inYear k = count (openIn (yearAt k)) (yearLen k)
+inYear k = count (openIn (yearFor k)) (yearLen k)
 
 pub years-count : (k : ℕ) → k ≤ 904 → count (isWerktag BdewMaKo) (yearStart k) ≡ start inYear k
 unfolding start
@@ -233,5 +233,5 @@ years-count (suc k) h =
   where
     c : count (λ r. isWerktag BdewMaKo (yearStart k + r)) (yearLen k) ≡ inYear k
     c =
-        count-cong (λ r. isWerktag BdewMaKo (yearStart k + r)) (openIn (yearAt k)) (yearLen k)
+        count-cong (λ r. isWerktag BdewMaKo (yearStart k + r)) (openIn (yearFor k)) (yearLen k)
         (λ r g. index-is BdewMaKo k r h g ∙ open-is k r g)
