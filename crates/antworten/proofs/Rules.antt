@@ -1,7 +1,7 @@
 -- What the proofs of the host calls cite, with premises in the form in which they stand there. The same rules serve
 -- every call: a date that is none, a date that is taken, a step, a shift.
 -- Assumes nothing.
-use Prim.Native.Nat.{ℕ, suc, _-_, _≤_, _<_}
+use Prim.Native.Nat.{ℕ, _≤_}
 use mathlib.Core.Bool.{Bool, true, false, not}
 use mathlib.Core.Path.{_≡_, refl, sym, ap, _∙_}
 use native.Mathlib.Omega.{arith}
@@ -51,7 +51,8 @@ use Rattle.antworten.proofs.Codes.{code-refused, code-taken}
 
 -- x is what `index_of` returned for d
 module _ (d : Date) (x : Index) where
-  pub date-refused : (f : ℕ → Answer) (r : Answer) → x ≡ indexOf d → x ≡ NoDate → r ≡ refused noDate → r ≡ onDate (indexOf d) f
+  pub date-refused :
+      (f : ℕ → Answer) (r : Answer) → x ≡ indexOf d → x ≡ NoDate → r ≡ refused noDate → r ≡ onDate (indexOf d) f
   date-refused f r e q p = rw (sym e ∙ q) p
 
   pub date-taken : (f : ℕ → Answer) (r : Answer) (i : ℕ) → x ≡ indexOf d → x ≡ At i → r ≡ f i → r ≡ onDate (indexOf d) f
@@ -146,7 +147,8 @@ pub ruleset month-rules = (date-none, date-given, date-month, shift-made)
 
 -- k is what `read_instant` returned, or what a function was handed
 module _ (k : Reading) where
-  pub instant-refused : (f : Moment → Answer) (r : Answer) → k ≡ NoInstant → r ≡ refused instantOutside → r ≡ onInstant k f
+  pub instant-refused :
+      (f : Moment → Answer) (r : Answer) → k ≡ NoInstant → r ≡ refused instantOutside → r ≡ onInstant k f
   instant-refused f r q p = rw q p
 
   pub instant-taken : (f : Moment → Answer) (r : Answer) (m : Moment) → k ≡ Read m → r ≡ f m → r ≡ onInstant k f
@@ -170,7 +172,9 @@ module _ (k : ClockReading) where
 seconds-back : (m : Moment) (z : ℤ) → Proper m → z ≡ pos (secondsOf m) → back z ≡ pos (secondsOf m)
 seconds-back m z h e = rw e (back-pos (secondsOf m) (omega (arith, h .to)))
 
-pub moment-made : (k : ℕ) (m : Moment) (z : ℤ) (r : Answer) → Proper m → z ≡ pos (secondsOf m) → r ≡ atInstant k (back z) (m .nanos) → r ≡ momentAnswer k m
+pub moment-made :
+    (k : ℕ) (m : Moment) (z : ℤ) (r : Answer) → Proper m → z ≡ pos (secondsOf m) → r ≡ atInstant k (back z) (m .nanos) →
+    r ≡ momentAnswer k m
 moment-made k m z r h e p = rw (seconds-back m z h e) at p
 
 pub resolved-at : (s : Resolved) (m : Moment) (r : Answer) → s ≡ Shown m → r ≡ momentAnswer 0 m → r ≡ resolvedAnswer s
@@ -182,7 +186,8 @@ resolved-never s r q p = rw q p
 pub resolved-proper : (s : Resolved) (m : Moment) → properResolved s → s ≡ Shown m → Proper m
 resolved-proper s m h q = rw q at h
 
-pub beginn-day : (s : Beginn) (i : ℕ) (d : Date) (r : Answer) → s ≡ Begins i → d ≡ dateOf i → r ≡ dated d → r ≡ beginnAnswer s
+pub beginn-day :
+    (s : Beginn) (i : ℕ) (d : Date) (r : Answer) → s ≡ Begins i → d ≡ dateOf i → r ≡ dated d → r ≡ beginnAnswer s
 beginn-day s i d r q e p = rw (q, ← e) p
 
 pub beginn-none : (s : Beginn) (r : Answer) → s ≡ NoBeginning → r ≡ refused noBeginning → r ≡ beginnAnswer s

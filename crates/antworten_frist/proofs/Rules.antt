@@ -51,7 +51,9 @@ module _ (s : ShapeReading) where
 pub shape-proper : (s : ShapeReading) (t : FristShape) → properShapeReading s → s ≡ Shaped t → properShape t
 shape-proper s t h q = rw q at h
 
-pub due-at : (k : ℕ) (d : Due) (m : Moment) (z : ℤ) (r : Answer) → d ≡ DueAt m → Proper m → z ≡ pos (secondsOf m) → r ≡ atInstant k (back z) (m .nanos) → r ≡ dueAnswer k d
+pub due-at :
+    (k : ℕ) (d : Due) (m : Moment) (z : ℤ) (r : Answer) → d ≡ DueAt m → Proper m → z ≡ pos (secondsOf m) →
+    r ≡ atInstant k (back z) (m .nanos) → r ≡ dueAnswer k d
 due-at k d m z r q h e p = rw q (moment-made k m z r h e p)
 
 pub due-absent : (k : ℕ) (d : Due) (r : Answer) → d ≡ Absent → r ≡ refused localTimeAbsent → r ≡ dueAnswer k d
@@ -68,10 +70,14 @@ pub ruleset due-rules = (due-at, due-absent, due-late, due-proper)
 pub due-same : (k : ℕ) (s t : Due) (r : Answer) → s ≡ t → r ≡ dueAnswer k s → r ≡ dueAnswer k t
 due-same k s t r e p = p ∙ ap (dueAnswer k) e
 
-pub gas-initial : (g h : GasDue) (r : Answer) → g ≡ h → g .initial ≡ true → r ≡ dueAnswer 1 (g .due) → r ≡ dueAnswer (bit (h .initial)) (h .due)
+pub gas-initial :
+    (g h : GasDue) (r : Answer) → g ≡ h → g .initial ≡ true → r ≡ dueAnswer 1 (g .due) →
+    r ≡ dueAnswer (bit (h .initial)) (h .due)
 gas-initial g h r e t p = rw (← e, t) p
 
-pub gas-other : (g h : GasDue) (r : Answer) → g ≡ h → g .initial ≡ false → r ≡ dueAnswer 0 (g .due) → r ≡ dueAnswer (bit (h .initial)) (h .due)
+pub gas-other :
+    (g h : GasDue) (r : Answer) → g ≡ h → g .initial ≡ false → r ≡ dueAnswer 0 (g .due) →
+    r ≡ dueAnswer (bit (h .initial)) (h .due)
 gas-other g h r e t p = rw (← e, t) p
 
 pub ruleset frist-rules = (

@@ -92,7 +92,9 @@ pub ruleset span-rules = (span-from, span-both, span-empty, span-leaves, from-in
 
 -- month_span_answer: s is what `months_or_first_date` returned
 module _ (d : Date) (n : ℕ) (s : Shifted) (p : toStep s ≡ M n (daysBefore d)) where
-  pub month-first : (f z : Date) (r : Answer) → insideShift s → s ≡ On f → z ≡ zeroDate → r ≡ spanned 0 f z → r ≡ spanAnswer (spanFrom (M n (daysBefore d)))
+  pub month-first :
+      (f z : Date) (r : Answer) → insideShift s → s ≡ On f → z ≡ zeroDate → r ≡ spanned 0 f z →
+      r ≡ spanAnswer (spanFrom (M n (daysBefore d)))
   month-first f z r h q g k =
       let u : f ≡ dateOf (daysBefore f) = sym (date-index f (valid-is f (rw q at h))) in
       rw (← p, q, ← u, ← g) k
@@ -103,16 +105,22 @@ module _ (d : Date) (n : ℕ) (s : Shifted) (p : toStep s ≡ M n (daysBefore d)
 pub ruleset month-span-rules = (month-first, month-gone)
 
 -- vorlauf_span_answer
-pub months-same : (w : ℕ → Bool) (u : VorlaufShape) (n t : ℕ) (r : Answer) → r ≡ spanAnswer (spanFrom (M n t)) → u ≡ LatestMonateBefore n → r ≡ spanAnswer (spanOf w u t)
+pub months-same :
+    (w : ℕ → Bool) (u : VorlaufShape) (n t : ℕ) (r : Answer) → r ≡ spanAnswer (spanFrom (M n t)) →
+    u ≡ LatestMonateBefore n → r ≡ spanAnswer (spanOf w u t)
 unfolding spanOf
 months-same w u n t r p e = rw e p
 
 -- t is what `days_before` returned for d
-pub days-same : (w : ℕ → Bool) (u : VorlaufShape) (d : Date) (t : ℕ) (s : Span) (r : Answer) → t ≡ daysBefore d → s ≡ spanOf w u t → r ≡ spanAnswer s → r ≡ spanAnswer (spanOf w u (daysBefore d))
+pub days-same :
+    (w : ℕ → Bool) (u : VorlaufShape) (d : Date) (t : ℕ) (s : Span) (r : Answer) → t ≡ daysBefore d → s ≡ spanOf w u t →
+    r ≡ spanAnswer s → r ≡ spanAnswer (spanOf w u (daysBefore d))
 days-same w u d t s r e q p = p ∙ ap spanAnswer (q ∙ ap (spanOf w u) e)
 
 -- abmeldung_answer, announced_answer
-pub abmeldung-judged : (x : AbmeldungVerdict) (v : VorlaufVerdict) (r : Answer) → x ≡ Verdict v → r ≡ verdictAnswer v → r ≡ abmeldungAnswer x
+pub abmeldung-judged :
+    (x : AbmeldungVerdict) (v : VorlaufVerdict) (r : Answer) → x ≡ Verdict v → r ≡ verdictAnswer v →
+    r ≡ abmeldungAnswer x
 abmeldung-judged x v r q p = rw q p
 
 pub no-shape : (x : AbmeldungVerdict) (r : Answer) → x ≡ NoShape → r ≡ ofKind 3 → r ≡ abmeldungAnswer x
@@ -140,7 +148,8 @@ pub ruleset announced-rules = (announced-no, announced-yes, announced-neither, a
 
 -- b is what `tag_des_beginns` returned
 module _ (m : Moment) (s : Sparte) (b : Beginn) (k : b ≡ tagDesBeginns m s) where
-  pub beginn-refused : (f : ℕ → Answer) (r : Answer) → b ≡ NoBeginning → r ≡ refused noBeginning → r ≡ onBeginn (tagDesBeginns m s) f
+  pub beginn-refused :
+      (f : ℕ → Answer) (r : Answer) → b ≡ NoBeginning → r ≡ refused noBeginning → r ≡ onBeginn (tagDesBeginns m s) f
   beginn-refused f r q p = rw (sym k ∙ q) p
 
   pub beginn-taken : (f : ℕ → Answer) (r : Answer) (i : ℕ) → b ≡ Begins i → r ≡ f i → r ≡ onBeginn (tagDesBeginns m s) f
@@ -150,14 +159,20 @@ module _ (m : Moment) (s : Sparte) (b : Beginn) (k : b ≡ tagDesBeginns m s) wh
 pub verdict-same : (v u : VorlaufVerdict) (r : Answer) → v ≡ u → r ≡ verdictAnswer v → r ≡ verdictAnswer u
 verdict-same v u r e p = p ∙ ap verdictAnswer e
 
-pub verdict-at : (w : ℕ → Bool) (s : VorlaufShape) (d e a : ℕ) (v : VorlaufVerdict) (r : Answer) → d ≡ e → v ≡ checkOf w s d a → r ≡ verdictAnswer v → r ≡ verdictAnswer (checkOf w s e a)
+pub verdict-at :
+    (w : ℕ → Bool) (s : VorlaufShape) (d e a : ℕ) (v : VorlaufVerdict) (r : Answer) → d ≡ e → v ≡ checkOf w s d a →
+    r ≡ verdictAnswer v → r ≡ verdictAnswer (checkOf w s e a)
 verdict-at w s d e a v r g q p = p ∙ ap verdictAnswer (q ∙ ap (λ (x : ℕ). checkOf w s x a) g)
 
-pub case-same : (v u : AbmeldungVorlauf) (k : ℕ) (r : Answer) → v ≡ u → k ≡ caseCode v → r ≡ ofKind k → r ≡ ofKind (caseCode u)
+pub case-same :
+    (v u : AbmeldungVorlauf) (k : ℕ) (r : Answer) → v ≡ u → k ≡ caseCode v → r ≡ ofKind k → r ≡ ofKind (caseCode u)
 case-same v u k r e q p = p ∙ ap ofKind (q ∙ ap caseCode e)
 
-pub abmeldung-same : (w : ℕ → Bool) (v u : AbmeldungVorlauf) (t a : ℕ) (x : AbmeldungVerdict) (r : Answer) → v ≡ u → x ≡ abmeldungCheckOf w v t a → r ≡ abmeldungAnswer x → r ≡ abmeldungAnswer (abmeldungCheckOf w u t a)
-abmeldung-same w v u t a x r e q p = p ∙ ap abmeldungAnswer (q ∙ ap (λ (y : AbmeldungVorlauf). abmeldungCheckOf w y t a) e)
+pub abmeldung-same :
+    (w : ℕ → Bool) (v u : AbmeldungVorlauf) (t a : ℕ) (x : AbmeldungVerdict) (r : Answer) → v ≡ u →
+    x ≡ abmeldungCheckOf w v t a → r ≡ abmeldungAnswer x → r ≡ abmeldungAnswer (abmeldungCheckOf w u t a)
+abmeldung-same w v u t a x r e q p =
+    p ∙ ap abmeldungAnswer (q ∙ ap (λ (y : AbmeldungVorlauf). abmeldungCheckOf w y t a) e)
 
 pub announced-same : (x y : Fristgerecht) (r : Answer) → x ≡ y → r ≡ announcedAnswer x → r ≡ announcedAnswer y
 announced-same x y r e p = p ∙ ap announcedAnswer e

@@ -68,14 +68,20 @@ module _ (x : ℤ) (f : SFits w64 x) where
   cast-sign = negative (λ z. T (nonNeg (back (flipped z)))) (λ n k. rw (flip-is n k, toZ-ofZ (as-pos n k)) tt)
 
   pub cast-fits : ltZ (back x) (pos 0) ≡ true → Fits w64 (natAbs (back (flipped x)))
-  cast-fits = negative (λ z. Fits w64 (natAbs (back (flipped z)))) (λ n k. rw (flip-is n k, toZ-ofZ (as-pos n k)) (omega (arith, k .sfits)))
+  cast-fits =
+      negative (λ z. Fits w64 (natAbs (back (flipped z))))
+      (λ n k. rw (flip-is n k, toZ-ofZ (as-pos n k)) (omega (arith, k .sfits)))
 
   pub top-asks : ltZ (back x) (pos 0) ≡ true → natAbs (back (flipped x)) ≤ 18446744073709551615
-  top-asks = negative (λ z. natAbs (back (flipped z)) ≤ 18446744073709551615) (λ n k. rw (flip-is n k, toZ-ofZ (as-pos n k)) (omega (arith, k .sfits)))
+  top-asks =
+      negative (λ z. natAbs (back (flipped z)) ≤ 18446744073709551615)
+      (λ n k. rw (flip-is n k, toZ-ofZ (as-pos n k)) (omega (arith, k .sfits)))
 
   pub bits-negative : ltZ (back x) (pos 0) ≡ true → 18446744073709551615 - natAbs (back (flipped x)) ≡ bitsOf x
   unfolding bitsIn
-  bits-negative = negative (λ z. 18446744073709551615 - natAbs (back (flipped z)) ≡ bitsOf z) (λ n k. rw (flip-is n k, toZ-ofZ (as-pos n k)) (omega arith))
+  bits-negative =
+      negative (λ z. 18446744073709551615 - natAbs (back (flipped z)) ≡ bitsOf z)
+      (λ n k. rw (flip-is n k, toZ-ofZ (as-pos n k)) (omega arith))
 
   pub natural-sign : ltZ (back x) (pos 0) ≡ false → T (nonNeg (back x))
   natural-sign = natural (λ z. T (nonNeg (back z))) (λ n k. rw (toZ-ofZ k) tt)
@@ -94,7 +100,8 @@ pub ruleset bits-rules =
 module _ (x : ℕ) where
   pub signed-small : x < 9223372036854775808 → toZ w64 x ≡ signedOf x
   unfolding signedIn
-  signed-small h = let e : signedOf x ≡ pos x = (rw (lt-ltb x 9223372036854775808 h)) in back-pos x (omega arith) ∙ sym e
+  signed-small h =
+      let e : signedOf x ≡ pos x = (rw (lt-ltb x 9223372036854775808 h)) in back-pos x (omega arith) ∙ sym e
 
   module _ (h : 9223372036854775808 ≤ x) where
     first : pos 0 -ℤ toZ w64 (18446744073709551615 - x) ≡ negℤ (pos (18446744073709551615 - x))
