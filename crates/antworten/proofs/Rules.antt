@@ -1,7 +1,7 @@
 -- What the proofs of the host calls cite, with premises in the form in which they stand there. The same rules serve
 -- every call: a date that is none, a date that is taken, a step, a shift.
 -- Assumes nothing.
-use Prim.Native.Nat.{ℕ, suc, _-_, _≤_, _<_}
+use Prim.Native.Nat.{ℕ, _≤_}
 use mathlib.Core.Bool.{Bool, true, false, not}
 use mathlib.Core.Path.{_≡_, refl, sym, ap, _∙_}
 use native.Mathlib.Omega.{arith}

@@ -100,8 +100,9 @@ pub fn contrl_due_at_answer(instant: Reading, code: u8) -> Answer
     due_answer(0, fristen::contrl_due_at(received, anlass))
 }
 
-/// When the Strom APERAK on a UTILMD or ORDERS is due: 45 minutes after its receipt; "Saturday gives Sunday 12:00. Only
-/// Saturday is special": received Saturday, 10 January 2026, it is due on the 11th at 12:00 Berlin.
+/// When the Strom APERAK on a UTILMD or ORDERS is due: 45 minutes after its receipt; "Saturday gives Sunday 12:00".
+/// "Only Saturday is special": received Saturday, 10 January 2026, it is due on the 11th at 12:00 Berlin, received that
+/// Sunday, 45 minutes later.
 pub fn aperak_strom_due_at_answer(instant: Reading) -> Answer
     requires { ⌜ properReading instant ⌝ }
     ensures { λ r. ⌜ r ≡ aperakStromDueAtAnswer instant ⌝ }
@@ -237,7 +238,7 @@ pub fn nth_werktag_at_answer(
 }
 
 /// When an answer of a shape is due. "`SameDayAt` received exactly at the clock time goes to the next Werktag": 12:00,
-/// received 9 January 2026 12:00, is 12 January 12:00. "An absent clock there is refused" with 6. A clock or count that
+/// received 9 January 2026 12:00, is 12 January 12:00. "An absent clock there is refused", with 6. A clock or count that
 /// the shape does not use is not looked at.
 pub fn frist_due_at_answer(
     code: u8,

@@ -6,7 +6,7 @@
 --   bytes-below    : each byte of an answer whose refusal and kind fit theirs is below 256
 -- Source: document 01, 'Host calls and their refusals'.
 -- Assumes nothing.
-use Prim.Native.Nat.{ℕ, zero, suc, _+_, _*_, _/_, _%_, _<_}
+use Prim.Native.Nat.{ℕ, zero, suc, _/_, _%_, _<_}
 use mathlib.Core.Path.{_≡_, refl, ap, _∙_}
 use mathlib.Core.List.{List, [], _∷_, _++_}
 use native.Mathlib.Omega.{arith}

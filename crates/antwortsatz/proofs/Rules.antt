@@ -1,7 +1,7 @@
 -- What the proofs cite: each rule's premises have the form in which a proof has them, so that `search` finds the rule.
 --   call-rules    for every host call: its answer is what a definition gives, so what `reply` promises of the answer
 --                 holds of the definition
---   bytes-are     for `record_bytes`, whose seconds went through `bits_of`
+--   bytes-are     for `bytes_of`, whose seconds went through `bits_of`
 --   reply-rules   for `reply`: a slice of another length; one byte more is copied; all are copied
 -- Assumes nothing.
 use Prim.Native.Nat.{ℕ, _+_, _≤_, _<_}

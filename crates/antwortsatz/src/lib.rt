@@ -41,7 +41,8 @@ pub struct Answer {
     pub word28: u32,
 }
 
-/// An answer of all its fields: what every named answer is made by.
+/// An answer of all its fields, in the order of their bytes: what every named answer is made by. "Unused fields are
+/// zero": the day test of 2 April 2026, a Werktag, is `filled(0, 1, 0, 0, 0, 0, 0, 0)`.
 pub fn filled(
     refusal: u8,
     kind: u8,
@@ -66,7 +67,8 @@ pub fn filled(
     }
 }
 
-/// The date of a field that is not used.
+/// The date of a field that is not used, as the last of a span that has none: that of `LatestWerktageBefore(1)` for
+/// 10 January 2026.
 pub fn zero_date() -> Date
     ensures { λ r. ⌜ r ≡ zeroDate ⌝ }
 {
@@ -99,14 +101,14 @@ pub fn of_kind(kind: u8) -> Answer
     filled(0, kind, 0, 0, 0, 0, 0, 0)
 }
 
-/// A count alone: "a count [fills] the count".
+/// A count alone: "a count [fills] the count". The Werktage from 2 to 8 April 2026 are `counted(2)`.
 pub fn counted(count: u32) -> Answer
     ensures { λ r. ⌜ r ≡ counted count ⌝ }
 {
     filled(0, 0, count, 0, 0, 0, 0, 0)
 }
 
-/// A date alone: "A step fills the date".
+/// A date alone: "A step fills the date". 2 April 2026 plus 1 Werktag is `dated` of 7 April.
 pub fn dated(date: Date) -> Answer
     ensures { λ r. ⌜ r ≡ dated date ⌝ }
 {
@@ -114,7 +116,7 @@ pub fn dated(date: Date) -> Answer
 }
 
 /// An instant beside a kind: a clock on a date, a due instant. "A Gas due instant [has] kind 1 for the initial process,
-/// else 0", as has every other instant.
+/// else 0", as has every other instant. The Gas day 29 March 2026 begins `at_instant(0, 1774756800, 0)`.
 pub fn at_instant(kind: u8, seconds: i64, nanos: u32) -> Answer
     ensures { λ r. ⌜ r ≡ atInstant kind seconds nanos ⌝ }
 {
@@ -122,22 +124,24 @@ pub fn at_instant(kind: u8, seconds: i64, nanos: u32) -> Answer
 }
 
 /// A kind, a count of Werktage and a date: "A verdict has its Werktage in the count and its earliest date in the date."
+/// `LatestWerktageBefore(1)`, 10 January 2026 against the 12th, is `judged(1, 0, ..)` of the 12th.
 pub fn judged(kind: u8, count: u32, date: Date) -> Answer
     ensures { λ r. ⌜ r ≡ judged kind count date ⌝ }
 {
     filled(0, kind, count, 0, 0, date_word(date), 0, 0)
 }
 
-/// A kind and two dates: a span, "24 to 27 the span's last date".
+/// A kind and two dates: a span, "24 to 27 the span's last date". `LatestWerktageBefore(1)` for 10 January 2026 is
+/// `spanned(0, .., zero_date())` of 13 January: it has no last day.
 pub fn spanned(kind: u8, first: Date, last: Date) -> Answer
     ensures { λ r. ⌜ r ≡ spanned kind first last ⌝ }
 {
     filled(0, kind, 0, 0, 0, date_word(first), date_word(last), 0)
 }
 
-/// The 32 bytes of an answer, little-endian, no header.
-pub fn record_bytes(a: Answer) -> [u8; 32]
-    ensures { λ r. ⌜ r ≡ recordBytes a ⌝ }
+/// The 32 bytes of an answer, "little-endian, no header". Those of `refused(NO_DATE)` are 03 and 31 times 00.
+pub fn bytes_of(a: Answer) -> [u8; 32]
+    ensures { λ r. ⌜ r ≡ bytesOf a ⌝ }
 {
     let c = a.count;
     let s = zahlen::bits_of(a.seconds);
@@ -181,15 +185,15 @@ pub fn record_bytes(a: Answer) -> [u8; 32]
     ]
 }
 
-/// Writes the answer and returns its refusal number, if the slice has 32 bytes; else returns 1, and the slice stays.
-/// The one writer: every host call ends in it.
+/// Writes the answer and returns its refusal number, if the slice has 32 bytes; else returns 1, "which leaves the slice
+/// untouched", as one of 31 bytes. The one writer: every host call ends in it.
 pub fn reply(answer: &mut [u8], a: Answer) -> u8
     ensures { λ r. ⌜ (r, now (answer .exit)) ≡ reply (now (answer .entry)) a ⌝ }
 {
     if answer.len() != ANSWER_BYTES {
         return ANSWER_LENGTH;
     }
-    let b = record_bytes(a);
+    let b = bytes_of(a);
     let mut i = 0;
     while i < ANSWER_BYTES {
         answer[i] = b[i];

@@ -51,7 +51,7 @@ fn on(month: u8, day: u8) -> Date {
 
 // Whether the bytes that a call left are those of an answer.
 fn is_answer(left: &[u8; 32], a: Answer) -> bool {
-    let bytes = antwortsatz::record_bytes(a);
+    let bytes = antwortsatz::bytes_of(a);
     check::same(left, &bytes)
 }
 

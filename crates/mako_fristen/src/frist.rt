@@ -27,9 +27,9 @@ pub extern "C" fn mf_contrl_due_at(seconds: i64, nanos: u32, anlass: u8, answer:
     antwortsatz::reply(answer, a)
 }
 
-/// When the Strom APERAK on a UTILMD or ORDERS is due: 45 minutes after its receipt; "Saturday gives Sunday 12:00. Only
-/// Saturday is special .. Sundays and holidays get 45 minutes": received Saturday, 10 January 2026, it is due on the
-/// 11th at 12:00 Berlin.
+/// When the Strom APERAK on a UTILMD or ORDERS is due: 45 minutes after its receipt; "Saturday gives Sunday 12:00".
+/// "Only Saturday is special": received Saturday, 10 January 2026, it is due on the 11th at 12:00 Berlin, received that
+/// Sunday, 45 minutes later.
 #[no_mangle]
 pub extern "C" fn mf_aperak_strom_due_at(seconds: i64, nanos: u32, answer: &mut [u8]) -> u8
     ensures { λ r. ⌜

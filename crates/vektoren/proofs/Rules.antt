@@ -13,30 +13,30 @@ use borrow.Author.Tests.{lt-ltb, le-ltb, le-leb, lt-leb}
 use lib.Dec.{T}
 use lib.ListN.{length, getD, set, take, length-set}
 use lib.Seq.{take-all, take-suc, take-suc-set}
-use Rattle.vektoren.specs.Hex.{digitOf, byteAt, bytesAt}
+use Rattle.vektoren.specs.Hex.{digit, byteAt, bytesAt}
 
 pub never : {P : Type 0} → false ≡ true → P
 never e = absurd (subst T (sym e) tt)
 
 module _ (b : ℕ) where
-  pub below-0 : b < 48 → 16 ≡ digitOf b
-  unfolding digitOf
+  pub below-0 : b < 48 → 16 ≡ digit b
+  unfolding digit
   below-0 h = rw (lt-ltb b 48 h)
 
-  pub from-0-to-9 : 48 ≤ b → b ≤ 57 → b - 48 ≡ digitOf b
-  unfolding digitOf
+  pub from-0-to-9 : 48 ≤ b → b ≤ 57 → b - 48 ≡ digit b
+  unfolding digit
   from-0-to-9 h g = rw (le-ltb b 48 h, le-leb b 57 g)
 
-  pub between : 57 < b → b < 97 → 16 ≡ digitOf b
-  unfolding digitOf
+  pub between : 57 < b → b < 97 → 16 ≡ digit b
+  unfolding digit
   between h g = rw (le-ltb b 48 (omega arith), lt-leb b 57 h, lt-ltb b 97 g)
 
-  pub from-a-to-f : 97 ≤ b → b ≤ 102 → b - 97 + 10 ≡ digitOf b
-  unfolding digitOf
+  pub from-a-to-f : 97 ≤ b → b ≤ 102 → b - 97 + 10 ≡ digit b
+  unfolding digit
   from-a-to-f h g = rw (le-ltb b 48 (omega arith), lt-leb b 57 (omega arith), le-ltb b 97 h, le-leb b 102 g)
 
-  pub above-f : 102 < b → 16 ≡ digitOf b
-  unfolding digitOf
+  pub above-f : 102 < b → 16 ≡ digit b
+  unfolding digit
   above-f h = rw (le-ltb b 48 (omega arith), lt-leb b 57 (omega arith), le-ltb b 97 (omega arith), lt-leb b 102 h)
 
 pub ruleset digit-rules = (below-0, from-0-to-9, between, from-a-to-f, above-f)
@@ -54,7 +54,7 @@ bytes-getD l i (suc k) (suc j) h = bytes-getD l (i + 2) k j (omega arith) ∙ ap
 
 pub hex-more :
     (l out : List ℕ) (from i high low : ℕ) →
-    high ≡ digitOf (getD l (from + 2 * i) 0) → low ≡ digitOf (getD l (from + 2 * i + 1) 0) →
+    high ≡ digit (getD l (from + 2 * i) 0) → low ≡ digit (getD l (from + 2 * i + 1) 0) →
     length out ≡ 32 → i < 32 → take i out ≡ take i (bytesAt l from 32) →
     take (i + 1) (set out i (high * 16 + low)) ≡ take (i + 1) (bytesAt l from 32)
 unfolding byteAt

@@ -10,7 +10,7 @@ ghost use mathlib.Core.Bool.{true};
 ghost use mathlib.Core.Path.{_≡_};
 ghost use Prim.Native.Nat.{_≤_};
 ghost use lib.ListN.{length, getD};
-ghost use Rattle.vektoren.specs.Hex.{digitOf, bytesAt};
+ghost use Rattle.vektoren.specs.Hex.{digit, bytesAt};
 use libc::STDIN_FILENO;
 use libc::STDOUT_FILENO;
 
@@ -47,7 +47,7 @@ struct Replay {
 
 // The value of a lower-case hexadecimal digit; 16 for any other byte.
 fn digit(b: u8) -> u8
-    ensures { λ r. ⌜ (r ≡ digitOf b) × (r ≤ 16) ⌝ }
+    ensures { λ r. ⌜ (r ≡ digit b) × (r ≤ 16) ⌝ }
 {
     if b < b'0' {
         return 16;

@@ -68,16 +68,19 @@ module _ (x : ℤ) (f : SFits w64 x) where
   cast-sign = negative (λ z. T (nonNeg (back (flipped z)))) (λ n k. rw (flip-is n k, toZ-ofZ (as-pos n k)) tt)
 
   pub cast-fits : ltZ (back x) (pos 0) ≡ true → Fits w64 (natAbs (back (flipped x)))
-  cast-fits = negative (λ z. Fits w64 (natAbs (back (flipped z))))
+  cast-fits =
+      negative (λ z. Fits w64 (natAbs (back (flipped z))))
       (λ n k. rw (flip-is n k, toZ-ofZ (as-pos n k)) (omega (arith, k .sfits)))
 
   pub top-asks : ltZ (back x) (pos 0) ≡ true → natAbs (back (flipped x)) ≤ 18446744073709551615
-  top-asks = negative (λ z. natAbs (back (flipped z)) ≤ 18446744073709551615)
+  top-asks =
+      negative (λ z. natAbs (back (flipped z)) ≤ 18446744073709551615)
       (λ n k. rw (flip-is n k, toZ-ofZ (as-pos n k)) (omega (arith, k .sfits)))
 
   pub bits-negative : ltZ (back x) (pos 0) ≡ true → 18446744073709551615 - natAbs (back (flipped x)) ≡ bitsOf x
   unfolding bitsIn
-  bits-negative = negative (λ z. 18446744073709551615 - natAbs (back (flipped z)) ≡ bitsOf z)
+  bits-negative =
+      negative (λ z. 18446744073709551615 - natAbs (back (flipped z)) ≡ bitsOf z)
       (λ n k. rw (flip-is n k, toZ-ofZ (as-pos n k)) (omega arith))
 
   pub natural-sign : ltZ (back x) (pos 0) ≡ false → T (nonNeg (back x))

@@ -18,8 +18,8 @@ abbrev μ-loop : tie.MeasureT-loop
 returns : tie.Need-returns Inv-loop μ-loop
 returns c = search (needs, reply-rules, c .if1 .taken)
 
-record-bytes-requires : tie.Need-record-bytes-requires Inv-loop μ-loop
-record-bytes-requires c κs = search needs
+bytes-of-requires : tie.Need-bytes-of-requires Inv-loop μ-loop
+bytes-of-requires c κs = search needs
 
 loop-holds : tie.Need-loop-holds Inv-loop μ-loop
 loop-holds c = search needs
@@ -52,7 +52,7 @@ reply-spec =
     Inv-loop
     μ-loop
     returns
-    record-bytes-requires
+    bytes-of-requires
     loop-holds
     array-read-answer
     slice-write-answer

@@ -1,10 +1,10 @@
--- `antwortsatz::record_bytes` meets its contract: the array is the definition, element by element, by computation, and
+-- `antwortsatz::bytes_of` meets its contract: the array is the definition, element by element, by computation, and
 -- `bits_of` gives the bits of the seconds.
 -- Assumes nothing.
 use Rattle.antwortsatz.proofs.Rules.{bytes-are}
 use borrow.Author.Needs.{needs}
-use Rattle.antwortsatz.proofs.record_bytes.Statement.{statement}
-use Rattle.antwortsatz.proofs.record_bytes.Tie as tie
+use Rattle.antwortsatz.proofs.bytes_of.Statement.{statement}
+use Rattle.antwortsatz.proofs.bytes_of.Tie as tie
 
 bits-of-requires : tie.Need-bits-of-requires
 bits-of-requires c κs = search needs
@@ -96,8 +96,8 @@ cast-t85 c = search needs
 returns : tie.Need-returns
 returns c = search (needs, bytes-are)
 
-pub record-bytes-spec : {M : Type 1} → statement M
-record-bytes-spec =
+pub bytes-of-spec : {M : Type 1} → statement M
+bytes-of-spec =
     tie.close
     (tie.spec
     bits-of-requires
