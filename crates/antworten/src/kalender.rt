@@ -61,8 +61,8 @@ pub fn next_werktag_answer(date: Date, cal: HolidayCalendar) -> Answer
     step_answer(schritte::next_werktag(from, cal))
 }
 
-/// The n-th Werktag after a date; "with 0 give the date unchanged, Werktag or not": 2 April 2026 plus 1 is 7 April, 4 April,
-/// a Saturday, plus 0 is 4 April.
+/// The n-th Werktag after a date; "with 0 give the date unchanged, Werktag or not": 2 April 2026 plus 1 is 7 April, 4
+/// April, a Saturday, plus 0 is 4 April.
 pub fn add_werktage_answer(date: Date, n: u32, cal: HolidayCalendar) -> Answer
     ensures { λ r. ⌜ r ≡ addWerktageAnswer (isWerktag cal) date n ⌝ }
 {

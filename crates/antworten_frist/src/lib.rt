@@ -238,8 +238,8 @@ pub fn nth_werktag_at_answer(
 }
 
 /// When an answer of a shape is due. "`SameDayAt` received exactly at the clock time goes to the next Werktag": 12:00,
-/// received 9 January 2026 12:00, is 12 January 12:00. "An absent clock there is refused", with 6. A clock or count that
-/// the shape does not use is not looked at.
+/// received 9 January 2026 12:00, is 12 January 12:00. "An absent clock there is refused", with 6. A clock or count
+/// that the shape does not use is not looked at.
 pub fn frist_due_at_answer(
     code: u8,
     werktage: u32,

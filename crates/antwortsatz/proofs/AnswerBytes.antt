@@ -17,19 +17,19 @@ use Rattle.zahlen.specs.TwosComplement.{bitsIn, bitsOf}
 use Rattle.zahlen.proofs.RoundTrip.{Below, below-append, le-below, le4-is, le8-is, u32-bytes}
 use Rattle.zahlen.proofs.RoundTrip.Below.{none, more}
 use Rattle.antwortsatz.specs.declared.Answer.{Answer}
-use Rattle.antwortsatz.specs.Bytes.{recordBytes}
+use Rattle.antwortsatz.specs.Bytes.{bytesOf}
 use Rattle.antwortsatz.specs.Answers.{dateWord, refused}
 
-pub bytes-length : (a : Answer) → length (recordBytes a) ≡ 32
-unfolding recordBytes
+pub bytes-length : (a : Answer) → length (bytesOf a) ≡ 32
+unfolding bytesOf
 bytes-length a = refl
 
 abbrev pub zeros : ℕ → List ℕ
 zeros zero = []
 zeros (suc n) = 0 ∷ zeros n
 
-pub refusal-bytes : (x : ℕ) → recordBytes (refused x) ≡ x ∷ zeros 31
-unfolding recordBytes refused bitsIn
+pub refusal-bytes : (x : ℕ) → bytesOf (refused x) ≡ x ∷ zeros 31
+unfolding bytesOf refused bitsIn
 refusal-bytes x = refl
 
 pub date-bytes :
@@ -48,8 +48,8 @@ below-le8 x = rw le8-is (le-below 8 x)
 null : 0 < 256
 null = omega arith
 
-pub bytes-below : (a : Answer) → a .refusal < 256 → a .kind < 256 → Below (recordBytes a)
-unfolding recordBytes
+pub bytes-below : (a : Answer) → a .refusal < 256 → a .kind < 256 → Below (bytesOf a)
+unfolding bytesOf
 bytes-below a r k =
     more r (more k (more null (more null
     (below-append (below-le4 (a .count))

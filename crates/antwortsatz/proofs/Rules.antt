@@ -18,7 +18,7 @@ use lib.Seq.{take-all, take-suc, take-suc-set}
 use Rattle.datum.proofs.Signed.{back}
 use Rattle.zahlen.specs.TwosComplement.{bitsOf}
 use Rattle.antwortsatz.specs.declared.Answer.{Answer}
-use Rattle.antwortsatz.specs.Bytes.{laid, recordBytes, reply}
+use Rattle.antwortsatz.specs.Bytes.{laid, bytesOf, reply}
 use Rattle.antwortsatz.proofs.AnswerBytes.{bytes-length}
 
 pub call-replied :
@@ -29,8 +29,8 @@ call-replied l l′ a b r e p = rw (← e) p
 pub ruleset call-rules = (call-replied)
 
 pub bytes-are :
-    (a : Answer) (s : ℕ) → SFits w64 (a .seconds) → s ≡ bitsOf (back (a .seconds)) → laid a s ≡ recordBytes a
-unfolding recordBytes
+    (a : Answer) (s : ℕ) → SFits w64 (a .seconds) → s ≡ bitsOf (back (a .seconds)) → laid a s ≡ bytesOf a
+unfolding bytesOf
 bytes-are a s f e = rw (e, toZ-ofZ f)
 
 pub reply-other : (l : List ℕ) (a : Answer) → (length l ≡ 32 → ⊥) → (1, l) ≡ reply l a
@@ -39,7 +39,7 @@ reply-other l a h = rw (ne-eqb (length l) 32 h)
 
 pub copy-more :
     (l b : List ℕ) (a : Answer) (i : ℕ) →
-    b ≡ recordBytes a → length l ≡ 32 → i < 32 → take i l ≡ take i b →
+    b ≡ bytesOf a → length l ≡ 32 → i < 32 → take i l ≡ take i b →
     take (i + 1) (set l i (getD b i 0)) ≡ take (i + 1) b
 copy-more l b a i e n h t =
     let m = ap length e ∙ bytes-length a in
@@ -50,12 +50,12 @@ copy-length l i x n = simp length-set n
 
 pub reply-done :
     (l l′ b : List ℕ) (a : Answer) (i : ℕ) →
-    length l ≡ 32 → b ≡ recordBytes a → take i l′ ≡ take i b → length l′ ≡ 32 → 32 ≤ i →
+    length l ≡ 32 → b ≡ bytesOf a → take i l′ ≡ take i b → length l′ ≡ 32 → 32 ≤ i →
     (a .refusal, l′) ≡ reply l a
 unfolding reply
 reply-done l l′ b a i h e t g m =
     let n = ap length e ∙ bytes-length a in
-    let w : l′ ≡ recordBytes a = sym (take-all i l′ (omega arith)) ∙ t ∙ take-all i b (omega arith) ∙ e in
+    let w : l′ ≡ bytesOf a = sym (take-all i l′ (omega arith)) ∙ t ∙ take-all i b (omega arith) ∙ e in
     rw (eq-eqb (length l) 32 h, w)
 
 pub ruleset reply-rules = (reply-other, copy-more, copy-length, reply-done)

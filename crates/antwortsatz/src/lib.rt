@@ -1,6 +1,6 @@
 // The answer of a host call: its fields, its 32 bytes, and the one function that writes them. It knows no calendar.
 ghost use mathlib.Core.Path.{_≡_};
-ghost use Rattle.antwortsatz.specs.Bytes.{recordBytes, reply};
+ghost use Rattle.antwortsatz.specs.Bytes.{bytesOf, reply};
 ghost use Rattle.antwortsatz.specs.Answers.{zeroDate, dateWord, filled, refused, ofKind, counted, dated};
 ghost use Rattle.antwortsatz.specs.Answers.{atInstant, judged, spanned};
 use datum::Date;

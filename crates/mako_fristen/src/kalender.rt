@@ -37,8 +37,8 @@ pub extern "C" fn mf_next_werktag(year: u16, month: u8, day: u8, answer: &mut [u
     antwortsatz::reply(answer, a)
 }
 
-/// The n-th Werktag after a date; "with 0 give the date unchanged, Werktag or not": 2 April 2026 plus 1 is 7 April, 4 April,
-/// a Saturday, plus 0 is 4 April.
+/// The n-th Werktag after a date; "with 0 give the date unchanged, Werktag or not": 2 April 2026 plus 1 is 7 April, 4
+/// April, a Saturday, plus 0 is 4 April.
 #[no_mangle]
 pub extern "C" fn mf_add_werktage(year: u16, month: u8, day: u8, n: u32, answer: &mut [u8]) -> u8
     ensures { λ r. ⌜
