@@ -3,11 +3,10 @@
 --   by-86400     the facts of the divisor 86,400, for floor division
 --   not-below    from 1970 on the machine's remainder is not negative
 --   limit-rules  inside the first and the last day of the limits the second decides
---   Natural      seconds from the first day on: they are a natural number, and day and second are those of unsigned
---                division
+--   Natural      seconds from 1970 on: they are a natural number, and day and second are those of unsigned division
 --   read-rules   a lemma for each return of `read_instant`
 -- Assumes nothing.
-use Prim.Native.Nat.{ℕ, _+_, _*_, _/_, _%_, _≤_, _<_}
+use Prim.Native.Nat.{ℕ, _+_, _*_, _/_, _%_, _^_, _≤_, _<_}
 use mathlib.Core.Bool.{Bool, true, false, not}
 use mathlib.Core.Path.{_≡_, refl, sym, ap, _∙_}
 use native.Mathlib.Omega.{arith}
@@ -15,17 +14,19 @@ use native.Mathlib.Decide.{decLe, decLt}
 use lib.Dec.{T, leb, ltb}
 use lib.IntN.{ℤ, pos, negsuc, natAbs}
 use lib.Signed.{ltZ, leZ, remZ, mag-rem, nonNeg}
-use borrow.Author.Tests.{ltb-true, ltb-false, lt-ltb, le-ltb, le-leb, lt-leb, not-true, not-false}
+use borrow.Author.Tests.{ltb-true, lt-ltb, le-ltb, leb-true, le-leb, lt-leb, not-true, not-false}
 use mir.Syntax.{w32, w64}
 use mir.Val.{Fits, SFits, toZ}
 use mir.Facts.{toZ-ofZ}
 use mir.ValLaws.{sfits-le}
 use Rattle.datum.specs.Floor.{floorDiv, floorMod}
+use Rattle.datum.proofs.Dates.{and-right}
 use Rattle.datum.proofs.Signed.{back, clash, back-pos}
 use Rattle.datum.proofs.FloorLaws.{Steps, mag-floor}
 use Rattle.berlin.specs.declared.Moment.{Moment}
 use Rattle.berlin.specs.declared.Reading.the-variants.{At, NoInstant}
-use Rattle.berlin.specs.Berlin.{momentOf, secondsOf, firstSecond, lastSecond, inLimits, readInstant}
+use Rattle.berlin.specs.Berlin.{momentOf, secondsOf, firstSecond, lastSecond, isByLast, inLimits}
+use Rattle.berlin.specs.Berlin.{readInstant}
 use Rattle.berlin.specs.Inside.{Proper}
 
 pub by-86400 : Steps 86400
@@ -49,8 +50,21 @@ pub not-below :
 not-below s f h =
     rw (toZ-ofZ f, toZ-ofZ (sfits-le (mag-rem s (pos 86400)) f)) (rest-at s (rw (toZ-ofZ f) at h))
 
--- in_limits: inside the first and the last day the second decides
+-- is_by_last, in_limits: inside the first and the last day the second decides
 module _ (d t : ℕ) (h : t < 86400) where
+  pub by-last : d < 339675 → true ≡ isByLast (d * 86400 + t)
+  by-last g = sym (le-leb (d * 86400 + t) lastSecond (omega arith))
+
+  pub past-last : 339675 ≤ d → 339675 < d → false ≡ isByLast (d * 86400 + t)
+  past-last f g = sym (lt-leb (d * 86400 + t) lastSecond (omega arith))
+
+  pub last-day : 339675 ≤ d → d ≤ 339675 → ltb t 82800 ≡ isByLast (d * 86400 + t)
+  last-day f g =
+      elim (decLt t 82800) [
+        | yes l ↦ rw (lt-ltb t 82800 l, le-leb (d * 86400 + t) lastSecond (omega arith))
+        | no l ↦ rw (le-ltb t 82800 (omega arith), lt-leb (d * 86400 + t) lastSecond (omega arith))
+      ]
+
   pub too-early : d < 9495 → false ≡ inLimits (d * 86400 + t)
   unfolding inLimits
   too-early g = rw (lt-leb firstSecond (d * 86400 + t) (omega arith))
@@ -67,44 +81,17 @@ module _ (d t : ℕ) (h : t < 86400) where
         | no l ↦ rw (lt-leb 82800 t (omega arith), lt-leb firstSecond (d * 86400 + t) (omega arith))
       ]
 
-  pub too-late : 339675 < d → false ≡ inLimits (d * 86400 + t)
+  pub after-first : (r : Bool) → 9495 < d → r ≡ isByLast (d * 86400 + t) → r ≡ inLimits (d * 86400 + t)
   unfolding inLimits
-  too-late g = rw (le-leb firstSecond (d * 86400 + t) (omega arith), lt-leb (d * 86400 + t) lastSecond (omega arith))
+  after-first r g p = rw (le-leb firstSecond (d * 86400 + t) (omega arith)) p
 
-  pub last-day : 339675 ≤ d → d ≤ 339675 → ltb t 82800 ≡ inLimits (d * 86400 + t)
-  unfolding inLimits
-  last-day f g =
-      elim (decLt t 82800) [
-        | yes l ↦ rw (
-          lt-ltb t 82800 l,
-          le-leb firstSecond (d * 86400 + t) (omega arith),
-          le-leb (d * 86400 + t) lastSecond (omega arith),
-        )
-        | no l ↦ rw (
-          le-ltb t 82800 (omega arith),
-          le-leb firstSecond (d * 86400 + t) (omega arith),
-          lt-leb (d * 86400 + t) lastSecond (omega arith),
-        )
-      ]
+pub ruleset limit-rules = (by-last, past-last, last-day, too-early, first-day, after-first)
 
-  pub between : 9495 < d → d < 339675 → true ≡ inLimits (d * 86400 + t)
-  unfolding inLimits
-  between f g = rw (le-leb firstSecond (d * 86400 + t) (omega arith), le-leb (d * 86400 + t) lastSecond (omega arith))
-
-pub ruleset limit-rules = (too-early, first-day, too-late, last-day, between)
-
--- read_instant: z is the number in the local s; day 9,495 is the first that has an instant, day 339,675 the last
-early-at : (z : ℤ) (x : ℕ) → ltZ (floorDiv z 86400) (pos 9495) ≡ true → NoInstant ≡ readInstant z x
-unfolding readInstant inLimits floorDiv
-early-at (pos a) x h = let l = ltb-true (a / 86400) 9495 h in rw (lt-leb firstSecond a (omega arith))
-early-at (negsuc a) x h = refl
-
-late-at : (z : ℤ) (x : ℕ) → ltZ (pos 339675) (floorDiv z 86400) ≡ true → NoInstant ≡ readInstant z x
-unfolding readInstant inLimits floorDiv
-late-at (pos a) x h =
-    let l = ltb-true 339675 (a / 86400) h in
-    rw (le-leb firstSecond a (omega arith), lt-leb a lastSecond (omega arith))
-late-at (negsuc a) x h = refl
+-- read_instant: z is the number in the local s
+negative-at : (z : ℤ) (x : ℕ) → ltZ (floorDiv z 86400) (pos 0) ≡ true → NoInstant ≡ readInstant z x
+unfolding readInstant floorDiv
+negative-at (pos a) x h = let l = ltb-true (a / 86400) 0 h in absurd (omega arith)
+negative-at (negsuc a) x h = refl
 
 outside-at : (z : ℤ) (a x : ℕ) → z ≡ pos a → inLimits a ≡ false → NoInstant ≡ readInstant z x
 unfolding readInstant
@@ -124,50 +111,44 @@ pub record Natural (s d r : ℤ) : Type 0 where
   pub is : s ≡ pos seconds
   pub day : back d ≡ pos (seconds / 86400)
   pub second : back r ≡ pos (seconds % 86400)
-  pub to : seconds / 86400 ≤ 339675
+  pub few : seconds < 2 ^ 63
 
 natural-at :
-    (s d r z : ℤ) → s ≡ z → d ≡ floorDiv z 86400 → r ≡ floorMod z 86400 → ltZ (floorDiv z 86400) (pos 9495) ≡ false →
-    ltZ (pos 339675) (floorDiv z 86400) ≡ false → Natural s d r
+    (s d r z : ℤ) → s ≡ z → SFits w64 z → d ≡ floorDiv z 86400 → r ≡ floorMod z 86400 →
+    ltZ (floorDiv z 86400) (pos 0) ≡ false → Natural s d r
 unfolding floorDiv floorMod
-natural-at s d r (pos a) q e f h g =
-    let l = ltb-false 339675 (a / 86400) g in
+natural-at s d r (pos a) q k e f h =
     record {
       seconds = a;
       is = q;
-      day = rw e (back-pos (a / 86400) (omega arith));
+      day = rw e (back-pos (a / 86400) (omega (arith, k .sfits)));
       second = rw f (back-pos (a % 86400) (omega arith));
-      to = l;
+      few = k .sfits;
     }
-natural-at s d r (negsuc a) q e f h g = clash true refl h
+natural-at s d r (negsuc a) q k e f h = clash true refl h
 
 -- d and r are what `split_instant` returned, b what `in_limits` returned
 module _ (s : ℤ) (x : ℕ) (f : SFits w64 s) (d : ℤ) (e : d ≡ floorDiv (back s) 86400) where
   day-is : back d ≡ floorDiv s 86400
   day-is = rw (e, toZ-ofZ f) (toZ-ofZ (sfits-le (mag-floor 86400 by-86400 s) f))
 
-  pub read-early : ltZ (back d) (pos 9495) ≡ true → NoInstant ≡ readInstant s x
-  read-early h = early-at s x (rw day-is at h)
+  pub read-negative : ltZ (back d) (pos 0) ≡ true → NoInstant ≡ readInstant s x
+  read-negative h = negative-at s x (rw day-is at h)
 
-  pub read-late : ltZ (pos 339675) (back d) ≡ true → NoInstant ≡ readInstant s x
-  read-late h = late-at s x (rw day-is at h)
-
-  module _ (r : ℤ) (k : r ≡ floorMod (back s) 86400) (h : ltZ (back d) (pos 9495) ≡ false)
-      (g : ltZ (pos 339675) (back d) ≡ false) where
+  module _ (r : ℤ) (k : r ≡ floorMod (back s) 86400) (h : ltZ (back d) (pos 0) ≡ false) where
     natural : Natural s d r
-    natural =
-        natural-at s d r s refl (rw (toZ-ofZ f) at e) (rw (toZ-ofZ f) at k) (rw day-is at h) (rw day-is at g)
+    natural = natural-at s d r s refl f (rw (toZ-ofZ f) at e) (rw (toZ-ofZ f) at k) (rw day-is at h)
 
     pub day-sign : T (nonNeg (back d))
     day-sign = rw (natural .day) tt
 
-    pub day-small : Fits w32 (natAbs (back d))
+    pub day-small : Fits w64 (natAbs (back d))
     day-small = let q = natural in rw (q .day) (record { fits = omega arith })
 
     pub second-sign : T (nonNeg (back r))
     second-sign = rw (natural .second) tt
 
-    pub second-small : Fits w32 (natAbs (back r))
+    pub second-small : Fits w64 (natAbs (back r))
     second-small = let q = natural in rw (q .second) (record { fits = omega arith })
 
     pub second-less : natAbs (back r) < 86400
@@ -179,6 +160,16 @@ module _ (s : ℤ) (x : ℕ) (f : SFits w64 s) (d : ℤ) (e : d ≡ floorDiv (ba
     module _ (b : Bool) (l : b ≡ inLimits (natAbs (back d) * 86400 + natAbs (back r))) where
       limits-are : (y : Bool) → b ≡ y → inLimits (natural .seconds) ≡ y
       limits-are y p = ap inLimits (sym sum-is) ∙ sym l ∙ p
+
+      pub day-narrow : not b ≡ false → Fits w32 (natAbs (back d))
+      unfolding inLimits
+      day-narrow p =
+          let q = natural in
+          let l = leb-true (q .seconds) lastSecond (and-right (leb firstSecond (q .seconds)) _ (limits-are true (not-false b p))) in
+          rw (q .day) (record { fits = omega arith })
+
+      pub second-narrow : not b ≡ false → Fits w32 (natAbs (back r))
+      second-narrow p = let q = natural in rw (q .second) (record { fits = omega arith })
 
       pub read-outside : not b ≡ true → NoInstant ≡ readInstant s x
       read-outside p = outside-at s (natural .seconds) x (natural .is) (limits-are false (not-true b p))
@@ -196,8 +187,7 @@ module _ (s : ℤ) (x : ℕ) (f : SFits w64 s) (d : ℤ) (e : d ≡ floorDiv (ba
           a ∙ inside-at s (q .seconds) x (q .is) (limits-are true (not-false b p)) n
 
 pub ruleset read-rules = (
-  read-early,
-  read-late,
+  read-negative,
   day-sign,
   day-small,
   second-sign,

@@ -7,7 +7,8 @@
 --   dayStart i             = 00:00 UTC of the day with index i
 --   momentOf s x           = second s and nanoseconds x as a Moment; secondsOf m = the seconds of a Moment
 --   isBefore a b           = whether the instant a is earlier than b; sameInstant a b = whether they are one
---   firstSecond lastSecond = the limits of an instant's seconds; inLimits s = whether s lies inside them
+--   firstSecond lastSecond = the limits of an instant's seconds; inLimits s = whether s lies inside them, isByLast s =
+--                            whether it is not after the last
 --   readInstant s x        = the instant of a host's numbers, or NoInstant
 --   readClock h m s x      = the time of day of a host's numbers, or NoClock
 --   lastSunday y m         = the last Sunday of March (m = 3) or October (m = 10)
@@ -87,8 +88,11 @@ firstSecond = 820450800
 abbrev pub lastSecond : ℕ
 lastSecond = 29348002799
 
+abbrev pub isByLast : ℕ → Bool
+isByLast s = leb s lastSecond
+
 unfoldable pub inLimits : ℕ → Bool
-inLimits s = leb firstSecond s && leb s lastSecond
+inLimits s = leb firstSecond s && isByLast s
 
 -- '4, instant outside its limits'; 'nanoseconds 0 to 999,999,999'
 unfoldable pub readInstant : ℤ → ℕ → Reading

@@ -12,7 +12,7 @@ ghost use Rattle.zaehlung.specs.Walk.{last};
 ghost use Rattle.datum.specs.Calendar.{weekday};
 ghost use Rattle.datum.specs.Floor.{floorDiv, floorMod};
 ghost use Rattle.berlin.specs.Berlin.{daySeconds, hours, oClock, dayStart, momentOf, secondsOf};
-ghost use Rattle.berlin.specs.Berlin.{isBefore, inLimits, readInstant, readClock, lastSunday, offsetAt, localOf};
+ghost use Rattle.berlin.specs.Berlin.{isBefore, isByLast, inLimits, readInstant, readClock, lastSunday, offsetAt, localOf};
 ghost use Rattle.berlin.specs.Berlin.{berlinDate, berlinAt, resolvedOr, berlinMidnight, endOfDayBerlin};
 ghost use Rattle.berlin.specs.Berlin.{tagesbeginnUtc, tagDesBeginns};
 ghost use Rattle.berlin.specs.Inside.{Proper, ProperClock, guessedYear};
@@ -92,15 +92,11 @@ const MOST_NANOS: u32 = 999999999;
 const CALENDAR_START: u32 = 9496;
 
 /// The calendar's first day begins in Berlin at 23:00 UTC of the day before, and its last ends at 23:00 UTC.
-const FIRST_UTC_DAY: u32 = CALENDAR_START - 1;
+const FIRST_UTC_DAY: u64 = (CALENDAR_START - 1) as u64;
 
-const LAST_UTC_DAY: u32 = CALENDAR_START + LAST;
+const LAST_UTC_DAY: u64 = (CALENDAR_START + LAST) as u64;
 
-const FIRST_SIGNED: i64 = FIRST_UTC_DAY as i64;
-
-const LAST_SIGNED: i64 = LAST_UTC_DAY as i64;
-
-const EDGE: u32 = 23 * HOUR;
+const EDGE: u64 = (23 * HOUR) as u64;
 
 /// How far Berlin is ahead of UTC.
 const WINTER: u32 = HOUR;
@@ -179,11 +175,26 @@ pub fn split_instant(s: i64) -> Split
     Split { utcday, second }
 }
 
-/// Whether an instant, by its UTC day and second, has a Berlin day of the calendar: from 31 December 1995 23:00 UTC to
-/// before 31 December 2899 23:00 UTC.
+/// Whether an instant, by its UTC day and second, is not after the calendar's last, 31 December 2899 23:00 UTC less a
+/// nanosecond.
 ///
-/// Day 9,495 counts from second 82,800 on, day 339,675 up to second 82,799.
-pub fn in_limits(utcday: u32, second: u32) -> bool
+/// Day 339,675 counts up to second 82,799.
+pub fn is_by_last(utcday: u64, second: u64) -> bool
+    requires { ⌜ second < daySeconds ⌝ }
+    ensures { λ r. ⌜ r ≡ isByLast (utcday * daySeconds + second) ⌝ }
+{
+    if utcday < LAST_UTC_DAY {
+        return true;
+    }
+    if LAST_UTC_DAY < utcday {
+        return false;
+    }
+    second < EDGE
+}
+
+/// Whether an instant, by its UTC day and second, has a Berlin day of the calendar: day 9,495 counts from second 82,800
+/// on, 31 December 1995 23:00 UTC.
+fn in_limits(utcday: u64, second: u64) -> bool
     requires { ⌜ second < daySeconds ⌝ }
     ensures { λ r. ⌜ r ≡ inLimits (utcday * daySeconds + second) ⌝ }
 {
@@ -193,13 +204,7 @@ pub fn in_limits(utcday: u32, second: u32) -> bool
         }
         return EDGE <= second;
     }
-    if LAST_UTC_DAY <= utcday {
-        if LAST_UTC_DAY < utcday {
-            return false;
-        }
-        return second < EDGE;
-    }
-    true
+    is_by_last(utcday, second)
 }
 
 /// The instant of a host's numbers: 'signed whole seconds since 1970-01-01T00:00Z and nanoseconds 0 to 999,999,999;
@@ -211,14 +216,11 @@ pub fn read_instant(seconds: i64, nanos: u32) -> Reading
     ensures { λ r. ⌜ r ≡ readInstant seconds nanos ⌝ }
 {
     let at = split_instant(seconds);
-    if at.utcday < FIRST_SIGNED {
+    if at.utcday < 0 {
         return Reading::NoInstant;
     }
-    if LAST_SIGNED < at.utcday {
-        return Reading::NoInstant;
-    }
-    let utcday = at.utcday as u32;
-    let second = at.second as u32;
+    let utcday = at.utcday as u64;
+    let second = at.second as u64;
     if !in_limits(utcday, second) {
         return Reading::NoInstant;
     }
@@ -226,8 +228,8 @@ pub fn read_instant(seconds: i64, nanos: u32) -> Reading
         return Reading::NoInstant;
     }
     Reading::At(Moment {
-        utcday,
-        second,
+        utcday: utcday as u32,
+        second: second as u32,
         nanos,
     })
 }

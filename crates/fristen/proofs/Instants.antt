@@ -8,10 +8,11 @@ use Prim.Native.Nat.{ℕ, _+_, _*_, _/_, _%_, _≤_, _<_}
 use mathlib.Core.Bool.{Bool, true, false}
 use mathlib.Core.Path.{_≡_, sym, ap, _∙_}
 use native.Mathlib.Omega.{arith}
+use borrow.Author.Tests.{le-leb}
 use mir.Syntax.{w32}
 use mir.Val.{Fits}
 use Rattle.berlin.specs.declared.Moment.{Moment}
-use Rattle.berlin.specs.Berlin.{hours, momentOf, secondsOf, inLimits}
+use Rattle.berlin.specs.Berlin.{hours, momentOf, secondsOf, firstSecond, isByLast, inLimits}
 use Rattle.berlin.specs.Inside.{Proper}
 use Rattle.berlin.proofs.Found.{seconds-moment}
 use Rattle.berlin.proofs.Proper.{limits-hold}
@@ -42,10 +43,14 @@ module _ (m : Moment) (p : Proper m) where
     sum-seconds : secondsOf sum ≡ secondsOf m + (d * 86400 + t)
     sum-seconds = omega arith
 
-    -- b is what `in_limits` returned
-    module _ (b : Bool) (e : b ≡ inLimits (secondsOf sum)) where
+    -- b is what `is_by_last` returned; a sum is never before the first instant
+    module _ (b : Bool) (e : b ≡ isByLast (secondsOf sum)) where
+      sum-limits : inLimits (secondsOf sum) ≡ b
+      unfolding inLimits
+      sum-limits = rw (le-leb firstSecond (secondsOf sum) (omega (arith, p .from))) (sym e)
+
       limits-are : (y : Bool) → b ≡ y → inLimits (secondsOf m + (d * 86400 + t)) ≡ y
-      limits-are y q = ap inLimits (sym sum-seconds) ∙ sym e ∙ q
+      limits-are y q = ap inLimits (sym sum-seconds) ∙ sum-limits ∙ q
 
       pub later-in : b ≡ true → At sum ≡ instantLater m (d * 86400 + t)
       unfolding instantLater
@@ -56,7 +61,7 @@ module _ (m : Moment) (p : Proper m) where
 
       pub later-proper : b ≡ true → Proper sum
       later-proper y =
-          let l = limits-hold (secondsOf sum) (sym e ∙ y) in
+          let l = limits-hold (secondsOf sum) (sum-limits ∙ y) in
           record { second-lt = omega arith; nanos-le = p .nanos-le; from = l .0; to = l .1 }
 
       pub later-out : b ≡ false → Outside ≡ instantLater m (d * 86400 + t)

@@ -56,7 +56,7 @@ fn instant_later(from: Moment, days: u32, seconds: u32) -> Due
         second: second % DAY,
         nanos: from.nanos,
     };
-    if berlin::in_limits(due.utcday, due.second) {
+    if berlin::is_by_last(due.utcday as u64, due.second as u64) {
         return Due::At(due);
     }
     Due::Outside

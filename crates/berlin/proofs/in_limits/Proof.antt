@@ -1,4 +1,4 @@
--- `berlin::in_limits` meets its contract: inside the first and the last day the second decides.
+-- `berlin::in_limits` meets its contract: inside the first day the second decides, and from the next on `is_by_last`.
 -- Assumes nothing.
 use Rattle.berlin.proofs.Instants.{limit-rules}
 use borrow.Author.Needs.{needs}
@@ -11,14 +11,11 @@ returns c = search (needs, limit-rules)
 returns-2 : tie.Need-returns-2
 returns-2 c = search (needs, limit-rules)
 
+is-by-last-requires : tie.Need-is-by-last-requires
+is-by-last-requires c κs = search needs
+
 returns-3 : tie.Need-returns-3
 returns-3 c = search (needs, limit-rules)
 
-returns-4 : tie.Need-returns-4
-returns-4 c = search (needs, limit-rules)
-
-returns-5 : tie.Need-returns-5
-returns-5 c = search (needs, limit-rules)
-
 pub in-limits-spec : {M : Type 1} → statement M
-in-limits-spec = tie.close (tie.spec returns returns-2 returns-3 returns-4 returns-5)
+in-limits-spec = tie.close (tie.spec returns returns-2 is-by-last-requires returns-3)

@@ -14,8 +14,14 @@ add-t6 c = search needs
 add-t8 : tie.Need-add-t8
 add-t8 c = search needs
 
-in-limits-requires : tie.Need-in-limits-requires
-in-limits-requires c κs = search needs
+cast-is-by-last : tie.Need-cast-is-by-last
+cast-is-by-last c = search needs
+
+cast-is-by-last-2 : tie.Need-cast-is-by-last-2
+cast-is-by-last-2 c = search needs
+
+is-by-last-requires : tie.Need-is-by-last-requires
+is-by-last-requires c κs = search needs
 
 returns : tie.Need-returns
 returns c = search (needs, later-rules)
@@ -25,4 +31,13 @@ returns-2 c = search (needs, later-rules)
 
 pub instant-later-spec : {M : Type 1} → statement M
 instant-later-spec =
-    tie.close (tie.spec add-second add-t6 add-t8 in-limits-requires returns returns-2)
+    tie.close
+    (tie.spec
+    add-second
+    add-t6
+    add-t8
+    cast-is-by-last
+    cast-is-by-last-2
+    is-by-last-requires
+    returns
+    returns-2)
