@@ -2,6 +2,7 @@
 --   entry-rules   for a function that gives the entry with a code: each arm of its `match` but the last, and the last
 --   none-before   what the last arm knows: the code is none of the numbers before
 --   code-rules    for a call with a code: a code past the list is refused with 2, any other goes on with its entry
+--   code-known    a code of the list, where the answer is the same for every entry
 -- Assumes nothing.
 use Prim.Native.Nat.{ℕ, zero, suc, _≤_, _<_}
 use mathlib.Core.List.{List, [], _∷_}
@@ -52,5 +53,13 @@ unfolding onCode
 code-taken [] x f r a d h e p = absurd (omega arith)
 code-taken (b ∷ l) zero f r a d h e p = p ∙ ap f e
 code-taken (b ∷ l) (suc x) f r a d h e p = code-taken l x f r a d (omega arith) e p
+
+pub code-known :
+    {A : Type 0} (l : List A) (x : ℕ) (f : A → Answer) (r : Answer) →
+    x < length l → ((a : A) → r ≡ f a) → r ≡ onCode l x f
+unfolding onCode
+code-known [] x f r h p = absurd (omega arith)
+code-known (b ∷ l) zero f r h p = p b
+code-known (b ∷ l) (suc x) f r h p = code-known l x f r (omega arith) p
 
 pub ruleset code-rules = (code-refused, code-taken)

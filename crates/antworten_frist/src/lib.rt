@@ -93,10 +93,10 @@ pub fn contrl_due_at_answer(instant: Reading, code: u8) -> Answer
     if ANLAESSE <= code {
         return antwortsatz::refused(UNKNOWN_CODE);
     }
-    let anlass = anlass_of(code);
     let Reading::At(received) = instant else {
         return antwortsatz::refused(INSTANT_OUTSIDE);
     };
+    let anlass = anlass_of(code);
     due_answer(0, fristen::contrl_due_at(received, anlass))
 }
 
@@ -253,11 +253,10 @@ pub fn frist_due_at_answer(
     if SHAPES <= code {
         return antwortsatz::refused(UNKNOWN_CODE);
     }
-    let reading = shape_of(code, werktage, clock);
     let Reading::At(received) = instant else {
         return antwortsatz::refused(INSTANT_OUTSIDE);
     };
-    let ShapeReading::Known(shape) = reading else {
+    let ShapeReading::Known(shape) = shape_of(code, werktage, clock) else {
         return antwortsatz::refused(NO_CLOCK);
     };
     due_answer(0, shape.due_at(received, cal))

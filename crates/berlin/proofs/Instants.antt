@@ -20,14 +20,14 @@ use mir.Val.{Fits, SFits, toZ}
 use mir.Facts.{toZ-ofZ}
 use mir.ValLaws.{sfits-le}
 use Rattle.datum.specs.Floor.{floorDiv, floorMod}
-use Rattle.datum.proofs.Dates.{and-right}
+use Rattle.datum.proofs.Dates.{and-left, and-right}
 use Rattle.datum.proofs.Signed.{back, clash, back-pos}
 use Rattle.datum.proofs.FloorLaws.{Steps, mag-floor}
 use Rattle.berlin.specs.declared.Moment.{Moment}
 use Rattle.berlin.specs.declared.Reading.the-variants.{At, NoInstant}
 use Rattle.berlin.specs.Berlin.{momentOf, secondsOf, firstSecond, lastSecond, isByLast, inLimits}
 use Rattle.berlin.specs.Berlin.{readInstant}
-use Rattle.berlin.specs.Inside.{Proper}
+use Rattle.berlin.specs.Inside.{Proper, isInnerDay}
 
 pub by-86400 : Steps 86400
 by-86400 = record {
@@ -65,13 +65,21 @@ module _ (d t : ℕ) (h : t < 86400) where
         | no l ↦ rw (le-ltb t 82800 (omega arith), lt-leb (d * 86400 + t) lastSecond (omega arith))
       ]
 
+  pub inner-in : (b : Bool) → b ≡ isInnerDay d → b ≡ true → true ≡ inLimits (d * 86400 + t)
+  unfolding inLimits
+  inner-in b e p =
+      let y = sym e ∙ p in
+      let f = ltb-true 9495 d (and-left _ _ y) in
+      let g = ltb-true d 339675 (and-right (ltb 9495 d) _ y) in
+      rw (le-leb firstSecond (d * 86400 + t) (omega arith), le-leb (d * 86400 + t) lastSecond (omega arith))
+
   pub too-early : d < 9495 → false ≡ inLimits (d * 86400 + t)
   unfolding inLimits
   too-early g = rw (lt-leb firstSecond (d * 86400 + t) (omega arith))
 
-  pub first-day : d ≤ 9495 → 9495 ≤ d → leb 82800 t ≡ inLimits (d * 86400 + t)
+  pub first-day : d ≡ 9495 → leb 82800 t ≡ inLimits (d * 86400 + t)
   unfolding inLimits
-  first-day f g =
+  first-day f =
       elim (decLe 82800 t) [
         | yes l ↦ rw (
           le-leb 82800 t l,
@@ -81,11 +89,24 @@ module _ (d t : ℕ) (h : t < 86400) where
         | no l ↦ rw (lt-leb 82800 t (omega arith), lt-leb firstSecond (d * 86400 + t) (omega arith))
       ]
 
-  pub after-first : (r : Bool) → 9495 < d → r ≡ isByLast (d * 86400 + t) → r ≡ inLimits (d * 86400 + t)
+  pub after-first : (r : Bool) → 9495 ≤ d → (d ≡ 9495 → ⊥) → r ≡ isByLast (d * 86400 + t) → r ≡ inLimits (d * 86400 + t)
   unfolding inLimits
-  after-first r g p = rw (le-leb firstSecond (d * 86400 + t) (omega arith)) p
+  after-first r g n p =
+      elim (decLe d 9495) [
+        | yes l ↦ absurd (n (omega arith))
+        | no l ↦ rw (le-leb firstSecond (d * 86400 + t) (omega arith)) p
+      ]
 
-pub ruleset limit-rules = (by-last, past-last, last-day, too-early, first-day, after-first)
+pub ruleset limit-rules = (by-last, past-last, last-day, inner-in, too-early, first-day)
+
+-- is_inner_day
+pub not-inner : (d : ℕ) → d ≤ 9495 → false ≡ isInnerDay d
+not-inner d h = rw (le-ltb 9495 d h)
+
+pub by-end : (d : ℕ) → 9495 < d → ltb d 339675 ≡ isInnerDay d
+by-end d h = rw (lt-ltb 9495 d h)
+
+pub ruleset inner-rules = (not-inner, by-end)
 
 -- read_instant: z is the number in the local s
 negative-at : (z : ℤ) (x : ℕ) → ltZ (floorDiv z 86400) (pos 0) ≡ true → NoInstant ≡ readInstant z x

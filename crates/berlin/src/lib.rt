@@ -15,7 +15,7 @@ ghost use Rattle.berlin.specs.Berlin.{daySeconds, hours, oClock, dayStar
 ghost use Rattle.berlin.specs.Berlin.{isBefore, isByLast, inLimits, readInstant, readClock, lastSunday, offsetAt, localOf};
 ghost use Rattle.berlin.specs.Berlin.{berlinDate, berlinAt, resolvedOr, berlinMidnight, endOfDayBerlin};
 ghost use Rattle.berlin.specs.Berlin.{tagesbeginnUtc, tagDesBeginns};
-ghost use Rattle.berlin.specs.Inside.{Proper, ProperClock, guessedYear};
+ghost use Rattle.berlin.specs.Inside.{Proper, ProperClock, guessedYear, isInnerDay};
 use datum::Date;
 use datum::FIRST_YEAR;
 use zaehlung::LAST;
@@ -192,16 +192,30 @@ pub fn is_by_last(utcday: u64, second: u64) -> bool
     second < EDGE
 }
 
+/// Whether every instant of a UTC day is inside the limits, as on all but the first and the last: one comparison for
+/// nearly all calls.
+fn is_inner_day(utcday: u64) -> bool
+    ensures { λ r. ⌜ r ≡ isInnerDay utcday ⌝ }
+{
+    if utcday <= FIRST_UTC_DAY {
+        return false;
+    }
+    utcday < LAST_UTC_DAY
+}
+
 /// Whether an instant, by its UTC day and second, has a Berlin day of the calendar: day 9,495 counts from second 82,800
 /// on, 31 December 1995 23:00 UTC.
 fn in_limits(utcday: u64, second: u64) -> bool
     requires { ⌜ second < daySeconds ⌝ }
     ensures { λ r. ⌜ r ≡ inLimits (utcday * daySeconds + second) ⌝ }
 {
-    if utcday <= FIRST_UTC_DAY {
-        if utcday < FIRST_UTC_DAY {
-            return false;
-        }
+    if is_inner_day(utcday) {
+        return true;
+    }
+    if utcday < FIRST_UTC_DAY {
+        return false;
+    }
+    if utcday == FIRST_UTC_DAY {
         return EDGE <= second;
     }
     is_by_last(utcday, second)

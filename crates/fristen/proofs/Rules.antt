@@ -63,21 +63,23 @@ pub ruleset clock-rules = (clock-shown, clock-absent, at-proper)
 pub saturday : (d x : ℕ) → x ≡ weekday d → eqb x 5 ≡ isSaturday d
 saturday d x e = rw e
 
--- contrl_seconds: b is what `is_saturday` returned
+-- contrl_seconds: d is the receipt day, x what `berlin_date` returned, b what `is_saturday` did
 module _ (d : ℕ) (a : ContrlAnlass) where
   pub regelfall : a ≡ Regelfall → contrlFrist ≡ contrlSeconds d a
   unfolding contrlSeconds
   regelfall e = rw e
 
   pub strom-saturday :
-      (b : Bool) → a ≡ StromUtilmdOderOrders → b ≡ isSaturday d → b ≡ true → contrlFrist ≡ contrlSeconds d a
+      (x : ℕ) (b : Bool) → a ≡ StromUtilmdOderOrders → x ≡ d → b ≡ isSaturday x → b ≡ true →
+      contrlFrist ≡ contrlSeconds d a
   unfolding contrlSeconds
-  strom-saturday b e p q = rw (e, sym p ∙ q)
+  strom-saturday x b e k p q = rw (e, ← k, sym p ∙ q)
 
   pub strom-other :
-      (b : Bool) → a ≡ StromUtilmdOderOrders → b ≡ isSaturday d → b ≡ false → contrlStromSchnell ≡ contrlSeconds d a
+      (x : ℕ) (b : Bool) → a ≡ StromUtilmdOderOrders → x ≡ d → b ≡ isSaturday x → b ≡ false →
+      contrlStromSchnell ≡ contrlSeconds d a
   unfolding contrlSeconds
-  strom-other b e p q = rw (e, sym p ∙ q)
+  strom-other x b e k p q = rw (e, ← k, sym p ∙ q)
 
   pub alocat : a ≡ GasAlocat → contrlAlocat ≡ contrlSeconds d a
   unfolding contrlSeconds
@@ -85,12 +87,12 @@ module _ (d : ℕ) (a : ContrlAnlass) where
 
 pub ruleset seconds-rules = (regelfall, strom-saturday, strom-other, alocat)
 
--- contrl_due_at: d is the receipt day, t the seconds, u the due instant before the tolerance
-module _ (m : Moment) (a : ContrlAnlass) (d t : ℕ) (u : Due) (p : d ≡ receiptDay m) (q : t ≡ contrlSeconds d a)
+-- contrl_due_at: t is the seconds, u the due instant before the tolerance
+module _ (m : Moment) (a : ContrlAnlass) (t : ℕ) (u : Due) (q : t ≡ contrlSeconds (receiptDay m) a)
     (e : u ≡ instantLater m (0 * 86400 + t)) where
   contrl-is : u ≡ instantLater m (contrlSeconds (receiptDay m) a)
   contrl-is =
-      let z : 0 * 86400 + t ≡ t = omega arith in e ∙ ap (instantLater m) (z ∙ q ∙ ap (λ (x : ℕ). contrlSeconds x a) p)
+      let z : 0 * 86400 + t ≡ t = omega arith in e ∙ ap (instantLater m) (z ∙ q)
 
   pub contrl-at : (x r : Moment) → u ≡ At x → r ≡ formatumstellungToleranz x → At r ≡ contrlDueAt m a
   unfolding contrlDueAt

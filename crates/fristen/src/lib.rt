@@ -11,7 +11,7 @@ ghost use Rattle.werktag.specs.Werktag.{isWerktag};
 ghost use Rattle.berlin.specs.Berlin.{daySeconds};
 ghost use Rattle.berlin.specs.Inside.{Proper, ProperClock};
 ghost use Rattle.datum.specs.Calendar.{firstYear, lastYear};
-ghost use Rattle.fristen.specs.Fristen.{instantLater, clockOn, isSaturday, contrlSeconds, contrlDueAt, inWindow};
+ghost use Rattle.fristen.specs.Fristen.{receiptDay, instantLater, clockOn, isSaturday, contrlSeconds, contrlDueAt, inWindow};
 ghost use Rattle.fristen.specs.Fristen.{toleranzIn, formatumstellungToleranz, aperakStromDueAt};
 ghost use Rattle.fristen.specs.Fristen.{aperakStromAllgemeinDueAt, aperakGasFolgeprozessDueAt};
 ghost use Rattle.fristen.specs.Fristen.{aperakGasInitialprozessDueAt, isInitial, aperakGasDueAt, nextWerktagAt};
@@ -103,13 +103,16 @@ pub enum ContrlAnlass {
     GasAlocat,
 }
 
-fn contrl_seconds(day: u32, anlass: ContrlAnlass) -> u32
-    ensures { λ r. ⌜ (r ≡ contrlSeconds day anlass) × (r < daySeconds) ⌝ }
+/// How long after its receipt a CONTRL is due, before the tolerance. The receipt's day counts for a Strom UTILMD or ORDERS
+/// alone.
+fn contrl_seconds(received: Moment, anlass: ContrlAnlass) -> u32
+    requires { ⌜ Proper received ⌝ }
+    ensures { λ r. ⌜ (r ≡ contrlSeconds (receiptDay received) anlass) × (r < daySeconds) ⌝ }
 {
     match anlass {
         ContrlAnlass::Regelfall => CONTRL_FRIST,
         ContrlAnlass::StromUtilmdOderOrders => {
-            if is_saturday(day) {
+            if is_saturday(berlin::berlin_date(received)) {
                 return CONTRL_FRIST;
             }
             CONTRL_STROM_SCHNELL
@@ -126,8 +129,7 @@ pub fn contrl_due_at(received: Moment, anlass: ContrlAnlass) -> Due
     requires { ⌜ Proper received ⌝ }
     ensures { λ r. ⌜ (r ≡ contrlDueAt received anlass) × properDue r ⌝ }
 {
-    let day = berlin::berlin_date(received);
-    let seconds = contrl_seconds(day, anlass);
+    let seconds = contrl_seconds(received, anlass);
     match instant_later(received, 0, seconds) {
         Due::At(due) => Due::At(formatumstellung_toleranz(due)),
         Due::Absent => Due::Absent,

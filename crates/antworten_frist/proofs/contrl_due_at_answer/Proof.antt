@@ -3,6 +3,7 @@
 -- Assumes nothing.
 use Rattle.antworten_frist.proofs.Rules.{frist-rules}
 use Rattle.antworten_frist.specs.Frist.{contrlDueAtAnswer}
+use Rattle.antworten.proofs.Codes.{code-known}
 use borrow.Author.Needs.{needs}
 use Rattle.antworten_frist.proofs.contrl_due_at_answer.Statement.{statement}
 use Rattle.antworten_frist.proofs.contrl_due_at_answer.Tie as tie
@@ -13,9 +14,6 @@ refused-requires c κs = search needs
 returns : tie.Need-returns
 unfolding contrlDueAtAnswer
 returns c = search (needs, frist-rules)
-
-anlass-of-requires : tie.Need-anlass-of-requires
-anlass-of-requires c κs = search needs
 
 enum-known-instant : tie.Need-enum-known-instant
 enum-known-instant c = search needs
@@ -28,7 +26,10 @@ refused-requires-2 c κs = search needs
 
 returns-2 : tie.Need-returns-2
 unfolding contrlDueAtAnswer
-returns-2 c = search (needs, frist-rules)
+returns-2 c = code-known _ _ _ _ (search needs) (λ a. search (needs, frist-rules))
+
+anlass-of-requires : tie.Need-anlass-of-requires
+anlass-of-requires c κs = search needs
 
 contrl-due-at-requires : tie.Need-contrl-due-at-requires
 contrl-due-at-requires c κs = search (needs, frist-rules)
@@ -46,11 +47,11 @@ contrl-due-at-answer-spec =
     (tie.spec
     refused-requires
     returns
-    anlass-of-requires
     enum-known-instant
     enum-told
     refused-requires-2
     returns-2
+    anlass-of-requires
     contrl-due-at-requires
     due-answer-requires
     returns-3)

@@ -3,6 +3,7 @@
 -- Assumes nothing.
 use Rattle.antworten_frist.proofs.Rules.{frist-rules}
 use Rattle.antworten_frist.specs.Frist.{fristDueAtAnswer}
+use Rattle.antworten.proofs.Codes.{code-known}
 use borrow.Author.Needs.{needs}
 use Rattle.antworten_frist.proofs.frist_due_at_answer.Statement.{statement}
 use Rattle.antworten_frist.proofs.frist_due_at_answer.Tie as tie
@@ -13,9 +14,6 @@ refused-requires c κs = search needs
 returns : tie.Need-returns
 unfolding fristDueAtAnswer
 returns c = search (needs, frist-rules)
-
-shape-of-requires : tie.Need-shape-of-requires
-shape-of-requires c κs = search needs
 
 enum-known-instant : tie.Need-enum-known-instant
 enum-known-instant c = search needs
@@ -28,10 +26,13 @@ refused-requires-2 c κs = search needs
 
 returns-2 : tie.Need-returns-2
 unfolding fristDueAtAnswer
-returns-2 c = search (needs, frist-rules)
+returns-2 c = code-known _ _ _ _ (search needs) (λ a. search (needs, frist-rules))
 
-enum-known-reading : tie.Need-enum-known-reading
-enum-known-reading c = search needs
+shape-of-requires : tie.Need-shape-of-requires
+shape-of-requires c κs = search needs
+
+enum-known-shape : tie.Need-enum-known-shape
+enum-known-shape c = search needs
 
 enum-told-2 : tie.Need-enum-told-2
 enum-told-2 c = search needs
@@ -59,12 +60,12 @@ frist-due-at-answer-spec =
     (tie.spec
     refused-requires
     returns
-    shape-of-requires
     enum-known-instant
     enum-told
     refused-requires-2
     returns-2
-    enum-known-reading
+    shape-of-requires
+    enum-known-shape
     enum-told-2
     refused-requires-3
     returns-3

@@ -5,9 +5,6 @@ use borrow.Author.Needs.{needs}
 use Rattle.fristen.proofs.contrl_due_at.Statement.{statement}
 use Rattle.fristen.proofs.contrl_due_at.Tie as tie
 
-berlin-date-requires : tie.Need-berlin-date-requires
-berlin-date-requires c κs = search needs
-
 contrl-seconds-requires : tie.Need-contrl-seconds-requires
 contrl-seconds-requires c κs = search needs
 
@@ -39,7 +36,6 @@ pub contrl-due-at-spec : {M : Type 1} → statement M
 contrl-due-at-spec =
     tie.close
     (tie.spec
-    berlin-date-requires
     contrl-seconds-requires
     instant-later-requires
     enum-known-due

@@ -11,6 +11,9 @@ enum-told c = search needs
 enum-told-2 : tie.Need-enum-told-2
 enum-told-2 c = search needs
 
+berlin-date-requires : tie.Need-berlin-date-requires
+berlin-date-requires c κs = search needs
+
 is-saturday-requires : tie.Need-is-saturday-requires
 is-saturday-requires c κs = search needs
 
@@ -35,6 +38,7 @@ contrl-seconds-spec =
     (tie.spec
     enum-told
     enum-told-2
+    berlin-date-requires
     is-saturday-requires
     returns
     enum-told-3
