@@ -186,7 +186,8 @@ module _ (s : ℤ) (x : ℕ) (f : SFits w64 s) (d : ℤ) (e : d ≡ floorDiv (ba
       unfolding inLimits
       day-narrow p =
           let q = natural in
-          let l = leb-true (q .seconds) lastSecond (and-right (leb firstSecond (q .seconds)) _ (limits-are true (not-false b p))) in
+          let l = leb-true (q .seconds) lastSecond (and-right (leb firstSecond (q .seconds)) _
+          (limits-are true (not-false b p))) in
           rw (q .day) (record { fits = omega arith })
 
       pub second-narrow : not b ≡ false → Fits w32 (natAbs (back r))

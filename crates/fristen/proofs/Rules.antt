@@ -44,6 +44,7 @@ use Rattle.fristen.specs.Fristen.{contrlFrist, contrlStromSchnell, contr
 use Rattle.fristen.specs.Fristen.{windowOpens, receiptDay, isSaturday, instantLater, clockOn, contrlSeconds}
 use Rattle.fristen.specs.Fristen.{dayOn}
 use Rattle.fristen.specs.Fristen.{inWindow, toleranzIn, formatumstellungToleranz, contrlDueAt, atLeastOne}
+use Rattle.fristen.specs.Fristen.{nthWerktagOn}
 use Rattle.fristen.specs.Fristen.{nthWerktagAt, nextWerktagAt, endOfWerktagAfter, aperakStromDueAt}
 use Rattle.fristen.specs.Fristen.{gasInitialprozessPids, isInitial, aperakGasDueAt}
 use Rattle.fristen.specs.FristShape.{sameDayAt, sameDay, dueAtOf}
@@ -258,22 +259,28 @@ one-for-none n e = rw (eq-eqb n 0 e)
 pub one-or-more : (n : ℕ) → (n ≡ 0 → ⊥) → n ≡ atLeastOne n
 one-or-more n h = rw (ne-eqb n 0 h)
 
--- nth_werktag_at, end_of_werktag_after: d is the receipt day, x the step of k Werktage from it
-module _ (w : ℕ → Bool) (m : Moment) (n k d : ℕ) (x : Step) (p : d ≡ receiptDay m) (e : x ≡ add w d k) where
+-- nth_werktag_on, end_of_werktag_after: x is the step of k Werktage from d
+module _ (w : ℕ → Bool) (k d : ℕ) (x : Step) (e : x ≡ add w d k) where
   pub reached : (y : ℕ) → d ≤ last → x ≡ Day y → y ≤ last
   reached y h q = add-inside w d k y h (sym e ∙ q)
 
+  pub on-out : (c : Clock) → x ≡ Left → Outside ≡ nthWerktagOn w d k c
+  on-out c q = rw (sym e ∙ q)
+
+  pub on-day : (c : Clock) (y : ℕ) (r : Due) → x ≡ Day y → r ≡ clockOn y c → r ≡ nthWerktagOn w d k c
+  on-day c y r q l = rw (sym e ∙ q) l
+
+-- nth_werktag_at: d is the receipt day, k the count
+pub nth-at :
+    (w : ℕ → Bool) (m : Moment) (n k d : ℕ) (c : Clock) (r : Due) →
+    d ≡ receiptDay m → k ≡ atLeastOne n → r ≡ nthWerktagOn w d k c → r ≡ nthWerktagAt w m n c
+unfolding nthWerktagAt
+nth-at w m n k d c r p g l = rw (← g, ← p) l
+
+-- end_of_werktag_after: d is the receipt day
+module _ (w : ℕ → Bool) (m : Moment) (k d : ℕ) (x : Step) (p : d ≡ receiptDay m) (e : x ≡ add w d k) where
   step-is : (y : Step) → x ≡ y → add w (receiptDay m) k ≡ y
   step-is y q = ap (λ (z : ℕ). add w z k) (sym p) ∙ sym e ∙ q
-
-  pub nth-out : (c : Clock) → k ≡ atLeastOne n → x ≡ Left → Outside ≡ nthWerktagAt w m n c
-  unfolding nthWerktagAt
-  nth-out c g q = rw (← g, step-is Left q)
-
-  pub nth-day :
-      (c : Clock) (y : ℕ) (r : Due) → k ≡ atLeastOne n → x ≡ Day y → r ≡ clockOn y c → r ≡ nthWerktagAt w m n c
-  unfolding nthWerktagAt
-  nth-day c y r g q l = rw (← g, step-is (Day y) q) l
 
   pub end-out : x ≡ Left → Outside ≡ endOfWerktagAfter w m k
   unfolding endOfWerktagAfter
@@ -283,13 +290,17 @@ module _ (w : ℕ → Bool) (m : Moment) (n k d : ℕ) (x : Step) (p : d ≡ rec
   unfolding endOfWerktagAfter
   end-day y r q l = rw (step-is (Day y) q, l)
 
-pub ruleset werktag-rules = (reached, nth-out, nth-day, end-out, end-day, end-proper)
+pub ruleset werktag-rules = (reached, on-out, on-day, nth-at, end-out, end-day, end-proper)
 
 -- same_day_at: d is the receipt day, x what `berlin_at` returned, b what `is_werktag` and f what `is_before` returned
 module _ (w : ℕ → Bool) (m : Moment) (c : Clock) (d : ℕ) (x : Resolved) (p : d ≡ receiptDay m) (e : x ≡ berlinAt d c)
   where
     shown-is : (y : Resolved) → x ≡ y → berlinAt (receiptDay m) c ≡ y
     shown-is y q = ap (λ (z : ℕ). berlinAt z c) (sym p) ∙ sym e ∙ q
+
+    next-is : (r : Due) → r ≡ nthWerktagOn w d 1 c → r ≡ nextWerktagAt w m c
+    unfolding nthWerktagAt
+    next-is r g = g ∙ ap (λ (z : ℕ). nthWerktagOn w z 1 c) p
 
     pub same-absent : x ≡ Never → Absent ≡ sameDayAt w m c
     unfolding sameDayAt
@@ -299,18 +310,18 @@ module _ (w : ℕ → Bool) (m : Moment) (c : Clock) (d : ℕ) (x : Resolved) (p
       open-is : (y : Bool) → b ≡ y → w (receiptDay m) ≡ y
       open-is y z = ap w (sym p) ∙ sym k ∙ z
 
-      pub same-shut : (r : Due) → not b ≡ true → r ≡ nextWerktagAt w m c → r ≡ sameDayAt w m c
+      pub same-shut : (r : Due) → not b ≡ true → r ≡ nthWerktagOn w d 1 c → r ≡ sameDayAt w m c
       unfolding sameDayAt
-      same-shut r y g = rw (shown-is (Shown a) q, open-is false (not-true b y)) g
+      same-shut r y g = rw (shown-is (Shown a) q, open-is false (not-true b y)) (next-is r g)
 
       module _ (f : Bool) (y : not b ≡ false) (l : f ≡ isBefore m a) where
         pub same-day : f ≡ true → At a ≡ sameDayAt w m c
         unfolding sameDayAt
         same-day z = rw (shown-is (Shown a) q, open-is true (not-false b y), sym l ∙ z)
 
-        pub same-late : (r : Due) → f ≡ false → r ≡ nextWerktagAt w m c → r ≡ sameDayAt w m c
+        pub same-late : (r : Due) → f ≡ false → r ≡ nthWerktagOn w d 1 c → r ≡ sameDayAt w m c
         unfolding sameDayAt
-        same-late r z g = rw (shown-is (Shown a) q, open-is true (not-false b y), sym l ∙ z) g
+        same-late r z g = rw (shown-is (Shown a) q, open-is true (not-false b y), sym l ∙ z) (next-is r g)
 
 pub ruleset same-rules = (same-absent, same-shut, same-day, same-late, at-proper, shown-second)
 

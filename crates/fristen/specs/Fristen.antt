@@ -16,6 +16,7 @@
 --   toleratedDue r         = the same of the instant of r
 --   contrlDueAt m a        = when a CONTRL is due
 --   atLeastOne n           = n, and 1 for 0
+--   nthWerktagOn w d n c   = the clock c on the n-th Werktag after the day d
 --   nthWerktagAt w m n c   = the clock c on the n-th Werktag after the receipt day; nextWerktagAt w m c, on the first
 --   endOfWerktagAfter w m n              = the end of the n-th Werktag after the receipt day
 --   deadlineAtWerktage w m n             = the same
@@ -122,8 +123,11 @@ abbrev pub atLeastOne : ℕ → ℕ
 atLeastOne n = cond (eqb n 0) 1 n
 
 -- 'spätester ÜZ ist .. Uhr des n. WT nach dem ÜT'
+abbrev pub nthWerktagOn : (ℕ → Bool) → ℕ → ℕ → Clock → Due
+nthWerktagOn w d n c = onStep Outside (add w d n) (λ e. clockOn e c)
+
 unfoldable pub nthWerktagAt : (ℕ → Bool) → Moment → ℕ → Clock → Due
-nthWerktagAt w m n c = onStep Outside (add w (receiptDay m) (atLeastOne n)) (λ d. clockOn d c)
+nthWerktagAt w m n c = nthWerktagOn w (receiptDay m) (atLeastOne n) c
 
 abbrev pub nextWerktagAt : (ℕ → Bool) → Moment → Clock → Due
 nextWerktagAt w m c = nthWerktagAt w m 1 c

@@ -11,11 +11,12 @@ ghost use Rattle.werktag.specs.Werktag.{isWerktag};
 ghost use Rattle.berlin.specs.Berlin.{daySeconds};
 ghost use Rattle.berlin.specs.Inside.{Proper, ProperClock};
 ghost use Rattle.datum.specs.Calendar.{firstYear, lastYear};
-ghost use Rattle.fristen.specs.Fristen.{receiptDay, instantLater, clockOn, isSaturday, contrlSeconds, contrlDueAt, inWindow};
+ghost use Rattle.fristen.specs.Fristen.{receiptDay, instantLater, clockOn, isSaturday, contrlSeconds};
+ghost use Rattle.fristen.specs.Fristen.{contrlDueAt, inWindow};
 ghost use Rattle.fristen.specs.Fristen.{toleranzIn, formatumstellungToleranz, aperakStromDueAt};
 ghost use Rattle.fristen.specs.Fristen.{aperakStromAllgemeinDueAt, aperakGasFolgeprozessDueAt};
 ghost use Rattle.fristen.specs.Fristen.{aperakGasInitialprozessDueAt, isInitial, aperakGasDueAt, nextWerktagAt};
-ghost use Rattle.fristen.specs.Fristen.{atLeastOne, nthWerktagAt, endOfWerktagAfter, addHours};
+ghost use Rattle.fristen.specs.Fristen.{atLeastOne, nthWerktagOn, nthWerktagAt, endOfWerktagAfter, addHours};
 ghost use Rattle.fristen.specs.Fristen.{deadlineAtWerktage};
 ghost use Rattle.fristen.specs.FristShape.{sameDayAt, sameDay, dueAtOf};
 ghost use Rattle.fristen.specs.Inside.{properDue, properShape};
@@ -103,8 +104,8 @@ pub enum ContrlAnlass {
     GasAlocat,
 }
 
-/// How long after its receipt a CONTRL is due, before the tolerance. The receipt's day counts for a Strom UTILMD or ORDERS
-/// alone.
+/// How long after its receipt a CONTRL is due, before the tolerance. The receipt's day counts for a Strom UTILMD or
+/// ORDERS alone.
 fn contrl_seconds(received: Moment, anlass: ContrlAnlass) -> u32
     requires { ⌜ Proper received ⌝ }
     ensures { λ r. ⌜ (r ≡ contrlSeconds (receiptDay received) anlass) × (r < daySeconds) ⌝ }
@@ -313,6 +314,17 @@ fn at_least_one(n: u32) -> u32
     n
 }
 
+/// The clock on the n-th Werktag after a day; with `n = 0` on the day itself.
+fn nth_werktag_on(day: u32, n: u32, at: Clock, cal: HolidayCalendar) -> Due
+    requires { ⌜ (day ≤ last) × ProperClock at ⌝ }
+    ensures { λ r. ⌜ (r ≡ nthWerktagOn (isWerktag cal) day n at) × properDue r ⌝ }
+{
+    let Step::Day(due) = schritte::add_werktage(day, n, cal) else {
+        return Due::Outside;
+    };
+    clock_on(due, at)
+}
+
 /// The clock on the n-th Werktag strictly after the receipt day: 'spätester ÜZ ist .. Uhr des n. WT nach dem ÜT'.
 ///
 /// With `n = 0`: as with 1.
@@ -323,10 +335,7 @@ pub fn nth_werktag_at(received: Moment, n: u32, at: Clock, cal: HolidayCalendar)
     ensures { λ r. ⌜ (r ≡ nthWerktagAt (isWerktag cal) received n at) × properDue r ⌝ }
 {
     let day = berlin::berlin_date(received);
-    let Step::Day(due) = schritte::add_werktage(day, at_least_one(n), cal) else {
-        return Due::Outside;
-    };
-    clock_on(due, at)
+    nth_werktag_on(day, at_least_one(n), at, cal)
 }
 
 /// The end of the n-th Werktag after the receipt day: GeLi Gas, 'bis zum Ablauf des n. Werktags nach Eingang'.
@@ -386,12 +395,12 @@ fn same_day_at(received: Moment, at: Clock, cal: HolidayCalendar) -> Due
         return Due::Absent;
     };
     if !werktag::is_werktag(day, cal) {
-        return next_werktag_at(received, at, cal);
+        return nth_werktag_on(day, 1, at, cal);
     }
     if berlin::is_before(received, same_day) {
         return Due::At(same_day);
     }
-    next_werktag_at(received, at, cal)
+    nth_werktag_on(day, 1, at, cal)
 }
 
 /// The end of the receipt day.

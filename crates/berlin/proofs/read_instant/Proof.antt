@@ -1,5 +1,5 @@
--- `berlin::read_instant` meets its contract: seconds of any sign are split; from 1970 on they are a natural number, where
--- floor division is the unsigned one.
+-- `berlin::read_instant` meets its contract: seconds of any sign are split; from 1970 on they are a natural number,
+-- where floor division is the unsigned one.
 -- Assumes nothing.
 use Rattle.berlin.proofs.Instants.{read-rules, day-narrow, second-narrow}
 use borrow.Author.Needs.{needs}

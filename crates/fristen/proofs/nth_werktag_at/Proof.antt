@@ -1,5 +1,4 @@
--- `fristen::nth_werktag_at` meets its contract: a lemma for each return; the day that is reached is one of the
--- calendar.
+-- `fristen::nth_werktag_at` meets its contract: the Werktage are counted from the receipt day.
 -- Assumes nothing.
 use Rattle.fristen.proofs.Rules.{werktag-rules}
 use borrow.Author.Needs.{needs}
@@ -12,33 +11,12 @@ berlin-date-requires c κs = search needs
 at-least-one-requires : tie.Need-at-least-one-requires
 at-least-one-requires c κs = search needs
 
-add-werktage-requires : tie.Need-add-werktage-requires
-add-werktage-requires c κs = search needs
-
-enum-known-due : tie.Need-enum-known-due
-enum-known-due c = search needs
-
-enum-told : tie.Need-enum-told
-enum-told c = search needs
+nth-werktag-on-requires : tie.Need-nth-werktag-on-requires
+nth-werktag-on-requires c κs = search needs
 
 returns : tie.Need-returns
 returns c = search (needs, werktag-rules)
 
-clock-on-requires : tie.Need-clock-on-requires
-clock-on-requires c κs = search (needs, werktag-rules)
-
-returns-2 : tie.Need-returns-2
-returns-2 c = search (needs, werktag-rules)
-
 pub nth-werktag-at-spec : {M : Type 1} → statement M
 nth-werktag-at-spec =
-    tie.close
-    (tie.spec
-    berlin-date-requires
-    at-least-one-requires
-    add-werktage-requires
-    enum-known-due
-    enum-told
-    returns
-    clock-on-requires
-    returns-2)
+    tie.close (tie.spec berlin-date-requires at-least-one-requires nth-werktag-on-requires returns)

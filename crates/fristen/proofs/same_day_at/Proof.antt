@@ -23,8 +23,8 @@ returns c = search (needs, same-rules)
 is-werktag-requires : tie.Need-is-werktag-requires
 is-werktag-requires c κs = search needs
 
-next-werktag-at-requires : tie.Need-next-werktag-at-requires
-next-werktag-at-requires c κs = search needs
+nth-werktag-on-requires : tie.Need-nth-werktag-on-requires
+nth-werktag-on-requires c κs = search needs
 
 returns-2 : tie.Need-returns-2
 returns-2 c = search (needs, same-rules)
@@ -35,8 +35,8 @@ is-before-requires c κs = search (needs, same-rules)
 returns-3 : tie.Need-returns-3
 returns-3 c = search (needs, same-rules)
 
-next-werktag-at-requires-2 : tie.Need-next-werktag-at-requires-2
-next-werktag-at-requires-2 c κs = search needs
+nth-werktag-on-requires-2 : tie.Need-nth-werktag-on-requires-2
+nth-werktag-on-requires-2 c κs = search needs
 
 returns-4 : tie.Need-returns-4
 returns-4 c = search (needs, same-rules)
@@ -51,9 +51,9 @@ same-day-at-spec =
     enum-told
     returns
     is-werktag-requires
-    next-werktag-at-requires
+    nth-werktag-on-requires
     returns-2
     is-before-requires
     returns-3
-    next-werktag-at-requires-2
+    nth-werktag-on-requires-2
     returns-4)
