@@ -20,7 +20,7 @@ use Rattle.berlin.specs.declared.Resolved.the-variants.{At, Absent}
 use Rattle.berlin.specs.declared.Sparte.{Sparte}
 use Rattle.berlin.specs.declared.Sparte.the-variants.{Strom, Gas}
 use Rattle.berlin.specs.declared.Beginn.the-variants.{Day, NoBeginning}
-use Rattle.berlin.specs.Berlin.{oClock, dayStart, momentOf, secondsOf, readClock, lastSunday, offsetAt, localOf}
+use Rattle.berlin.specs.Berlin.{oClock, dayStart, momentOf, secondsOf, readClock, lastSunday, offsetAt, berlinClock}
 use Rattle.berlin.specs.Berlin.{berlinDate, berlinAt, resolvedOr, berlinMidnight, endOfDayBerlin}
 use Rattle.berlin.specs.Berlin.{tagesbeginnUtc, tagDesBeginns}
 use Rattle.berlin.specs.Inside.{Proper, ProperClock, guessedYear}
@@ -128,33 +128,37 @@ module _ (i t : ℕ) (h : i ≤ last) (v : t < 86400) where
       let l = ltb-false (dayStart i + t) (dayStart b + 7200) (sym q ∙ y) in
       sym (winter-late (guess i) (dayStart i + t - 3600) (n .few) (omega arith) (omega arith) (omega arith))
 
--- local_of: w is what the clock shows that never changes, o what `offset_at` returned, r what the Berlin clock shows
-pub local-is :
-    (m : Moment) (w r : Local) (o : ℕ) → Proper m → w .berlinday * 86400 + w .second ≡ secondsOf m + 3600 →
-    w .second < 86400 → o ≡ offsetAt (dayStart (w .berlinday - 9496) + w .second - 3600) →
-    r .berlinday * 86400 + r .second ≡ secondsOf m + o → r .second < 86400 → r ≡ localOf (secondsOf m)
-local-is m w r o u e v p f h =
-    let z : dayStart (w .berlinday - 9496) + w .second - 3600 ≡ secondsOf m = omega (arith, u .from) in
-    let k : r .berlinday * 86400 + r .second ≡ secondsOf m + offsetAt (secondsOf m) =
-    f ∙ ap (λ (x : ℕ). secondsOf m + x) (p ∙ ap offsetAt z) in
-    let q = parts (secondsOf m + offsetAt (secondsOf m)) (r .berlinday) (r .second) (sym k) h in
-    rw (q .0, q .1)
+-- berlin_date: w is what the clock shows that never goes over to summer time, o what `offset_at` returned
+module _ (m : Moment) (w : Local) (o : ℕ) (u : Proper m) (e : w .berlinday * 86400 + w .second ≡ secondsOf m + 3600)
+    (v : w .second < 86400) (p : o ≡ offsetAt (dayStart (w .berlinday - 9496) + w .second - 3600)) (g : 3600 ≤ o) where
+  shown : berlinClock (secondsOf m) ≡ w .berlinday * 86400 + (w .second + (o - 3600))
+  shown =
+      let z : dayStart (w .berlinday - 9496) + w .second - 3600 ≡ secondsOf m = omega (arith, u .from) in
+      let k = p ∙ ap offsetAt z in
+      omega arith
 
--- berlin_date
-module _ (m : Moment) (r : Local) (p : Proper m) (e : r ≡ localOf (secondsOf m)) where
-  day-is : r .berlinday ≡ localOf (secondsOf m) .berlinday
-  day-is = ap (λ (x : Local). x .berlinday) e
+  pub date-same : w .second + (o - 3600) < 86400 → w .berlinday - 9496 ≡ berlinDate m
+  date-same h =
+      let q = parts (berlinClock (secondsOf m)) (w .berlinday) (w .second + (o - 3600)) shown h in
+      omega arith
 
-  pub date-from : 9496 ≤ r .berlinday
-  date-from = let q = day-is in let a = clock-from (secondsOf m) (p .from) in omega arith
+  pub date-next : 86400 ≤ w .second + (o - 3600) → o ≤ 7200 → w .berlinday - 9496 + 1 ≡ berlinDate m
+  date-next h f =
+      let s : berlinClock (secondsOf m) ≡ (w .berlinday + 1) * 86400 + (w .second + (o - 3600) - 86400) =
+      omega (arith, shown) in
+      let q = parts (berlinClock (secondsOf m)) (w .berlinday + 1) (w .second + (o - 3600) - 86400) s (omega arith) in
+      omega (arith, u .from)
 
-  pub date-is : r .berlinday - 9496 ≡ berlinDate m
-  date-is = let q = day-is in omega arith
+  inside : berlinDate m ≤ last
+  inside = let a = clock-to (secondsOf m) (u .from) (u .to) in omega arith
 
-  pub date-le : r .berlinday - 9496 ≤ last
-  date-le = let q = day-is in let a = clock-to (secondsOf m) (p .from) (p .to) in omega arith
+  pub same-le : w .second + (o - 3600) < 86400 → w .berlinday - 9496 ≤ last
+  same-le h = omega (arith, date-same h, inside)
 
-pub ruleset local-rules = (local-is, date-from, date-is, date-le)
+  pub next-le : 86400 ≤ w .second + (o - 3600) → o ≤ 7200 → w .berlinday - 9496 + 1 ≤ last
+  next-le h f = omega (arith, date-next h f, inside)
+
+pub ruleset date-rules = (date-same, date-next, same-le, next-le)
 
 -- behind
 module _ (i a : ℕ) (c : Clock) (f : c .second < 86400) (g : a ≤ 7200) where

@@ -13,7 +13,6 @@ ghost use Rattle.datum.specs.Calendar.{weekday};
 ghost use Rattle.datum.specs.Floor.{floorDiv, floorMod};
 ghost use Rattle.berlin.specs.Berlin.{daySeconds, hours, oClock, dayStart, momentOf, secondsOf};
 ghost use Rattle.berlin.specs.Berlin.{isBefore, isByLast, inLimits, readInstant, readClock, lastSunday, offsetAt};
-ghost use Rattle.berlin.specs.Berlin.{localOf};
 ghost use Rattle.berlin.specs.Berlin.{berlinDate, berlinAt, resolvedOr, berlinMidnight, endOfDayBerlin};
 ghost use Rattle.berlin.specs.Berlin.{tagesbeginnUtc, tagDesBeginns};
 ghost use Rattle.berlin.specs.Inside.{Proper, ProperClock, guessedYear, isInnerDay};
@@ -366,29 +365,21 @@ fn offset_at(day: u32, second: u32) -> u32
     WINTER
 }
 
-/// What the Berlin clock shows at an instant: 'UTC+1; UTC+2 from the last Sunday of March 01:00 UTC to the last Sunday
-/// of October 01:00 UTC'.
-///
-/// At 29 March 2026 00:59:59 UTC it shows 01:59:59, a second later 03:00:00.
-pub fn local_of(at: Moment) -> Local
-    requires { ⌜ Proper at ⌝ }
-    ensures { λ r. ⌜ r ≡ localOf (secondsOf at) ⌝ }
-{
-    let winter = on_clock(at, WINTER);
-    on_clock(
-        at,
-        offset_at(winter.berlinday - CALENDAR_START, winter.second),
-    )
-}
-
 /// The Berlin day of an instant, by its index: never its UTC day, which is the day before for one or two hours a night.
 ///
-/// 31 January 2026 23:30 UTC: 1 February.
+/// 31 January 2026 23:30 UTC: 1 February. By the clock that never goes over to summer time it is the same day, or in
+/// the hour before its midnight the day before.
 pub fn berlin_date(at: Moment) -> u32
     requires { ⌜ Proper at ⌝ }
     ensures { λ r. ⌜ (r ≡ berlinDate at) × (r ≤ last) ⌝ }
 {
-    local_of(at).berlinday - CALENDAR_START
+    let winter = on_clock(at, WINTER);
+    let day = winter.berlinday - CALENDAR_START;
+    let ahead = offset_at(day, winter.second) - WINTER;
+    if winter.second + ahead < DAY {
+        return day;
+    }
+    day + 1
 }
 
 /// The instant at which a clock that is so many seconds ahead of UTC shows a time.
