@@ -20,7 +20,8 @@ use Rattle.berlin.specs.declared.Resolved.the-variants.{At, Absent}
 use Rattle.berlin.specs.declared.Sparte.{Sparte}
 use Rattle.berlin.specs.declared.Sparte.the-variants.{Strom, Gas}
 use Rattle.berlin.specs.declared.Beginn.the-variants.{Day, NoBeginning}
-use Rattle.berlin.specs.Berlin.{oClock, dayStart, momentOf, secondsOf, readClock, lastSunday, offsetAt, berlinClock}
+use Rattle.berlin.specs.Berlin.{oClock, dayStart, momentOf, secondsOf, readClock, lastSunday, offsetAt}
+use Rattle.berlin.specs.Berlin.{berlinClock}
 use Rattle.berlin.specs.Berlin.{berlinDate, berlinAt, resolvedOr, berlinMidnight, endOfDayBerlin}
 use Rattle.berlin.specs.Berlin.{tagesbeginnUtc, tagDesBeginns}
 use Rattle.berlin.specs.Inside.{Proper, ProperClock, guessedYear}

@@ -17,6 +17,9 @@ use libc::STDOUT_FILENO;
 // A line's bytes, its end left out.
 const LINE_BYTES: usize = 193;
 
+// The bytes of half a question, and of an answer.
+const HALF_BYTES: usize = 32;
+
 // Where in a line the question's second half, the space and the answer stand.
 const SECOND_HALF_AT: usize = 64;
 
@@ -65,12 +68,12 @@ fn digit(b: u8) -> u8
 }
 
 // Puts the 32 bytes whose digits start at `from` into `out`; false where one of the 64 is no digit.
-fn read_hex(line: &[u8; 193], from: usize, out: &mut [u8]) -> bool
+fn read_hex(line: &[u8; LINE_BYTES], from: usize, out: &mut [u8]) -> bool
     requires { ⌜ (from ≤ 129) × (length (now out) ≡ 32) ⌝ }
     ensures { λ r. ⌜ (r ≡ true → now (out .exit) ≡ bytesAt (now (line .entry)) from 32) ⌝ }
 {
     let mut i = 0;
-    while i < 32 {
+    while i < HALF_BYTES {
         let high = digit(line[from + 2 * i]);
         let low = digit(line[from + 2 * i + 1]);
         if high == 16 {
@@ -86,7 +89,7 @@ fn read_hex(line: &[u8; 193], from: usize, out: &mut [u8]) -> bool
 }
 
 // Whether the bytes of a question that no call reads are zero.
-fn is_spare_zero(q: &[u8; 32]) -> bool {
+fn is_spare_zero(q: &[u8; HALF_BYTES]) -> bool {
     if q[2] != 0 {
         return false;
     }
@@ -120,7 +123,7 @@ struct Question {
     reason: u8,
 }
 
-fn question_of(q: &[u8; 32], p: &[u8; 32]) -> Question {
+fn question_of(q: &[u8; HALF_BYTES], p: &[u8; HALF_BYTES]) -> Question {
     Question {
         call: q[0],
         code: q[1],
@@ -279,7 +282,7 @@ fn ask_vorlauf(q: Question, answer: &mut [u8]) -> u8 {
 }
 
 // Deregistrations: calls 28 and 29. The reason stands in the question's second half.
-fn ask_abmeldung(q: Question, p: &[u8; 32], answer: &mut [u8]) -> u8 {
+fn ask_abmeldung(q: Question, p: &[u8; HALF_BYTES], answer: &mut [u8]) -> u8 {
     if REASON_BYTES < q.reason {
         return NO_CALL;
     }
@@ -303,7 +306,7 @@ fn ask_abmeldung(q: Question, p: &[u8; 32], answer: &mut [u8]) -> u8 {
 }
 
 // Asks the call that the question names, and returns what the call returns.
-fn ask(q: Question, p: &[u8; 32], answer: &mut [u8]) -> u8 {
+fn ask(q: Question, p: &[u8; HALF_BYTES], answer: &mut [u8]) -> u8 {
     if q.call < 7 {
         return ask_kalender(q, answer);
     }
@@ -323,7 +326,7 @@ fn ask(q: Question, p: &[u8; 32], answer: &mut [u8]) -> u8 {
 }
 
 // Whether an answer is the one that is expected, all 32 bytes, and the number that was returned is its first.
-fn is_expected(number: u8, answer: &[u8; 32], expected: &[u8; 32]) -> bool
+fn is_expected(number: u8, answer: &[u8; HALF_BYTES], expected: &[u8; HALF_BYTES]) -> bool
     ensures { λ r. ⌜
         (r ≡ true → now (answer .entry) ≡ now (expected .entry)) ×
         (r ≡ true → number ≡ getD (now (expected .entry)) 0 0)
@@ -336,26 +339,26 @@ fn is_expected(number: u8, answer: &[u8; 32], expected: &[u8; 32]) -> bool
 }
 
 // Whether a line's question has the answer that the line expects.
-fn is_equal(line: &[u8; 193]) -> bool {
-    let mut question = [0u8; 32];
+fn is_equal(line: &[u8; LINE_BYTES]) -> bool {
+    let mut question = [0u8; HALF_BYTES];
     if !read_hex(line, 0, &mut question) {
         return false;
     }
-    let mut half = [0u8; 32];
+    let mut half = [0u8; HALF_BYTES];
     if !read_hex(line, SECOND_HALF_AT, &mut half) {
         return false;
     }
     if line[SPACE_AT] != b' ' {
         return false;
     }
-    let mut expected = [0u8; 32];
+    let mut expected = [0u8; HALF_BYTES];
     if !read_hex(line, ANSWER_AT, &mut expected) {
         return false;
     }
     if !is_spare_zero(&question) {
         return false;
     }
-    let mut answer = [UNWRITTEN; 32];
+    let mut answer = [UNWRITTEN; HALF_BYTES];
     let number = ask(question_of(&question, &half), &half, &mut answer);
     is_expected(number, &answer, &expected)
 }
@@ -371,7 +374,7 @@ fn print_line_number(n: u64) {
 }
 
 // The line has ended.
-fn end_line(line: &[u8; 193], r: Replay) -> Replay {
+fn end_line(line: &[u8; LINE_BYTES], r: Replay) -> Replay {
     let lines = more(r.lines);
     if r.held == LINE_BYTES {
         if is_equal(line) {
@@ -393,7 +396,7 @@ fn end_line(line: &[u8; 193], r: Replay) -> Replay {
 }
 
 // One byte more.
-fn take_byte(b: u8, line: &mut [u8; 193], r: Replay) -> Replay {
+fn take_byte(b: u8, line: &mut [u8; LINE_BYTES], r: Replay) -> Replay {
     if b == b'\n' {
         return end_line(line, r);
     }
@@ -408,7 +411,7 @@ fn take_byte(b: u8, line: &mut [u8; 193], r: Replay) -> Replay {
     next
 }
 
-fn take_bytes(bytes: &[u8], line: &mut [u8; 193], r: Replay) -> Replay {
+fn take_bytes(bytes: &[u8], line: &mut [u8; LINE_BYTES], r: Replay) -> Replay {
     let mut next = r;
     let mut i = 0;
     while i < bytes.len() {
@@ -419,7 +422,7 @@ fn take_bytes(bytes: &[u8], line: &mut [u8; 193], r: Replay) -> Replay {
 }
 
 // Reads once, and takes what came.
-fn take_block(line: &mut [u8; 193], r: Replay) -> Replay {
+fn take_block(line: &mut [u8; LINE_BYTES], r: Replay) -> Replay {
     let mut block = io::buffer();
     let n = io::read_full(STDIN_FILENO, &mut block);
     if n == 0 {
@@ -432,7 +435,7 @@ fn take_block(line: &mut [u8; 193], r: Replay) -> Replay {
 
 // A proved loop has to end, and nothing says that the input does. So the turns are counted down, from a number that no
 // run uses up.
-fn take_all(line: &mut [u8; 193]) -> Replay {
+fn take_all(line: &mut [u8; LINE_BYTES]) -> Replay {
     let mut r = Replay {
         ended: false,
         held: 0,
@@ -451,7 +454,7 @@ fn take_all(line: &mut [u8; 193]) -> Replay {
 }
 
 fn main() {
-    let mut line = [0u8; 193];
+    let mut line = [0u8; LINE_BYTES];
     let mut r = take_all(&mut line);
     // A last line without its end is of another form.
     if r.held != 0 {
