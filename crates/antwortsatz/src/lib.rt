@@ -87,21 +87,24 @@ pub fn date_word(date: Date) -> u32
     (date.year as u32) + 65536 * (date.month as u32) + 16777216 * (date.day as u32)
 }
 
-/// "A refusal leaves bytes 1 to 31 zero": `refused(NO_DATE)` has 3 in byte 0.
+/// "A refusal leaves bytes 1 to 31 zero": `refused(NO_DATE)` has 3 in byte 0. Refusal 1 is never written: `reply`
+/// leaves the slice as it was.
 pub fn refused(number: u8) -> Answer
     ensures { λ r. ⌜ r ≡ refused number ⌝ }
 {
     filled(number, 0, 0, 0, 0, 0, 0, 0)
 }
 
-/// A kind alone: "a day test has kind 1 for a Werktag, else 0", "a deregistration reason the code of its case".
+/// A kind alone: "a day test has kind 1 for a Werktag, else 0", "a deregistration reason the code of its case". 2 April
+/// 2026, a Werktag, is `of_kind(1)`; `of_kind(0)` is all zero, and an answer.
 pub fn of_kind(kind: u8) -> Answer
     ensures { λ r. ⌜ r ≡ ofKind kind ⌝ }
 {
     filled(0, kind, 0, 0, 0, 0, 0, 0)
 }
 
-/// A count alone: "a count [fills] the count". The Werktage from 2 to 8 April 2026 are `counted(2)`.
+/// A count alone: "a count [fills] the count". The Werktage from 2 to 8 April 2026 are `counted(2)`. `counted(0)` is
+/// all zero, and an answer.
 pub fn counted(count: u32) -> Answer
     ensures { λ r. ⌜ r ≡ counted count ⌝ }
 {

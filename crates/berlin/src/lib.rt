@@ -111,7 +111,7 @@ const THREE: u32 = 3 * HOUR;
 /// 06:00: 'the beginning of the Gastag in gesetzlicher deutscher Zeit'.
 const GASTAG_BEGINN: u32 = 6;
 
-/// The full hour of the clock: 13 is 13:00:00.
+/// The full hour of the clock: 13 is 13:00:00. From 0, midnight, to 23; 13 is second 46,800.
 pub fn o_clock(hour: u32) -> Clock
     requires { ⌜ hour ≤ 23 ⌝ }
     ensures { λ r. ⌜ (r ≡ oClock hour) × ProperClock r ⌝ }
@@ -423,7 +423,8 @@ pub fn berlin_at(day: u32, at: Clock) -> Resolved
     Resolved::At(behind(day, at, WINTER))
 }
 
-/// The instant of a time that is never absent, such as midnight; 1 January 1970 00:00 UTC stands for none.
+/// The instant of a time that is never absent, such as midnight; 1 January 1970 00:00 UTC stands for none. Of midnight
+/// of 1 July 2027 it is 30 June 22:00 UTC.
 pub fn resolved_or(found: Resolved) -> Moment
     ensures { λ r. ⌜ r ≡ resolvedOr found ⌝ }
 {

@@ -296,7 +296,7 @@ pub fn aperak_gas_due_at(pid: u32, received: Moment, cal: HolidayCalendar) -> Ga
 
 /// The clock on the first Werktag strictly after the receipt day.
 ///
-/// Friday, 10 January 2025 14:00 and the clock 11:00: Monday, 13 January 11:00.
+/// Friday, 10 January 2025 14:00 and the clock 11:00: Monday, 13 January 11:00. The receipt day is never that Werktag.
 pub fn next_werktag_at(received: Moment, at: Clock, cal: HolidayCalendar) -> Due
     requires { ⌜ Proper received × ProperClock at ⌝ }
     ensures { λ r. ⌜ (r ≡ nextWerktagAt (isWerktag cal) received at) × properDue r ⌝ }

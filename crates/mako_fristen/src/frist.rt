@@ -43,7 +43,7 @@ pub extern "C" fn mf_aperak_strom_due_at(seconds: i64, nanos: u32, answer: &mut 
 }
 
 /// When any other Strom APERAK is due: "12:00 of the first Werktag after the receipt day". Received 2 April 2026, it is
-/// due on 7 April at 12:00 Berlin.
+/// due on 7 April at 12:00 Berlin. The receipt day is never that Werktag; refusal 8 where none follows in the calendar.
 #[no_mangle]
 pub extern "C" fn mf_aperak_strom_allgemein_due_at(
     seconds: i64,
@@ -64,7 +64,7 @@ pub extern "C" fn mf_aperak_strom_allgemein_due_at(
 }
 
 /// When the Gas APERAK of a follow-up process is due, kind 0: 12:00 of the first Werktag after the receipt day, as
-/// received 2 April 2026 on 7 April.
+/// received 2 April 2026 on 7 April. The receipt day is never that Werktag.
 #[no_mangle]
 pub extern "C" fn mf_aperak_gas_folgeprozess_due_at(
     seconds: i64,
@@ -85,7 +85,7 @@ pub extern "C" fn mf_aperak_gas_folgeprozess_due_at(
 }
 
 /// When the Gas APERAK of an initial process is due, kind 1: "end of the third Werktag after the receipt day". Received
-/// 2 April 2026, it is due at the end of 9 April.
+/// 2 April 2026, it is due at the end of 9 April. The receipt day does not count, Werktag or not.
 #[no_mangle]
 pub extern "C" fn mf_aperak_gas_initialprozess_due_at(
     seconds: i64,

@@ -51,7 +51,8 @@ pub extern "C" fn mf_add_werktage(year: u16, month: u8, day: u8, n: u32, answer:
     antwortsatz::reply(answer, a)
 }
 
-/// The n-th Werktag before a date; with 0 the date unchanged, Werktag or not: 7 April 2026 less 1 is 2 April.
+/// The n-th Werktag before a date; with 0 the date unchanged, Werktag or not: 7 April 2026 less 1 is 2 April. 2 January
+/// 1996 less 1 leaves the calendar: refusal 8.
 #[no_mangle]
 pub extern "C" fn mf_sub_werktage(year: u16, month: u8, day: u8, n: u32, answer: &mut [u8]) -> u8
     ensures { λ r. ⌜

@@ -32,6 +32,7 @@ pub extern "C" fn mf_berlin_at(
 }
 
 /// The first instant of a Berlin day: 9 January 2026 begins on the 8th at 23:00 UTC, 9 July on the 8th at 22:00.
+/// Midnight is never absent or repeated.
 #[no_mangle]
 pub extern "C" fn mf_berlin_midnight(year: u16, month: u8, day: u8, answer: &mut [u8]) -> u8
     ensures { λ r. ⌜
@@ -44,7 +45,8 @@ pub extern "C" fn mf_berlin_midnight(year: u16, month: u8, day: u8, answer: &mut
     antwortsatz::reply(answer, a)
 }
 
-/// The last instant of a Berlin day, 23:59:59.999999999: that of 9 January 2026 is 22:59:59.999999999 UTC.
+/// The last instant of a Berlin day, 23:59:59.999999999: that of 9 January 2026 is 22:59:59.999999999 UTC. It is never
+/// absent or repeated.
 #[no_mangle]
 pub extern "C" fn mf_end_of_day_berlin(year: u16, month: u8, day: u8, answer: &mut [u8]) -> u8
     ensures { λ r. ⌜
@@ -77,7 +79,8 @@ pub extern "C" fn mf_tagesbeginn_utc(
     antwortsatz::reply(answer, a)
 }
 
-/// The Berlin date of an instant, not the UTC date: 8 January 2026 23:30 UTC is 9 January.
+/// The Berlin date of an instant, not the UTC date: 8 January 2026 23:30 UTC is 9 January. Seconds before 820,450,800
+/// or after 29,348,002,799 are refused with 4.
 #[no_mangle]
 pub extern "C" fn mf_berlin_date(seconds: i64, nanos: u32, answer: &mut [u8]) -> u8
     ensures { λ r. ⌜

@@ -13,7 +13,8 @@ use werktag::HolidayCalendar;
 
 /// The verdict of a lead-time shape on a transmission date and an anchor, its Werktage and its earliest date:
 /// `LatestWerktageBefore(1)` for 10 January 2026, a Saturday, against Monday, the 12th, is TooLate, 0, and names that
-/// Monday.
+/// Monday. "The two month shapes compute their earliest date even when the verdict is Ok": refusal 8 where it leaves
+/// the calendar.
 #[no_mangle]
 pub extern "C" fn mf_vorlauf_check(
     shape: u8,
@@ -86,7 +87,8 @@ pub extern "C" fn mf_vorlauf_check_at(
 }
 
 /// The anchors that a shape takes for a transmission date: "Kind 0 no last day, 1 both, 2 empty with both dates zero".
-/// `LatestWerktageBefore(1)` for 10 January 2026: from 13 January on.
+/// `LatestWerktageBefore(1)` for 10 January 2026: from 13 January on. Refusal 8 where an end leaves the calendar, also
+/// of a window that would be empty.
 #[no_mangle]
 pub extern "C" fn mf_vorlauf_span(
     shape: u8,
@@ -114,7 +116,8 @@ pub extern "C" fn mf_vorlauf_span(
 }
 
 /// The case of a deregistration: "only the three bytes "ZQ7" are the deactivation reason; "zq7", "ZQ7 " and an empty
-/// reason are ordinary". "ZQ7" has kind 3 with any of the three EEG marks.
+/// reason are ordinary". "ZQ7" has kind 3 with any of the three EEG marks. Any other reason with the mark 1, yes, has
+/// kind 1.
 #[no_mangle]
 pub extern "C" fn mf_abmeldung_fuer(reason: &[u8], eeg: u8, answer: &mut [u8]) -> u8
     ensures { λ r. ⌜

@@ -6,14 +6,14 @@ ghost use Rattle.zahlen.specs.LittleEndian.{u16From, u32From, u64From};
 ghost use Rattle.zahlen.specs.TwosComplement.{bitsOf, signedOf};
 ghost use Rattle.zahlen.specs.Places.{u16At, u32At, i64At};
 
-/// The number of two bytes, lowest first: `u16_from(0xea, 0x07)` is 2026.
+/// The number of two bytes, lowest first: `u16_from(0xea, 0x07)` is 2026. Two bytes ff are 65,535, the most.
 pub fn u16_from(a: u8, b: u8) -> u16
     ensures { λ r. ⌜ r ≡ u16From a b ⌝ }
 {
     (a as u16) + 256 * (b as u16)
 }
 
-/// The number of four bytes, lowest first: `u32_from(1, 0, 0, 0)` is 1.
+/// The number of four bytes, lowest first: `u32_from(1, 0, 0, 0)` is 1. Four bytes ff are 4,294,967,295, the most.
 pub fn u32_from(a: u8, b: u8, c: u8, d: u8) -> u32
     ensures { λ r. ⌜ r ≡ u32From a b c d ⌝ }
 {
