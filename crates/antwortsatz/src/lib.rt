@@ -5,7 +5,7 @@ ghost use Rattle.antwortsatz.specs.Answers.{zeroDate, dateWord, filled, 
 ghost use Rattle.antwortsatz.specs.Answers.{atInstant, judged, spanned};
 use datum::Date;
 
-// The refusals of document 01, "Host calls and their refusals", by the host's names.
+// The refusals of document 01, "Host calls and their refusals", and of document 02, by the host's names.
 
 /// The answer isn't 32 bytes long.
 pub const ANSWER_LENGTH: u8 = 1;
@@ -23,6 +23,8 @@ pub const LOCAL_TIME_ABSENT: u8 = 6;
 pub const NO_BEGINNING: u8 = 7;
 /// A result leaves the calendar.
 pub const LEAVES_CALENDAR: u8 = 8;
+/// The questions are no multiple of 32 bytes or exceed 65,536, or the answers differ in length.
+pub const FILE_LENGTH: u8 = 9;
 
 /// The answer's length in bytes.
 const ANSWER_BYTES: usize = 32;

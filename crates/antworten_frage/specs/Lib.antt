@@ -1,0 +1,2 @@
+pub mod Frage
+pub mod Fragen
