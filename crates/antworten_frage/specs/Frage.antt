@@ -5,6 +5,7 @@
 --   fristQuestionAnswer w q = as a due shape: its second count is the clock
 --   checkQuestionAnswer w q = as a verdict
 --   spanQuestionAnswer w q  = as a span
+--   operations w q          = the question as each of the four, in the order of their codes
 --   questionAnswer w q      = the answer of the question, by its operation, or refusal 2
 -- Source: document 02, F-1: 'Byte 0 is the operation (0 CONTRL, 1 due shape, 2 verdict, 3 span)'; 'For a due shape the
 -- second count is the clock in whole seconds'; 'An answer equals the single call's. Checks: 2 also if byte 2 or 3 is not
@@ -12,7 +13,7 @@
 -- Assumes nothing.
 use Prim.Native.Nat.{ℕ}
 use mathlib.Core.Bool.{Bool, _&&_, cond}
-use mathlib.Core.List.{[], _∷_}
+use mathlib.Core.List.{List, [], _∷_}
 use lib.Dec.{eqb, leb}
 use Rattle.berlin.specs.declared.ClockReading.{ClockReading}
 use Rattle.berlin.specs.declared.ClockReading.the-variants.{At as Clocked, NoClock}
@@ -41,12 +42,12 @@ checkQuestionAnswer w q = vorlaufCheckAnswer w (q .code) (q .count) (q .count2) 
 unfoldable pub spanQuestionAnswer : (ℕ → Bool) → Question → Answer
 spanQuestionAnswer w q = vorlaufSpanAnswer w (q .code) (q .count) (q .count2) (q .transmission)
 
--- the operations in the order of their codes, which are read as every other code
+abbrev pub operations : (ℕ → Bool) → Question → List Answer
+operations w q =
+    contrlQuestionAnswer q ∷ fristQuestionAnswer w q ∷ checkQuestionAnswer w q ∷ spanQuestionAnswer w q ∷ []
+
 unfoldable pub questionAnswer : (ℕ → Bool) → Question → Answer
 questionAnswer w q =
     cond (eqb (q .byte2) 0 && eqb (q .byte3) 0)
-    (onCode
-    (contrlQuestionAnswer q ∷ fristQuestionAnswer w q ∷ checkQuestionAnswer w q ∷ spanQuestionAnswer w q ∷ [])
-    (q .operation)
-    (λ a. a))
+    (onCode (operations w q) (q .operation) (λ a. a))
     (refused unknownCode)

@@ -1,19 +1,21 @@
 -- What the proofs cite: each rule's premises have the form in which a proof has them, so that `search` finds the rule.
 --   question-made   for `question_of`: its fields are what the readers of numbers and dates return
 --   file-rules      for `is_file`: each of its three returns
+--   file-is         what the lengths of a file are
 -- Assumes nothing.
 use Prim.Native.Nat.{ℕ, _%_, _≤_, _<_}
-use mathlib.Core.Bool.{true, false}
+use mathlib.Core.Bool.{true, false, _&&_}
 use mathlib.Core.List.{List}
 use mathlib.Core.Path.{_≡_}
-use borrow.Author.Tests.{eq-eqb, ne-eqb, le-leb, lt-leb}
+use borrow.Author.Tests.{eq-eqb, ne-eqb, le-leb, lt-leb, eqb-true, leb-true}
 use mir.Syntax.{w64}
 use mir.Val.{SFits}
 use mir.Facts.{toZ-ofZ}
-use lib.Dec.{eqb}
+use lib.Dec.{eqb, leb}
 use lib.IntN.{ℤ}
 use lib.ListN.{getD}
 use Rattle.datum.specs.declared.Date.{Date}
+use Rattle.datum.proofs.Dates.{and-left, and-right}
 use Rattle.datum.proofs.Signed.{back}
 use Rattle.zahlen.specs.Places.{u32At, i64At}
 use Rattle.fragesatz.specs.declared.Question.{Question}
@@ -56,3 +58,18 @@ module _ (n m : ℕ) where
   file-even e h = rw (eq-eqb (n % 32) 0 e, le-leb n 65536 h)
 
 pub ruleset file-rules = (file-uneven, file-long, file-even)
+
+pub record FileLengths (n m : ℕ) : Type 0 where
+  pub multiple : n % 32 ≡ 0
+  pub most : n ≤ 65536
+  pub same : m ≡ n
+
+pub file-is : (n m : ℕ) → isFile n m ≡ true → FileLengths n m
+unfolding isFile
+file-is n m h =
+    let r = and-right (eqb (n % 32) 0) (leb n 65536 && eqb m n) h in
+    record {
+      multiple = eqb-true (n % 32) 0 (and-left (eqb (n % 32) 0) (leb n 65536 && eqb m n) h);
+      most = leb-true n 65536 (and-left (leb n 65536) (eqb m n) r);
+      same = eqb-true m n (and-right (leb n 65536) (eqb m n) r)
+    }

@@ -1,93 +1,101 @@
+-- `antworten_frage::questions_reply` meets its contract. The loop's invariant: the answers so far, and those to the
+-- questions that are left, are those of the whole file.
+-- Assumes nothing.
+use Prim.Native.Nat.{_-_, _%_, _≤_}
+use mathlib.Core.Path.{_≡_, _∙_}
+use borrow.Author.Needs.{needs}
+use lib.ListN.{length}
+use Rattle.werktag.specs.Werktag.{isWerktag}
+use Rattle.antworten_frage.proofs.Rules.{Answered, one-more, file-answered, file-rules}
 use Rattle.antworten_frage.proofs.questions_reply.Statement.{statement}
 use Rattle.antworten_frage.proofs.questions_reply.Tie as tie
-use Rattle.antworten_frage.proofs.questions_reply.Reads as reads
-use Rattle.antworten_frage.proofs.questions_reply.Lts as lts
-use Rattle.antworten_frage.proofs.question_answer.Reads as question-answer-reads
-use Rattle.antwortsatz.proofs.reply.Reads as reply-reads
-use Rattle.fragesatz.proofs.is_file.Reads as is-file-reads
-use Rattle.fragesatz.proofs.question_of.Reads as question-of-reads
 
 abbrev Inv-loop : tie.InvT-loop
-Inv-loop questions answers₀ cal at₀ answers at = ?
+Inv-loop questions answers₀ cal at₀ answers at =
+    Answered (isWerktag cal) questions answers at
+    × (length answers ≡ length answers₀)
+    × (length answers₀ ≡ length questions)
+    × (length questions % 32 ≡ 0)
+    × (at % 32 ≡ 0)
+    × (at ≤ length questions)
 
 abbrev μ-loop : tie.MeasureT-loop
-μ-loop questions answers₀ cal at₀ answers at = ?
+μ-loop questions answers₀ cal at₀ answers at = length questions - at
 
--- src/lib.rt:94:9
 is-file-requires : tie.Need-is-file-requires Inv-loop μ-loop
-is-file-requires c κs = ?
+is-file-requires c κs = search (needs, file-rules)
 
--- src/lib.rt:95:9
 returns : tie.Need-returns Inv-loop μ-loop
-returns c = ?
+returns c = search (needs, file-rules)
 
--- src/lib.rt:98:5
 loop-holds : tie.Need-loop-holds Inv-loop μ-loop
-loop-holds c = ?
+loop-holds c = search (needs, file-rules)
 
--- src/lib.rt:99:62
 add-question-of : tie.Need-add-question-of Inv-loop μ-loop
-add-question-of c = ?
+add-question-of c = search (needs, file-rules)
 
--- src/lib.rt:99:47
 sub-question-of : tie.Need-sub-question-of Inv-loop μ-loop
-sub-question-of c = ?
+sub-question-of c = search (needs, file-rules)
 
--- src/lib.rt:99:47
 part-question-of-start : tie.Need-part-question-of-start Inv-loop μ-loop
-part-question-of-start c = ?
+part-question-of-start c = search (needs, file-rules)
 
--- src/lib.rt:99:47
 part-question-of-end : tie.Need-part-question-of-end Inv-loop μ-loop
-part-question-of-end c = ?
+part-question-of-end c = search (needs, file-rules)
 
--- src/lib.rt:99:13
 question-of-requires : tie.Need-question-of-requires Inv-loop μ-loop
-question-of-requires c κs = ?
+question-of-requires c κs = search (needs, file-rules)
 
--- src/lib.rt:100:13
 question-answer-requires : tie.Need-question-answer-requires Inv-loop μ-loop
-question-answer-requires c κs = ?
+question-answer-requires c κs = search (needs, file-rules)
 
--- src/lib.rt:101:45
 add-reply : tie.Need-add-reply Inv-loop μ-loop
-add-reply c = ?
+add-reply c = search (needs, file-rules)
 
--- src/lib.rt:101:28
 sub-reply : tie.Need-sub-reply Inv-loop μ-loop
-sub-reply c = ?
+sub-reply c = search (needs, file-rules)
 
--- src/lib.rt:101:28
 part-reply-start : tie.Need-part-reply-start Inv-loop μ-loop
-part-reply-start c = ?
+part-reply-start c = search (needs, file-rules)
 
--- src/lib.rt:101:28
 part-reply-end : tie.Need-part-reply-end Inv-loop μ-loop
-part-reply-end c = ?
+part-reply-end c = search (needs, file-rules)
 
--- src/lib.rt:101:9
 reply-requires : tie.Need-reply-requires Inv-loop μ-loop
-reply-requires c κs = ?
+reply-requires c κs = search (needs, file-rules)
 
--- src/lib.rt:102:9
 add-at : tie.Need-add-at Inv-loop μ-loop
-add-at c = ?
+add-at c = search (needs, file-rules)
 
--- src/lib.rt:98:5
 loop-less : tie.Need-loop-less Inv-loop μ-loop
-loop-less c = ?
+loop-less c = search (needs, file-rules)
 
--- src/lib.rt:98:5
 loop-again : tie.Need-loop-again Inv-loop μ-loop
-loop-again c = ?
+loop-again c =
+    let r = c .before .before in
+    let x = r .before .before in
+    let q = x .before in
+    let t = q .before .before in
+    let i = t .before .loop .inv in
+    (
+      one-more _ _ _ _ _ _ _ _
+      (i .1 ∙ i .2) (i .3) (i .4) (t .loop-test .taken) (q .question-of .ensures) (x .question-answer .ensures)
+      (r .reply .ensures) (i .0),
+      search needs,
+      search needs,
+      search needs,
+      search needs,
+      search needs
+    )
 
--- src/lib.rt:89:1
 same-length : tie.Need-same-length Inv-loop μ-loop
-same-length c = ?
+same-length c = search (needs, file-rules)
 
--- src/lib.rt:89:1
 returns-2 : tie.Need-returns-2 Inv-loop μ-loop
-returns-2 c = ?
+returns-2 c =
+    let e = c .before .before in
+    let i = c .before .loop .inv in
+    file-answered _ _ _ _ (e .before .is-file .ensures) _ _ (e .if1 .left) (i .0) (i .1 ∙ i .2) (c .loop-test .left)
 
 pub questions-reply-spec : {M : Type 1} → statement M
 questions-reply-spec =
