@@ -136,7 +136,7 @@ module _ (w : ℕ → Bool) (l m : List ℕ) where
       let s : a + 32 - a ≡ 32 = omega arith in
       let n : length (take 32 (drop a m)) ≡ 32 = length-take-le 32 (drop a m) (omega (arith, length-drop a m)) in
       let y : p ≡ bytesOf (questionAnswer w (questionOf (take 32 (drop a l)))) =
-          replied (take 32 (drop a m)) p x r n (rw s at o) ∙ ap bytesOf (j ∙ ap (questionAnswer w) (rw s at i)) in
+      replied (take 32 (drop a m)) p x r n (rw s at o) ∙ ap bytesOf (j ∙ ap (questionAnswer w) (rw s at i)) in
       let c : (length l - a) / 32 ≡ suc ((length l - (a + 32)) / 32) = omega arith in
       rw (up-to-part m p a (a + 32 - a) (omega arith) (ap length y ∙ bytes-length _), y)
       (append-assoc (take a m) _ _ ∙ (rw (c, drop-drop 32 a l) at e))

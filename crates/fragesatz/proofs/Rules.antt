@@ -71,5 +71,5 @@ file-is n m h =
     record {
       multiple = eqb-true (n % 32) 0 (and-left (eqb (n % 32) 0) (leb n 65536 && eqb m n) h);
       most = leb-true n 65536 (and-left (leb n 65536) (eqb m n) r);
-      same = eqb-true m n (and-right (leb n 65536) (eqb m n) r)
+      same = eqb-true m n (and-right (leb n 65536) (eqb m n) r);
     }

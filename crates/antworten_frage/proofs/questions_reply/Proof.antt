@@ -76,16 +76,15 @@ loop-again c =
     let x = r .before .before in
     let q = x .before in
     let t = q .before .before in
-    let i = t .before .loop .inv in
-    (
+    let i = t .before .loop .inv in (
       one-more _ _ _ _ _ _ _ _
-      (i .1 ∙ i .2) (i .3) (i .4) (t .loop-test .taken) (q .question-of .ensures) (x .question-answer .ensures)
-      (r .reply .ensures) (i .0),
+          (i .1 ∙ i .2) (i .3) (i .4) (t .loop-test .taken) (q .question-of .ensures) (x .question-answer .ensures)
+          (r .reply .ensures) (i .0),
       search needs,
       search needs,
       search needs,
       search needs,
-      search needs
+      search needs,
     )
 
 same-length : tie.Need-same-length Inv-loop μ-loop
