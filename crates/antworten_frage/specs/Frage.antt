@@ -1,6 +1,8 @@
 -- What a question of a file answers: the single call's definition on the question's fields. w is the test of a day: a
 -- Werktag by some list.
 --   clockOfSeconds n        = the time of day n seconds after 00:00 on the clock, or NoClock
+--   clockSeconds h m s      = the count that a record has for the clock of a call: its seconds after 00:00 on the clock,
+--       and one that is no clock for numbers that are none
 --   contrlQuestionAnswer q  = the question as a CONTRL: the occasion is its code
 --   fristQuestionAnswer w q = as a due shape: its second count is the clock
 --   checkQuestionAnswer w q = as a verdict
@@ -11,13 +13,13 @@
 -- second count is the clock in whole seconds'; 'An answer equals the single call's. Checks: 2 also if byte 2 or 3 is not
 -- zero; 5 also for a clock over 86,399'.
 -- Assumes nothing.
-use Prim.Native.Nat.{ℕ}
+use Prim.Native.Nat.{ℕ, _+_}
 use mathlib.Core.Bool.{Bool, _&&_, cond}
 use mathlib.Core.List.{List, [], _∷_}
 use lib.Dec.{eqb, leb}
 use Rattle.berlin.specs.declared.ClockReading.{ClockReading}
 use Rattle.berlin.specs.declared.ClockReading.the-variants.{At as Clocked, NoClock}
-use Rattle.berlin.specs.Berlin.{readInstant}
+use Rattle.berlin.specs.Berlin.{hours, minutes, readInstant}
 use Rattle.antwortsatz.specs.declared.Answer.{Answer}
 use Rattle.antwortsatz.specs.Refusals.{unknownCode}
 use Rattle.antwortsatz.specs.Answers.{refused}
@@ -28,6 +30,9 @@ use Rattle.antworten_vorlauf.specs.Vorlauf.{vorlaufCheckAnswer, vorlaufSpanAnsw
 
 unfoldable pub clockOfSeconds : ℕ → ClockReading
 clockOfSeconds n = cond (leb n 86399) (Clocked (record { second = n; nanos = 0 })) NoClock
+
+abbrev pub clockSeconds : ℕ → ℕ → ℕ → ℕ
+clockSeconds h m s = cond (leb h 23 && (leb m 59 && leb s 59)) (hours h + minutes m + s) 86400
 
 unfoldable pub contrlQuestionAnswer : Question → Answer
 contrlQuestionAnswer q = contrlDueAtAnswer (readInstant (q .seconds) (q .nanos)) (q .code)
