@@ -44,7 +44,7 @@ module _ (w : ℕ → Bool) where
       let r = answersTo w (records k (drop 32 l)) in
       let n : 32 * suc i ≡ 32 + 32 * i = omega arith in
       let s : drop (32 + 32 * i) (q ++ r) ≡ drop (32 * i) r =
-          ap (λ (j : ℕ). drop (j + 32 * i) (q ++ r)) (sym (bytes-length _)) ∙ drop-append-add q r (32 * i) in
+      ap (λ (j : ℕ). drop (j + 32 * i) (q ++ r)) (sym (bytes-length _)) ∙ drop-append-add q r (32 * i) in
       rw (n, s, ← drop-drop (32 * i) 32 l) (record-at k i (drop 32 l) (omega arith))
 
   module _ (l m : List ℕ) (f : isFile (length l) (length m) ≡ true) where
@@ -81,19 +81,19 @@ unfolding clockOfSeconds readClock
 clock-same h m s =
     elim (decLe h 23) [
       | yes a ↦
-        elim (decLe m 59) [
-          | yes b ↦
-            elim (decLe s 59) [
-              | yes c ↦
-                rw (
-                  le-leb h 23 a,
-                  le-leb m 59 b,
-                  le-leb s 59 c,
-                  le-leb (hours h + minutes m + s) 86399 (omega arith),
-                )
-              | no c ↦ rw (le-leb h 23 a, le-leb m 59 b, lt-leb s 59 (omega arith))
-            ]
-          | no b ↦ rw (le-leb h 23 a, lt-leb m 59 (omega arith))
-        ]
+          elim (decLe m 59) [
+            | yes b ↦
+                elim (decLe s 59) [
+                  | yes c ↦
+                      rw (
+                        le-leb h 23 a,
+                        le-leb m 59 b,
+                        le-leb s 59 c,
+                        le-leb (hours h + minutes m + s) 86399 (omega arith),
+                      )
+                  | no c ↦ rw (le-leb h 23 a, le-leb m 59 b, lt-leb s 59 (omega arith))
+                ]
+            | no b ↦ rw (le-leb h 23 a, lt-leb m 59 (omega arith))
+          ]
       | no a ↦ rw (lt-leb h 23 (omega arith))
     ]
