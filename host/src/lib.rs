@@ -24,6 +24,7 @@
 //! | *Which Vorlauffrist has a deregistration?* | [`AbmeldungVorlauf::fuer`] |
 //! | *And was it kept?* | [`AbmeldungVorlauf::check`] |
 //! | *Did the 13:00 announcement come in time?* | [`eog_ankuendigung_fristgerecht`] |
+//! | *What is the answer to each of a day's questions?* | [`fragen`] |
 //!
 //! A call answers, or refuses with one of the numbers of document 01, which [`Refusal`] names. What
 //! is neither is an [`Error::Unreadable`]. No input makes a function of this crate panic.
@@ -83,7 +84,7 @@
 //!
 //! The calls have no state, and read neither a clock nor a file: any number of threads may ask at
 //! the same time, without a lock, and the same question always has the same answer. They take no
-//! memory from the heap. A step or a count walks day by day, at most to the calendar's edge:
+//! memory from the heap; [`fragen`] does, for its questions and answers. A step or a count walks day by day, at most to the calendar's edge:
 //! docs/BENCHMARKS.md has the times.
 
 #![deny(missing_docs)]
@@ -93,9 +94,11 @@ mod abmeldung;
 mod ankuendigung;
 mod anlass;
 mod answer;
+mod antwort;
 mod archive;
 mod berlin;
 mod berlin_time;
+mod bytes;
 mod call;
 mod clock;
 mod content;
@@ -105,6 +108,9 @@ mod error;
 mod feiertage;
 pub mod ffi;
 mod fields;
+mod frage;
+mod fragen;
+mod fragesatz;
 mod frist_shape;
 mod fristen;
 mod gas;
@@ -126,6 +132,7 @@ pub use abmeldung::AbmeldungVorlauf;
 pub use ankuendigung::eog_ankuendigung_fristgerecht;
 pub use anlass::ContrlAnlass;
 pub use answer::Answer;
+pub use antwort::Antwort;
 pub use archive::check_archive;
 pub use berlin::{
     berlin_at, berlin_date, berlin_midnight, end_of_day_berlin, tag_des_beginns, tagesbeginn_utc,
@@ -138,6 +145,9 @@ pub use date::{Date, DateError};
 pub use eeg::Eeg;
 pub use error::Error;
 pub use feiertage::Feiertag;
+pub use frage::Frage;
+pub use fragen::{answer_records, answers, fragen, MOST_QUESTIONS};
+pub use fragesatz::Fragesatz;
 pub use frist_shape::FristShape;
 pub use fristen::{
     add_hours, aperak_gas_due_at, aperak_gas_folgeprozess_due_at, aperak_gas_initialprozess_due_at,
