@@ -78,8 +78,8 @@ impl Refusal {
         }
     }
 
-    /// The refusal of a number. None for 0, which is an answer's, and for one that document 01 does
-    /// not have, which is neither: no caller may take the one for the other.
+    /// The refusal of a number. None for 0, which is an answer's, and for one that no document has,
+    /// which is neither: no caller may take the one for the other.
     pub(crate) fn of_number(number: u8) -> Option<Refusal> {
         match number {
             1 => Some(Refusal::AnswerLength),
