@@ -1,6 +1,17 @@
 use crate::{Instant, Span, VorlaufVerdict};
 
-/// What the answer to a [`Frage`](crate::Frage) says.
+/// What the answer to a [`Frage`](crate::Frage) says: which case, its operation decides.
+///
+/// ```
+/// use mako_fristen_host::{fragen, Antwort, Date, Frage, VorlaufShape, VorlaufVerdict};
+///
+/// let (shape, monday) = (VorlaufShape::LatestWerktageBefore(1), Date::new(2026, 1, 12));
+/// let sent = |day| Frage::Check { shape, uebertragungstag: Date::new(2026, 1, day), anchor: monday };
+/// let in_time = fragen(&[sent(9), sent(10)]).into_iter().map(|answer| {
+///     matches!(answer, Ok(Antwort::Verdict(VorlaufVerdict::Ok)))
+/// });
+/// assert!(in_time.eq([true, false]));
+/// ```
 #[derive(Clone, Copy, Debug, PartialEq, Eq, Hash)]
 #[must_use]
 pub enum Antwort {
