@@ -209,8 +209,8 @@ impl Answer {
         answer.read_beside(number, call)
     }
 
-    /// A refusal's answer: its number, and nothing else. Refusals 1 and 9 leave a slice untouched, so
-    /// that no call gives this answer of them.
+    /// A refusal's answer: its number, and nothing else. Refusals 1 and 9 leave a slice untouched,
+    /// so that no call gives this answer of them.
     ///
     /// ```
     /// use mako_fristen_host::{Answer, Refusal};

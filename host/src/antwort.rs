@@ -5,8 +5,11 @@ use crate::{Instant, Span, VorlaufVerdict};
 /// ```
 /// use mako_fristen_host::{fragen, Antwort, Date, Frage, VorlaufShape, VorlaufVerdict};
 ///
-/// let (shape, monday) = (VorlaufShape::LatestWerktageBefore(1), Date::new(2026, 1, 12));
-/// let sent = |day| Frage::Check { shape, uebertragungstag: Date::new(2026, 1, day), anchor: monday };
+/// let sent = |day| Frage::Check {
+///     shape: VorlaufShape::LatestWerktageBefore(1),
+///     uebertragungstag: Date::new(2026, 1, day),
+///     anchor: Date::new(2026, 1, 12),
+/// };
 /// let in_time = fragen(&[sent(9), sent(10)]).into_iter().map(|answer| {
 ///     matches!(answer, Ok(Antwort::Verdict(VorlaufVerdict::Ok)))
 /// });

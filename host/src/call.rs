@@ -3,9 +3,9 @@
 //! [`Parameter`] nor [`Content`] is `non_exhaustive`: whoever goes through all calls is to be stopped
 //! by a new one.
 //!
-//! `mf_questions` is no [`Call`]: a call has one question and one answer of 32 bytes, which is what a
-//! [`Question`] puts and an [`Answer`](crate::Answer) reads. A file of questions has as many of both
-//! as it likes, and each answer in it is read as one of the single call
+//! `mf_questions` is no [`Call`]: a call has one question and one answer of 32 bytes, which is what
+//! a [`Question`] puts and an [`Answer`](crate::Answer) reads. A file of questions has any number of
+//! both, and each answer in it is read as one of the single call
 //! ([`Frage::call`](crate::Frage::call)).
 
 use crate::{ffi, Content, Parameter, Question};

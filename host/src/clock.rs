@@ -26,8 +26,8 @@ impl Clock {
         Clock { hour, minute, second, nanos }
     }
 
-    /// Whole seconds since midnight, 0 to 86,399, without the fraction; none if the four numbers are
-    /// no time of day.
+    /// Whole seconds since midnight, 0 to 86,399, without the fraction; none if the four numbers
+    /// are no time of day.
     ///
     /// ```
     /// use mako_fristen_host::Clock;

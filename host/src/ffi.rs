@@ -10,8 +10,8 @@
 //! assert_eq!(mf_is_werktag(2026, 4, 2, &mut answer[..31]), 1, "no room for an answer");
 //! ```
 //!
-//! [`mf_questions`] alone takes no number: it lends a file of questions, and as many bytes for their
-//! answers, which docs/host-calls.md calls `answers`.
+//! [`mf_questions`] alone takes no number: it is lent a file of questions, and as many bytes for
+//! their answers, which docs/host-calls.md calls `answers`.
 //!
 //! ```
 //! use mako_fristen_host::ffi::mf_questions;

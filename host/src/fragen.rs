@@ -42,8 +42,8 @@ pub fn fragen(questions: &[Frage]) -> Vec<Result<Antwort, Error>> {
     in_files(questions, ffi::mf_questions, Frage::answer, Frage::read)
 }
 
-/// The same with the 32 bytes of each answer, checked as [`Question::answer`](crate::Question::answer)
-/// checks them.
+/// The same with the 32 bytes of each answer, checked as
+/// [`Question::answer`](crate::Question::answer) checks them.
 ///
 /// ```
 /// use mako_fristen_host::{answers, Answer, Date, Frage, VorlaufShape};
@@ -60,8 +60,8 @@ pub fn answers(questions: &[Frage]) -> Vec<Result<Answer, Error>> {
     in_files(questions, ffi::mf_questions, single, read)
 }
 
-/// The answers to records as they came, 32 bytes for each and in their order. Neither are looked at:
-/// [`Answer`] and [`Fragesatz`] read them.
+/// The answers to records as they came, 32 bytes for each and in their order. Neither are looked
+/// at: [`Fragesatz`] and [`Answer`] read them.
 ///
 /// ```
 /// use mako_fristen_host::{answer_records, Refusal};
@@ -77,8 +77,9 @@ pub fn answers(questions: &[Frage]) -> Vec<Result<Answer, Error>> {
 ///
 /// # Errors
 ///
-/// [`Refusal::FileLength`], if the bytes are no multiple of 32. [`Error::Unreadable`], if the archive
-/// refuses a file that is none too long, with the call of the file's first record.
+/// [`Refusal::FileLength`], if the bytes are no multiple of 32. [`Error::Unreadable`], if an
+/// archive of another version refuses a file of up to [`MOST_QUESTIONS`]; the call in it is that of
+/// the file's first record, or of a CONTRL, if that one's operation is unknown.
 pub fn answer_records(records: &[u8]) -> Result<Vec<u8>, Error> {
     by_files(records, ffi::mf_questions)
 }

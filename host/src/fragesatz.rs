@@ -131,9 +131,9 @@ impl Fragesatz {
     /// # Errors
     ///
     /// [`Refusal::UnknownCode`], for an operation over 3, an unknown code, or a byte 2 or 3 that is
-    /// not zero; [`Refusal::NoClock`], for a clock over 86,399 of a shape that has one. The answer of
-    /// such a record is a refusal as well, with the same number, unless its receipt lies outside the
-    /// calendar: [`Refusal::InstantOutside`] goes before `NoClock`.
+    /// not zero; [`Refusal::NoClock`], for a clock over 86,399 of a shape that has one. The answer
+    /// to such a record is a refusal as well, with the same number, unless its receipt lies outside
+    /// the calendar: [`Refusal::InstantOutside`] goes before `NoClock`.
     pub fn frage(&self) -> Result<Frage, Refusal> {
         if bytes::field(&self.bytes, ZERO) != [0; 2] {
             return Err(Refusal::UnknownCode);

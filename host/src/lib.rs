@@ -28,8 +28,8 @@
 //!
 //! A call answers, or refuses with one of the numbers of document 01, which [`Refusal`] names. What
 //! is neither is an [`Error::Unreadable`]. No input makes a function of this crate panic.
-//! [`Question`] puts any call as a value, and [`ffi`] has the calls themselves, with an answer of any
-//! length.
+//! [`Question`] puts any call as a value, [`Frage`] the four that a file of questions has, and
+//! [`ffi`] has the calls themselves, with an answer of any length.
 //!
 //! A service that receives a message, sends its CONTRL in time and judges the date that it carries:
 //!
@@ -84,7 +84,8 @@
 //!
 //! The calls have no state, and read neither a clock nor a file: any number of threads may ask at
 //! the same time, without a lock, and the same question always has the same answer. They take no
-//! memory from the heap; [`fragen`] does, for its questions and answers. A step or a count walks day by day, at most to the calendar's edge:
+//! memory from the heap; [`fragen`], [`answers`] and [`answer_records`] do, for the questions and
+//! answers of a day. A step or a count walks day by day, at most to the calendar's edge:
 //! docs/BENCHMARKS.md has the times.
 
 #![deny(missing_docs)]

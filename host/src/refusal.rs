@@ -132,8 +132,8 @@ impl Refusal {
                 "Ein Ergebnis verlässt den Kalender vom 1. Januar 1996 bis zum 31. Dezember 2899."
             }
             Refusal::FileLength => {
-                "Die Fragen sind kein Vielfaches von 32 Bytes oder länger als 65536 Bytes, oder die \
-                 Antworten sind nicht ebenso lang."
+                "Die Fragen sind kein Vielfaches von 32 Bytes oder länger als 65536 Bytes, oder \
+                 die Antworten sind nicht ebenso lang."
             }
         }
     }

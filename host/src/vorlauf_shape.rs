@@ -85,8 +85,8 @@ impl VorlaufShape {
     }
 
     /// The shape of a code and two counts, the inverse of [`code`](VorlaufShape::code) and
-    /// [`counts`](VorlaufShape::counts): a count that the shape does not have is not looked at. None
-    /// for a code that the calls refuse.
+    /// [`counts`](VorlaufShape::counts): a count that the shape does not have is not looked at.
+    /// None for a code that the calls refuse.
     ///
     /// ```
     /// use mako_fristen_host::VorlaufShape;

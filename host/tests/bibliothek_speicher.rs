@@ -1,5 +1,5 @@
-//! No call takes memory from the heap, so a service may ask where it must not wait for any. What puts
-//! any number of questions does, for them and their answers.
+//! No call takes memory from the heap, so a service may ask where it must not wait for any. What
+//! puts any number of questions does, for them and their answers.
 
 use mako_fristen_host::{
     answer_records, answers, check_archive, ffi, fragen, Answer, Call, ContrlAnlass, Date, Error,
@@ -66,8 +66,8 @@ fn no_answer_and_no_error_takes_memory() {
     }
 }
 
-/// The records, the answers as they are lent, and the answers as they are given: not one by one, nor
-/// file by file.
+/// The records, the answers as they are lent, and the answers as they are given: not one by one,
+/// nor file by file.
 #[test]
 fn a_days_questions_take_memory_three_times() {
     let received = Instant::new(1_775_080_800, 0);

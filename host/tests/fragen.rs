@@ -368,8 +368,8 @@ fn a_question_is_its_record_and_back() {
     assert!(clocks > ROUNDS / 20, "{clocks} clocks");
 }
 
-/// A record is a question exactly if it is not refused for a code or a clock; its answer is then the
-/// question's.
+/// A record is a question exactly if it is not refused for a code or a clock; its answer is then
+/// the question's.
 #[test]
 fn a_record_is_a_question_or_refused() {
     let mut random = Random(0x7275_6563);
