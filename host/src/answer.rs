@@ -1,3 +1,4 @@
+use crate::bytes;
 use crate::content::FromAnswer;
 use crate::fields::Fields;
 use crate::{
@@ -9,13 +10,12 @@ use std::fmt;
 const REFUSAL: usize = 0;
 const KIND: usize = 1;
 const COUNT: usize = 4;
-const SECONDS: usize = 8;
-const NANOS: usize = 16;
+const INSTANT: usize = 8;
 const DATE: usize = 20;
 const LAST_DATE: usize = 24;
 
 /// What is lent to a call: no answer, should the call leave it as it is.
-const UNTOUCHED: Answer = Answer::from_bytes([u8::MAX; Answer::LEN]);
+pub(crate) const UNTOUCHED: Answer = Answer::from_bytes([u8::MAX; Answer::LEN]);
 
 /// The 32 bytes of an answer, little-endian, laid out as document 01 says. What a call does not
 /// fill is zero. The fields are given as they stand there; what they mean is for
@@ -39,7 +39,7 @@ pub struct Answer {
 
 impl Answer {
     /// How many bytes an answer has.
-    pub const LEN: usize = 32;
+    pub const LEN: usize = bytes::LEN;
 
     /// The answer of these bytes, whatever they are: [`read`](Answer::read) judges them.
     #[must_use]
@@ -68,26 +68,25 @@ impl Answer {
     /// The count, of a verdict its Werktage.
     #[must_use]
     pub fn count(&self) -> u32 {
-        u32::from_le_bytes(self.field(COUNT))
+        bytes::count(&self.bytes, COUNT)
     }
 
     /// The instant.
     #[must_use]
     pub fn instant(&self) -> Instant {
-        let seconds = i64::from_le_bytes(self.field(SECONDS));
-        Instant::new(seconds, u32::from_le_bytes(self.field(NANOS)))
+        bytes::instant(&self.bytes, INSTANT)
     }
 
     /// The date, of a span its first.
     #[must_use]
     pub fn date(&self) -> Date {
-        Date::from_bytes(self.field(DATE))
+        bytes::date(&self.bytes, DATE)
     }
 
     /// The span's last date.
     #[must_use]
     pub fn last_date(&self) -> Date {
-        Date::from_bytes(self.field(LAST_DATE))
+        bytes::date(&self.bytes, LAST_DATE)
     }
 
     /// What an answer of `call` says. Every byte of it counts: a kind that document 01 does not have
@@ -128,15 +127,17 @@ impl Answer {
     fn without_content(&self, fields: &Fields, number: u8, call: Call) -> Error {
         let refused = Fields { number, ..Fields::default() };
         match Refusal::of_number(number) {
-            // A 1 leaves the slice untouched, so that no 32 bytes hold it.
-            None | Some(Refusal::AnswerLength) => self.unreadable(number, call),
+            // A 1 and a 9 leave the slice untouched, so that no 32 bytes hold them.
+            None | Some(Refusal::AnswerLength | Refusal::FileLength) => {
+                self.unreadable(number, call)
+            }
             Some(refusal) if *fields == refused => refusal.into(),
             Some(_) => self.unreadable(number, call),
         }
     }
 
     #[cold]
-    fn unreadable(&self, number: u8, call: Call) -> Error {
+    pub(crate) fn unreadable(&self, number: u8, call: Call) -> Error {
         Unreadable { call, number, answer: *self }.into()
     }
 
@@ -208,8 +209,8 @@ impl Answer {
         answer.read_beside(number, call)
     }
 
-    /// A refusal's answer: its number, and nothing else. Refusal 1 leaves a slice untouched, so that
-    /// no call gives this answer of it.
+    /// A refusal's answer: its number, and nothing else. Refusals 1 and 9 leave a slice untouched,
+    /// so that no call gives this answer of them.
     ///
     /// ```
     /// use mako_fristen_host::{Answer, Refusal};
@@ -235,8 +236,8 @@ impl Answer {
 
     /// With this instant.
     #[must_use]
-    pub fn with_instant(self, Instant { seconds, nanos }: Instant) -> Answer {
-        self.with(SECONDS, &seconds.to_le_bytes()).with(NANOS, &nanos.to_le_bytes())
+    pub fn with_instant(self, instant: Instant) -> Answer {
+        Answer { bytes: bytes::with_instant(self.bytes, INSTANT, instant) }
     }
 
     /// With this date.
@@ -252,18 +253,17 @@ impl Answer {
     }
 
     pub(crate) fn field<const N: usize>(&self, at: usize) -> [u8; N] {
-        std::array::from_fn(|i| self.bytes[at + i])
+        bytes::field(&self.bytes, at)
     }
 
-    fn with(mut self, at: usize, field: &[u8]) -> Answer {
-        self.bytes[at..at + field.len()].copy_from_slice(field);
-        self
+    fn with(self, at: usize, field: &[u8]) -> Answer {
+        Answer { bytes: bytes::with(self.bytes, at, field) }
     }
 }
 
 /// The bytes as 64 hexadecimal digits.
 impl fmt::LowerHex for Answer {
     fn fmt(&self, f: &mut fmt::Formatter<'_>) -> fmt::Result {
-        self.bytes.iter().try_for_each(|byte| write!(f, "{byte:02x}"))
+        bytes::hex(&self.bytes, f)
     }
 }

@@ -1,11 +1,12 @@
 //! Whether the archive that is linked answers as document 01 has it.
 
 use crate::{
-    Answer, Call, Clock, Date, Eeg, Instant, Question, Reason, Refusal, Unreadable, VorlaufShape,
+    ffi, Answer, Call, Clock, ContrlAnlass, Date, Eeg, Frage, FristShape, Instant, Question,
+    Reason, Refusal, Unreadable, VorlaufShape,
 };
 
 /// For the start of a service: asks for an answer of every kind, and compares the 32 bytes with those
-/// that document 01 gives.
+/// that document 01 gives; for those of a file too, with a question of every operation.
 ///
 /// That an answer can be read does not say that it still means the same. An archive whose day test
 /// has 0 for a Werktag, and not 1, would be read the wrong way round; here it is found. It takes some
@@ -25,10 +26,12 @@ pub fn check_archive() -> Result<(), Unreadable> {
     checked(&spans())?;
     checked(&deregistrations())?;
     checked(&announcements())?;
-    checked(&refusals())
+    checked(&refusals())?;
+    checked_file(&file())
 }
 
 type Row = (Question, Answer);
+type FileRow = (Frage, Answer);
 
 fn checked(rows: &[Row]) -> Result<(), Unreadable> {
     for (question, expected) in rows {
@@ -37,6 +40,20 @@ fn checked(rows: &[Row]) -> Result<(), Unreadable> {
         let answer = Answer::from_bytes(bytes);
         if number != expected.number() || answer != *expected {
             return Err(Unreadable { call: question.call, number, answer });
+        }
+    }
+    Ok(())
+}
+
+/// All in one file.
+fn checked_file<const N: usize>(rows: &[FileRow; N]) -> Result<(), Unreadable> {
+    let records = rows.map(|(frage, _)| *frage.fragesatz().unwrap_or_default().as_bytes());
+    let mut answers = [[u8::MAX; Answer::LEN]; N];
+    let number = ffi::mf_questions(records.as_flattened(), answers.as_flattened_mut());
+    for ((frage, expected), bytes) in rows.iter().zip(answers) {
+        let answer = Answer::from_bytes(bytes);
+        if number != 0 || answer != *expected {
+            return Err(Unreadable { call: frage.call(), number, answer });
         }
     }
     Ok(())
@@ -151,11 +168,30 @@ fn refusals() -> [Row; 7] {
     rows.map(|(question, refusal)| (question, Answer::refused(refusal)))
 }
 
+/// Cases I, L and E, and a clock that is none.
+fn file() -> [FileRow; 5] {
+    let at = |seconds| Instant::new(seconds, 0);
+    let same_day_at = |hour| Frage::Frist {
+        shape: FristShape::SameDayAt(Clock::new(hour, 0, 0, 0)),
+        received: at(1_767_956_400),
+    };
+    let contrl = Frage::Contrl { received: at(1_774_951_199), anlass: ContrlAnlass::Regelfall };
+    let shape = VorlaufShape::LatestWerktageBefore(1);
+    let (uebertragungstag, anchor) = (date(1, 10), date(1, 12));
+    [
+        (contrl, kind(0).with_instant(at(1_774_972_799))),
+        (same_day_at(12), kind(0).with_instant(at(1_768_215_600))),
+        (same_day_at(24), Answer::refused(Refusal::NoClock)),
+        (Frage::Check { shape, uebertragungstag, anchor }, kind(1).with_date(anchor)),
+        (Frage::Span { shape, uebertragungstag }, kind(0).with_date(date(1, 13))),
+    ]
+}
+
 #[cfg(test)]
 mod tests {
     use super::*;
 
-    /// All kinds of document 01, and its refusals but 1, which no 32 bytes hold.
+    /// All kinds of document 01, and its refusals but 1, which no 32 bytes hold; all operations.
     #[test]
     fn every_kind_and_every_refusal_is_asked_for() {
         let kinds = |rows: &[Row]| rows.iter().map(|(_, answer)| answer.kind()).collect::<Vec<_>>();
@@ -166,6 +202,8 @@ mod tests {
         assert_eq!(kinds(&deregistrations()), [0, 1, 2, 3]);
         assert_eq!(kinds(&announcements()), [0, 1, 2]);
         assert_eq!(refusals().map(|(_, answer)| answer.number()), [2, 3, 4, 5, 6, 7, 8]);
+        assert_eq!(file().map(|(frage, _)| frage.operation()), [0, 1, 1, 2, 3]);
+        assert!(file().iter().all(|(frage, _)| frage.fragesatz().is_some()));
     }
 
     #[test]
@@ -173,5 +211,12 @@ mod tests {
         let [(question, open), (_, closed), ..] = days();
         let turned = checked(&[(question, closed)]);
         assert_eq!(turned, Err(Unreadable { call: Call::IsWerktag, number: 0, answer: open }));
+    }
+
+    #[test]
+    fn an_answer_at_the_place_of_another_is_found() {
+        let [contrl, (frist, due), ..] = file();
+        let found = checked_file(&[contrl, (frist, contrl.1)]);
+        assert_eq!(found, Err(Unreadable { call: Call::FristDueAt, number: 0, answer: due }));
     }
 }

@@ -2,6 +2,11 @@
 //! parameters that docs/host-calls.md gives; its number is its place there. Neither [`Call`] nor
 //! [`Parameter`] nor [`Content`] is `non_exhaustive`: whoever goes through all calls is to be stopped
 //! by a new one.
+//!
+//! `mf_questions` is no [`Call`]: a call has one question and one answer of 32 bytes, which is what
+//! a [`Question`] puts and an [`Answer`](crate::Answer) reads. A file of questions has any number of
+//! both, and each answer in it is read as one of the single call
+//! ([`Frage::call`](crate::Frage::call)).
 
 use crate::{ffi, Content, Parameter, Question};
 
@@ -49,7 +54,8 @@ macro_rules! put {
 
 macro_rules! calls {
     ($($call:ident $name:ident($($parameter:ident),+) -> $content:ident;)+) => {
-        /// A host call. The order is that of docs/host-calls.md.
+        /// A host call with one question and one answer, which is each but
+        /// [`mf_questions`](crate::ffi::mf_questions). The order is that of docs/host-calls.md.
         #[derive(Clone, Copy, Debug, PartialEq, Eq, PartialOrd, Ord, Hash)]
         #[repr(u8)]
         pub enum Call {

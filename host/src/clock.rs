@@ -26,6 +26,40 @@ impl Clock {
         Clock { hour, minute, second, nanos }
     }
 
+    /// Whole seconds since midnight, 0 to 86,399, without the fraction; none if the four numbers
+    /// are no time of day.
+    ///
+    /// ```
+    /// use mako_fristen_host::Clock;
+    ///
+    /// assert_eq!(Clock::new(12, 0, 0, 5).second_of_day(), Some(43_200));
+    /// assert_eq!(Clock::new(0, 60, 0, 0).second_of_day(), None);
+    /// ```
+    #[must_use]
+    pub fn second_of_day(self) -> Option<u32> {
+        let Clock { hour, minute, second, nanos } = self;
+        if hour > 23 || minute > 59 || second > 59 || nanos > 999_999_999 {
+            return None;
+        }
+        Some(u32::from(hour) * 3600 + u32::from(minute) * 60 + u32::from(second))
+    }
+
+    /// The time so many whole seconds after midnight; none for over 86,399.
+    ///
+    /// ```
+    /// use mako_fristen_host::Clock;
+    ///
+    /// assert_eq!(Clock::of_second_of_day(43_200), Some(Clock::new(12, 0, 0, 0)));
+    /// assert_eq!(Clock::of_second_of_day(86_400), None);
+    /// ```
+    #[must_use]
+    pub fn of_second_of_day(second: u32) -> Option<Clock> {
+        let hour = u8::try_from(second / 3600).ok().filter(|hour| *hour < 24)?;
+        // Less than 60 each.
+        let (minute, second) = ((second / 60 % 60) as u8, (second % 60) as u8);
+        Some(Clock::new(hour, minute, second, 0))
+    }
+
     /// As it is read out in German, with seconds and their fraction where they are not zero.
     ///
     /// ```

@@ -10,6 +10,18 @@
 //! assert_eq!(mf_is_werktag(2026, 4, 2, &mut answer[..31]), 1, "no room for an answer");
 //! ```
 //!
+//! [`mf_questions`] alone takes no number: it is lent a file of questions, and as many bytes for
+//! their answers, which docs/host-calls.md calls `answers`.
+//!
+//! ```
+//! use mako_fristen_host::ffi::mf_questions;
+//!
+//! let mut answers = [7; 64];
+//! assert_eq!(mf_questions(&[0; 64], &mut answers), 0);
+//! assert_eq!((answers[0], answers[32]), (4, 4), "two CONTRL received in 1970");
+//! assert_eq!(mf_questions(&[0; 63], &mut answers[..63]), 9, "no multiple of 32");
+//! ```
+//!
 //! This is the only module with `unsafe`. A new call is a new row of `calls!`, with the parameters
 //! that docs/host-calls.md gives before `answer`; `&reason` stands for a slice, which C sees as a
 //! pointer and a length.
@@ -19,11 +31,11 @@
 #![allow(clippy::too_many_arguments)]
 
 macro_rules! calls {
-    ($($call:ident($(&$slice:ident,)? $($parameter:ident: $number:ty),+);)+) => {
+    ($($call:ident($(&$slice:ident $(,)?)? $($parameter:ident: $number:ty),*);)+) => {
         mod c {
             extern "C" {
                 $(pub fn $call(
-                    $($slice: *const u8, _: usize,)? $($parameter: $number,)+
+                    $($slice: *const u8, _: usize,)? $($parameter: $number,)*
                     answer: *mut u8, len: usize
                 ) -> u8;)+
             }
@@ -31,13 +43,13 @@ macro_rules! calls {
         $(
             /// Lends `answer`, of any length, to the call of this name; returns its number.
             #[must_use]
-            pub fn $call($($slice: &[u8],)? $($parameter: $number,)+ answer: &mut [u8]) -> u8 {
+            pub fn $call($($slice: &[u8],)? $($parameter: $number,)* answer: &mut [u8]) -> u8 {
                 // SAFETY: a pointer and its length are one slice's, lent for the call alone. The
                 // call is proved to write nothing beyond `answer` and to demand nothing of its
                 // caller.
                 unsafe {
                     c::$call(
-                        $($slice.as_ptr(), $slice.len(),)? $($parameter,)+
+                        $($slice.as_ptr(), $slice.len(),)? $($parameter,)*
                         answer.as_mut_ptr(), answer.len()
                     )
                 }
@@ -100,4 +112,5 @@ calls! {
         year: u16, month: u8, day: u8, year2: u16, month2: u8, day2: u8
     );
     mf_eog_ankuendigung_fristgerecht(seconds: i64, nanos: u32, year: u16, month: u8, day: u8);
+    mf_questions(&questions);
 }

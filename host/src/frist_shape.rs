@@ -42,6 +42,23 @@ impl FristShape {
         }
     }
 
+    /// The clock; none if the shape has none.
+    ///
+    /// ```
+    /// use mako_fristen_host::{Clock, FristShape};
+    ///
+    /// let noon = Clock::new(12, 0, 0, 0);
+    /// assert_eq!(FristShape::SameDayAt(noon).clock(), Some(noon));
+    /// assert_eq!(FristShape::SameDay.clock(), None);
+    /// ```
+    #[must_use]
+    pub const fn clock(self) -> Option<Clock> {
+        match self {
+            FristShape::WerktagAt { at, .. } | FristShape::SameDayAt(at) => Some(at),
+            FristShape::EndOfWerktag(_) | FristShape::SameDay => None,
+        }
+    }
+
     /// When the answer to a message is due. [`SameDayAt`](FristShape::SameDayAt), received exactly
     /// at the clock time, goes to the next Werktag.
     ///
@@ -61,14 +78,17 @@ impl FristShape {
     /// with a clock; [`Refusal::LocalTimeAbsent`], if the receipt day lacks the clock time of
     /// `SameDayAt`, be it a Werktag or not.
     pub fn due_at(self, received: Instant) -> Result<Instant, Error> {
+        self.question(received).content()
+    }
+
+    pub(crate) fn question(self, received: Instant) -> Question {
         let question = Question::at(Call::FristDueAt, received).with_code(self.code());
-        let question = match self {
+        match self {
             FristShape::WerktagAt { werktage, at } => question.with_count(werktage).with_clock(at),
             FristShape::EndOfWerktag(werktage) => question.with_count(werktage),
             FristShape::SameDayAt(at) => question.with_clock(at),
             FristShape::SameDay => question,
-        };
-        question.content()
+        }
     }
 
     /// As in 'Die Frist … endet', in the original's words. A clock time keeps its seconds where they

@@ -35,7 +35,11 @@ pub const APERAK_STROM_ALLGEMEIN_LABEL: &str = "aperak-strom-naechster-wt-1200";
 ///
 /// [`Refusal::InstantOutside`], [`Refusal::LeavesCalendar`].
 pub fn contrl_due_at(received: Instant, anlass: ContrlAnlass) -> Result<Instant, Error> {
-    Question::at(Call::ContrlDueAt, received).with_code(anlass.code()).content()
+    contrl_question(received, anlass).content()
+}
+
+pub(crate) fn contrl_question(received: Instant, anlass: ContrlAnlass) -> Question {
+    Question::at(Call::ContrlDueAt, received).with_code(anlass.code())
 }
 
 /// The APERAK on a Strom UTILMD or ORDERS: 45 minutes; Sunday 12:00 if received on a Saturday.

@@ -24,11 +24,12 @@
 //! | *Which Vorlauffrist has a deregistration?* | [`AbmeldungVorlauf::fuer`] |
 //! | *And was it kept?* | [`AbmeldungVorlauf::check`] |
 //! | *Did the 13:00 announcement come in time?* | [`eog_ankuendigung_fristgerecht`] |
+//! | *What is the answer to each of a day's questions?* | [`fragen`] |
 //!
 //! A call answers, or refuses with one of the numbers of document 01, which [`Refusal`] names. What
 //! is neither is an [`Error::Unreadable`]. No input makes a function of this crate panic.
-//! [`Question`] puts any call as a value, and [`ffi`] has the calls themselves, with an answer of any
-//! length.
+//! [`Question`] puts any call as a value, [`Frage`] the four that a file of questions has, and
+//! [`ffi`] has the calls themselves, with an answer of any length.
 //!
 //! A service that receives a message, sends its CONTRL in time and judges the date that it carries:
 //!
@@ -83,7 +84,8 @@
 //!
 //! The calls have no state, and read neither a clock nor a file: any number of threads may ask at
 //! the same time, without a lock, and the same question always has the same answer. They take no
-//! memory from the heap. A step or a count walks day by day, at most to the calendar's edge:
+//! memory from the heap; [`fragen`], [`answers`] and [`answer_records`] do, for the questions and
+//! answers of a day. A step or a count walks day by day, at most to the calendar's edge:
 //! docs/BENCHMARKS.md has the times.
 
 #![deny(missing_docs)]
@@ -93,9 +95,11 @@ mod abmeldung;
 mod ankuendigung;
 mod anlass;
 mod answer;
+mod antwort;
 mod archive;
 mod berlin;
 mod berlin_time;
+mod bytes;
 mod call;
 mod clock;
 mod content;
@@ -105,6 +109,9 @@ mod error;
 mod feiertage;
 pub mod ffi;
 mod fields;
+mod frage;
+mod fragen;
+mod fragesatz;
 mod frist_shape;
 mod fristen;
 mod gas;
@@ -126,6 +133,7 @@ pub use abmeldung::AbmeldungVorlauf;
 pub use ankuendigung::eog_ankuendigung_fristgerecht;
 pub use anlass::ContrlAnlass;
 pub use answer::Answer;
+pub use antwort::Antwort;
 pub use archive::check_archive;
 pub use berlin::{
     berlin_at, berlin_date, berlin_midnight, end_of_day_berlin, tag_des_beginns, tagesbeginn_utc,
@@ -138,6 +146,9 @@ pub use date::{Date, DateError};
 pub use eeg::Eeg;
 pub use error::Error;
 pub use feiertage::Feiertag;
+pub use frage::Frage;
+pub use fragen::{answer_records, answers, fragen, MOST_QUESTIONS};
+pub use fragesatz::Fragesatz;
 pub use frist_shape::FristShape;
 pub use fristen::{
     add_hours, aperak_gas_due_at, aperak_gas_folgeprozess_due_at, aperak_gas_initialprozess_due_at,

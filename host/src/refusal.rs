@@ -1,7 +1,9 @@
 use std::{error, fmt};
 
-/// Why a call gives no answer. The numbers are document 01's; where several apply, the call refuses
-/// with the lowest. Further numbers will come, so a `match` needs a case for the rest.
+/// Why a call gives no answer. The numbers are document 01's, and 9 document 02's; where several
+/// apply, the call refuses with the lowest, but 9 goes before all others: it is for a whole file of
+/// questions, before any of them is read. Further numbers will come, so a `match` needs a case for
+/// the rest.
 ///
 /// A refusal says that the question has no answer, never that a Frist was kept or missed. It is
 /// final: the same question is always refused with the same number.
@@ -34,11 +36,15 @@ pub enum Refusal {
     NoBeginning,
     /// 8: a result leaves the calendar.
     LeavesCalendar,
+    /// 9: the bytes of a file of questions are no multiple of 32 or over 65,536, or the answers
+    /// differ from them in length. Only [`ffi::mf_questions`](crate::ffi::mf_questions) and
+    /// [`answer_records`](crate::answer_records) can meet it.
+    FileLength,
 }
 
 impl Refusal {
     /// In the order of their numbers, from 1.
-    pub const ALL: [Refusal; 8] = [
+    pub const ALL: [Refusal; 9] = [
         Refusal::AnswerLength,
         Refusal::UnknownCode,
         Refusal::NoDate,
@@ -47,6 +53,7 @@ impl Refusal {
         Refusal::LocalTimeAbsent,
         Refusal::NoBeginning,
         Refusal::LeavesCalendar,
+        Refusal::FileLength,
     ];
 
     /// The number that a call returns, never 0.
@@ -67,11 +74,12 @@ impl Refusal {
             Refusal::LocalTimeAbsent => 6,
             Refusal::NoBeginning => 7,
             Refusal::LeavesCalendar => 8,
+            Refusal::FileLength => 9,
         }
     }
 
-    /// The refusal of a number. None for 0, which is an answer's, and for one that document 01 does
-    /// not have, which is neither: no caller may take the one for the other.
+    /// The refusal of a number. None for 0, which is an answer's, and for one that no document has,
+    /// which is neither: no caller may take the one for the other.
     pub(crate) fn of_number(number: u8) -> Option<Refusal> {
         match number {
             1 => Some(Refusal::AnswerLength),
@@ -82,6 +90,7 @@ impl Refusal {
             6 => Some(Refusal::LocalTimeAbsent),
             7 => Some(Refusal::NoBeginning),
             8 => Some(Refusal::LeavesCalendar),
+            9 => Some(Refusal::FileLength),
             _ => None,
         }
     }
@@ -122,6 +131,10 @@ impl Refusal {
             Refusal::LeavesCalendar => {
                 "Ein Ergebnis verlässt den Kalender vom 1. Januar 1996 bis zum 31. Dezember 2899."
             }
+            Refusal::FileLength => {
+                "Die Fragen sind kein Vielfaches von 32 Bytes oder länger als 65536 Bytes, oder \
+                 die Antworten sind nicht ebenso lang."
+            }
         }
     }
 }
@@ -146,6 +159,10 @@ impl fmt::Display for Refusal {
             Refusal::NoBeginning => "the instant is not the beginning of a day in its Sparte",
             Refusal::LeavesCalendar => {
                 "a result leaves the calendar from 1 January 1996 to 31 December 2899"
+            }
+            Refusal::FileLength => {
+                "the bytes of the questions are no multiple of 32 or over 65,536, \
+                 or the answers differ from them in length"
             }
         })
     }

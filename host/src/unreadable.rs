@@ -6,11 +6,11 @@ use std::{error, fmt};
 /// It is no refusal, and no verdict either.
 #[derive(Clone, Copy, Debug, PartialEq, Eq, Hash)]
 pub struct Unreadable {
-    /// The call that answered.
+    /// The call that answered; for a question of a file, its single call.
     pub call: Call,
-    /// The number that it returned.
+    /// The number that was returned, of a file the one for all of it.
     pub number: u8,
-    /// The bytes that it left.
+    /// The bytes that were left.
     pub answer: Answer,
 }
 

@@ -84,6 +84,31 @@ impl VorlaufShape {
         }
     }
 
+    /// The shape of a code and two counts, the inverse of [`code`](VorlaufShape::code) and
+    /// [`counts`](VorlaufShape::counts): a count that the shape does not have is not looked at.
+    /// None for a code that the calls refuse.
+    ///
+    /// ```
+    /// use mako_fristen_host::VorlaufShape;
+    ///
+    /// assert_eq!(VorlaufShape::of_code(4, (5, 99)), Some(VorlaufShape::Korridor(5)));
+    /// assert_eq!(VorlaufShape::of_code(8, (5, 0)), None);
+    /// ```
+    #[must_use]
+    pub const fn of_code(code: u8, (n, n2): (u32, u32)) -> Option<VorlaufShape> {
+        Some(match code {
+            0 => VorlaufShape::LatestWerktageBefore(n),
+            1 => VorlaufShape::WindowWerktageBefore { earliest: n, latest: n2 },
+            2 => VorlaufShape::LatestWerktageAfter(n),
+            3 => VorlaufShape::EarliestWerktageAfter(n),
+            4 => VorlaufShape::Korridor(n),
+            5 => VorlaufShape::TagVorDemLetztenWerktagVor,
+            6 => VorlaufShape::LatestMonateBefore(n),
+            7 => VorlaufShape::LatestMonateUndWerktageBefore { monate: n, werktage: n2 },
+            _ => return None,
+        })
+    }
+
     /// The verdict on a transmission day and an anchor. One Werktag before a Monday is the Friday;
     /// a message of the Saturday between is too late, although no Werktag is missing, and the
     /// Monday that is named is the date just rejected.
@@ -102,8 +127,12 @@ impl VorlaufShape {
     /// [`Refusal::NoDate`], for either date; [`Refusal::LeavesCalendar`], if a date that the
     /// original computes for it does so; the shapes with months compute theirs for an Ok as well.
     pub fn check(self, uebertragungstag: Date, anchor: Date) -> Result<VorlaufVerdict, Error> {
+        self.check_question(uebertragungstag, anchor).content()
+    }
+
+    pub(crate) fn check_question(self, uebertragungstag: Date, anchor: Date) -> Question {
         let question = Question::on(Call::VorlaufCheck, uebertragungstag).with_second(anchor);
-        question.with_shape(self).content()
+        question.with_shape(self)
     }
 
     /// The same with a transmission instant, whose day is the Berlin day in both Sparten, and an
@@ -158,7 +187,11 @@ impl VorlaufShape {
     ///
     /// [`Refusal::NoDate`]; [`Refusal::LeavesCalendar`], if an end of the span does so.
     pub fn span(self, uebertragungstag: Date) -> Result<Span, Error> {
-        Question::on(Call::VorlaufSpan, uebertragungstag).with_shape(self).content()
+        self.span_question(uebertragungstag).content()
+    }
+
+    pub(crate) fn span_question(self, uebertragungstag: Date) -> Question {
+        Question::on(Call::VorlaufSpan, uebertragungstag).with_shape(self)
     }
 
     /// A German sentence, in which the anchor is the Termin. A count of 0 has its own words.

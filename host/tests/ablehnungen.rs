@@ -360,6 +360,7 @@ fn every_number_has_its_sentence() {
         (6, "absent in Berlin"),
         (7, "beginning of a day"),
         (8, "leaves the calendar"),
+        (9, "multiple of 32"),
     ];
     assert_eq!(Refusal::ALL.len(), words.len());
     for ((number, word), refusal) in words.into_iter().zip(Refusal::ALL) {

@@ -1,7 +1,9 @@
-//! No call takes memory from the heap, so a service may ask where it must not wait for any.
+//! No call takes memory from the heap, so a service may ask where it must not wait for any. What
+//! puts any number of questions does, for them and their answers.
 
 use mako_fristen_host::{
-    check_archive, Answer, Call, Date, Error, Instant, Question, Reason, Refusal,
+    answer_records, answers, check_archive, ffi, fragen, Answer, Call, ContrlAnlass, Date, Error,
+    Frage, Instant, Question, Reason, Refusal,
 };
 use std::alloc::{GlobalAlloc, Layout, System};
 use std::cell::Cell;
@@ -62,4 +64,25 @@ fn no_answer_and_no_error_takes_memory() {
         let unreadable = Answer::default().with_kind(200);
         assert_eq!(taken(|| assert!(unreadable.checked(call).is_err())), 0, "{call:?}");
     }
+}
+
+/// The records, the answers as they are lent, and the answers as they are given: not one by one,
+/// nor file by file.
+#[test]
+fn a_days_questions_take_memory_three_times() {
+    let received = Instant::new(1_775_080_800, 0);
+    let frage = Frage::Contrl { received, anlass: ContrlAnlass::Regelfall };
+    let record = *frage.fragesatz().expect("no clock").as_bytes();
+    for count in [1, 2_048, 10_000] {
+        let (questions, records) = (vec![frage; count], vec![record; count]);
+        assert_eq!(taken(|| assert!(fragen(&questions).iter().all(Result::is_ok))), 3);
+        assert_eq!(taken(|| assert!(answers(&questions).iter().all(Result::is_ok))), 3);
+        assert_eq!(taken(|| assert!(answer_records(records.as_flattened()).is_ok())), 1);
+    }
+    let mut lent = [0; Answer::LEN];
+    assert_eq!(taken(|| assert_eq!(ffi::mf_questions(&record, &mut lent), 0)), 0);
+    assert_eq!(
+        taken(|| assert_eq!(frage.answer().ok(), frage.read(&Answer::from_bytes(lent)).ok())),
+        0
+    );
 }

@@ -208,14 +208,17 @@ fn a_span_does_not_end_before_it_begins() {
     assert_unreadable(Call::VorlaufSpan, between(LAST_DAY, DAY));
 }
 
-/// 2 to 8 with nothing behind them. A 1 leaves the slice as it was, so that it never stands there.
+/// 2 to 8 with nothing behind them. A 1 and a 9 leave the slice as it was, so that they never stand
+/// there.
 #[test]
 fn a_number_is_a_refusal_of_document_01_or_an_error() {
     for call in Call::ALL {
         for number in 1..=u8::MAX {
             let answer = with_byte(Answer::default(), 0, number);
             match Refusal::ALL.into_iter().find(|refusal| refusal.number() == number) {
-                Some(refusal) if refusal != Refusal::AnswerLength => {
+                Some(refusal)
+                    if ![Refusal::AnswerLength, Refusal::FileLength].contains(&refusal) =>
+                {
                     assert_eq!(answer, Answer::refused(refusal));
                     assert_eq!(answer.checked(call), Err(Error::Refused(refusal)));
                 }
