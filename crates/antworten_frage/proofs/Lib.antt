@@ -1,3 +1,4 @@
 pub mod Rules
 pub mod Places
 pub mod SingleCalls
+pub mod OutsideValues

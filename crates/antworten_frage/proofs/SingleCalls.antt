@@ -1,6 +1,6 @@
 -- 'An answer equals the single call's' (document 02, F-1): the record made from a call's arguments, at any place of a
 -- file, gets the 32 bytes that the call leaves in the answer that is lent to it. w is any test of a day.
---   Stands l m i q   the questions l and the answers m are a file, and its record number i, counted from 0, is that of q
+--   Stands l m i q   the questions l and the answers m are a file, whose record number i, counted from 0, is that of q
 --   Gets w l m i a   record number i of the answers is what a call with the answer a leaves in a slice of 32 bytes
 -- A record's fields are what the call's parameters can be, which `Fits` says. What the operation does not use may be
 -- anything: the counts and dates of a CONTRL, the dates of a due shape, the anchor of a span, the instant of both.
@@ -52,7 +52,8 @@ module _ (w : ℕ → Bool) (l m : List ℕ) (i c n k : ℕ) (d e : Date) (z : �
       Gets w l m i (fristDueAtAnswer w c n (readClock h o s 0) (readInstant z x))
   unfolding questionAnswer fristQuestionAnswer onCode
   frist-call h o s f p =
-      record-gets w l m i _ _ f (ap (λ (t : ClockReading). fristDueAtAnswer w c n t (readInstant z x)) (clock-same h o s))
+      record-gets w l m i _ _ f
+      (ap (λ (t : ClockReading). fristDueAtAnswer w c n t (readInstant z x)) (clock-same h o s))
       (p .file) (p .inside) (p .bytes)
 
   -- mf_vorlauf_check

@@ -63,8 +63,8 @@ fn span_question_answer(q: Question, cal: HolidayCalendar) -> Answer
     antworten_vorlauf::vorlauf_span_answer(q.code, q.count, q.count2, date, cal)
 }
 
-/// The answer of one question: the single call's, or refusal 2, "also if byte 2 or 3 is not zero". What the operation or
-/// its shape does not use is not looked at.
+/// The answer of one question: the single call's, or refusal 2, "also if byte 2 or 3 is not zero". What the operation
+/// or its shape does not use is not looked at.
 pub fn question_answer(q: Question, cal: HolidayCalendar) -> Answer
     ensures { λ r. ⌜ r ≡ questionAnswer (isWerktag cal) q ⌝ }
 {
@@ -84,8 +84,8 @@ pub fn question_answer(q: Question, cal: HolidayCalendar) -> Answer
     }
 }
 
-/// Answers a file: "One answer of 32 bytes goes out per question, in the questions' order, refusals included." Returns 0,
-/// or 9 for lengths that no file has, and then leaves the answers as they were.
+/// Answers a file: "One answer of 32 bytes goes out per question, in the questions' order, refusals included." Returns
+/// 0, or 9 for lengths that no file has, and then leaves the answers as they were.
 pub fn questions_reply(questions: &[u8], answers: &mut [u8], cal: HolidayCalendar) -> u8
     ensures { λ r. ⌜
         (r, now (answers .exit)) ≡ questionsReply (isWerktag cal) (now (questions .entry)) (now (answers .entry))

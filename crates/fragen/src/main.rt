@@ -1,9 +1,9 @@
-// Answers a file of questions (document 02, F-1): reads standard input to its end, in whatever pieces it comes, and writes
-// all answers. For what is no file, and for an input that cannot be read to its end, it writes nothing.
+// Answers a file of questions (document 02, F-1): reads standard input to its end, in whatever pieces it comes, and
+// writes all answers. For what is no file, and for an input that cannot be read to its end, it writes nothing.
 use libc::STDIN_FILENO;
 use libc::STDOUT_FILENO;
 
-// One byte more than a file can have: an input that fills it is none, whatever follows.
+// One byte more than a file can have.
 const INPUT_BYTES: usize = 65537;
 
 // Whether the input is at its end: a read that fails is no end.
@@ -18,9 +18,12 @@ fn answer(questions: &[u8], answers: &mut [u8]) {
     }
 }
 
-// Answers the input, for which both slices have the room.
+// Answers the input. One that fills the slice for the questions is too long, and its end need not be waited for.
 fn answer_input(questions: &mut [u8], answers: &mut [u8]) {
     let n = io::read_full(STDIN_FILENO, questions);
+    if n == questions.len() {
+        return;
+    }
     if !is_at_end() {
         return;
     }

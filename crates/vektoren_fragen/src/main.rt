@@ -1,9 +1,10 @@
 // Replays stored files of questions: reads each with the answers that are expected, asks `mf_questions`, and prints the
 // number of each file whose answers differ, then how many files there were and how many were equal.
 //
-// A stored file is 4 bytes, how many bytes of questions it has, and 4 bytes, how many bytes are lent for its answers, both
-// little-endian; then the questions; then the number that the call returns; then the answers as it leaves them. An input
-// that ends within a file, or has one longer than any here, counts as one that differs, and nothing behind it is read.
+// A stored file is 4 bytes, how many bytes of questions it has, and 4 bytes, how many bytes are lent for its answers,
+// both little-endian; then the questions; then the number that the call returns; then the answers as it leaves them. An
+// input that ends within a file, or has one longer than any here, counts as one that differs, and nothing behind it is
+// read.
 use libc::STDIN_FILENO;
 use libc::STDOUT_FILENO;
 
