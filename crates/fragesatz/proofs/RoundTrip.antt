@@ -84,11 +84,15 @@ module _ (l : List ℕ) (p : Below l) where
       ap (λ (r : List ℕ). getD l 0 0 ∷ getD l 1 0 ∷ getD l 2 0 ∷ getD l 3 0 ∷ r)
       (glue (u32-bytes _ _ _ _ (below-from p 4 4))
       (glue (u32-bytes _ _ _ _ (below-from p 4 8))
-      (glue (glue (u16-bytes _ _ (below-from p 2 12)) refl)
-      (glue (glue (u16-bytes _ _ (below-from p 2 16)) refl)
+      (glue (date 14 (u16-bytes _ _ (below-from p 2 12)))
+      (glue (date 18 (u16-bytes _ _ (below-from p 2 16)))
       (glue seconds (u32-bytes _ _ _ _ (below-from p 4 28)))))))
       ∙ sym (from-is 32 0 l h)
     where
+      -- a year's bytes, and behind them month and day
+      date : (i : ℕ) {a b : List ℕ} → a ≡ b → a ++ from 2 i l ≡ b ++ from 2 i l
+      date i = ap (λ (r : List ℕ). r ++ from 2 i l)
+
       x : ℕ
       x = u64From (u32At l 20) (u32At l 24)
 
