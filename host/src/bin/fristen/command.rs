@@ -6,12 +6,20 @@ use mako_fristen_host::{Call, Parameter};
 /// How the program is called.
 pub const PROGRAM: &str = "./fristen";
 
+/// What a subcommand does.
+#[derive(Clone, Copy, Debug, PartialEq, Eq)]
+pub enum Task {
+    /// Asks a call.
+    Ask(Call),
+    /// Prints a year's calendar, which is made of many calls.
+    Kalender,
+}
+
 /// A subcommand.
 #[derive(Debug, PartialEq, Eq)]
 pub struct Command {
     pub name: &'static str,
-    /// None for the year's calendar, which is made of many calls.
-    pub call: Option<Call>,
+    pub task: Task,
     /// What stands behind the name, in this order, each with its name in the usage line. A shape
     /// stands for its counts and its clock time too.
     pub operands: &'static [(Parameter, &'static str)],
@@ -44,13 +52,21 @@ impl Command {
         all().find(|command| {
             command.name == hyphened
                 || command.source_name().as_ref() == Some(&hyphened)
-                || command.call.is_some_and(|call| call.name() == name)
+                || command.call().is_some_and(|call| call.name() == name)
         })
+    }
+
+    /// The call that it asks, if it is one.
+    pub fn call(&self) -> Option<Call> {
+        match self.task {
+            Task::Ask(call) => Some(call),
+            Task::Kalender => None,
+        }
     }
 
     /// The call's name in the source, with hyphens.
     pub fn source_name(&self) -> Option<String> {
-        Some(self.call?.name().trim_start_matches("mf_").replace('_', "-"))
+        Some(self.call()?.name().trim_start_matches("mf_").replace('_', "-"))
     }
 
     /// The name with what stands behind it.
@@ -67,7 +83,7 @@ mod tests {
     #[test]
     fn every_call_has_one_command() {
         for call in Call::ALL {
-            assert_eq!(all().filter(|c| c.call == Some(call)).count(), 1, "{}", call.name());
+            assert_eq!(all().filter(|c| c.call() == Some(call)).count(), 1, "{}", call.name());
         }
         assert_eq!(all().count(), Call::ALL.len() + 1);
     }
@@ -80,7 +96,7 @@ mod tests {
                 assert_eq!(Command::find(&name), Some(command), "{name}");
                 assert_eq!(Command::find(&name.replace('-', "_")), Some(command), "{name}");
             }
-            let host_name = command.call.map_or(command.name, Call::name);
+            let host_name = command.call().map_or(command.name, Call::name);
             assert_eq!(Command::find(host_name), Some(command), "{host_name}");
             assert!(command.example.starts_with(&format!("{} ", command.name)));
         }
@@ -90,7 +106,7 @@ mod tests {
     #[test]
     fn the_operands_are_the_calls_parameters() {
         for command in all() {
-            let Some(call) = command.call else { continue };
+            let Some(call) = command.call() else { continue };
             let given: Vec<_> = command.operands.iter().map(|(parameter, _)| *parameter).collect();
             let shape =
                 given.iter().any(|p| matches!(p, Parameter::Shape | Parameter::VorlaufShape));

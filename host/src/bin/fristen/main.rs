@@ -18,7 +18,7 @@ mod sentences;
 mod usage;
 
 use arguments::{is_option, Arguments, Form};
-use command::Command;
+use command::{Command, Task};
 use kalenderblatt::{Mark, Year};
 use mako_fristen_host::{check_archive, Answer, Call, Error, Refusal};
 use outcome::Outcome;
@@ -74,9 +74,9 @@ fn helped(name: Option<&OsString>) -> Result<Outcome, Usage> {
 }
 
 fn answered(command: &Command, arguments: &Arguments) -> Result<Outcome, Usage> {
-    match command.call {
-        Some(call) => called(command, call, arguments),
-        None => kalender(command, arguments),
+    match command.task {
+        Task::Ask(call) => called(command, call, arguments),
+        Task::Kalender => kalender(command, arguments),
     }
 }
 
