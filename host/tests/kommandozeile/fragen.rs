@@ -218,6 +218,27 @@ fn lines_that_cannot_be_read_are_named_and_the_others_answered() {
     }
 }
 
+/// In a terminal both outputs are one.
+#[test]
+fn a_complaint_stands_between_the_answers() {
+    let path = file("dazwischen.txt", format!("{SPAN}\ngestern\n{SPAN}\nheute\n"));
+    let (mut reader, writer) = std::io::pipe().expect("a pipe");
+    let both = writer.try_clone().expect("a pipe");
+    let status = program().arg("fragen").arg(path).stdout(writer).stderr(both).status();
+    let mut said = String::new();
+    reader.read_to_string(&mut said).expect("UTF-8");
+    let expected = "erwartet contrl, frist, check oder span, nicht";
+    let expected = format!(
+        "1: {SPANNED}\n\
+         fristen: Zeile 2: {expected} „gestern“\n\
+         3: {SPANNED}\n\
+         fristen: Zeile 4: {expected} „heute“\n\
+         fristen: 2 Zeilen ließen sich nicht lesen. Mehr: ./fristen fragen --help\n"
+    );
+    assert_eq!(said, expected);
+    assert_eq!(status.expect("it runs").code(), Some(64));
+}
+
 /// A line that cannot be read goes before a refusal, and that before an answer.
 #[test]
 fn the_status_is_that_of_the_worst_line() {
@@ -343,7 +364,7 @@ fn record(random: &mut Random) -> [u8; Fragesatz::LEN] {
 #[test]
 fn records_of_any_bytes_and_number() {
     let mut random = Random(9);
-    for count in [1, 2, 255, 256, 257, 2_048, 2_049, 10_000] {
+    for count in [1, 2, 127, 128, 129, 2_048, 2_049, 10_000] {
         let records: Vec<u8> = (0..count).flat_map(|_| record(&mut random)).collect();
         let output = fed(&["--roh"], &records);
         let expected = answer_records(&records).expect("a multiple of 32");
