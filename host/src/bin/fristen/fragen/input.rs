@@ -1,5 +1,5 @@
 use crate::outcome::{Outcome, Status};
-use crate::usage::quoted;
+use crate::usage::quoted_bytes;
 use std::ffi::OsStr;
 use std::fs::File;
 use std::io::{self, IsTerminal, Read, Write};
@@ -25,7 +25,7 @@ impl Input {
         let Some(file) = file else {
             return Ok(Input::standard());
         };
-        let name = quoted(file);
+        let name = quoted_bytes(file.as_encoded_bytes());
         let opened = File::open(file).map_err(|error| unread(&name, &error))?;
         let len = opened.metadata().ok().filter(|about| about.is_file()).map(|about| about.len());
         Ok(Input { name, bytes: Box::new(opened), len, typed: false })
