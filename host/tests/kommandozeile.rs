@@ -1,12 +1,16 @@
 //! The program `fristen`. Expected dates and instants are document 01's cases, or known without the
 //! program (a printed calendar, `date -d`).
 
+#[path = "kommandozeile/fragen.rs"]
+mod fragen;
 #[path = "kommandozeile/saetze.rs"]
 mod saetze;
 
 use mako_fristen_host::{ffi, Answer, Call, Clock, Date, Instant, Parameter, Question, Reason};
 use saetze::{CASES, DAYS, DUE, JSON, LABELS, SPANS, VERDICTS, VERDICTS_JSON};
 use std::ffi::{OsStr, OsString};
+use std::fs;
+use std::path::Path;
 use std::process::{Command, Output, Stdio};
 
 fn program() -> Command {
@@ -50,18 +54,29 @@ fn source_names() -> impl Iterator<Item = (Call, String)> {
     Call::ALL.into_iter().map(|call| (call, call.name()[3..].replace('_', "-")))
 }
 
+/// Without the two columns of the help.
+fn unindented(block: &str) -> String {
+    block.lines().map(|line| format!("{}\n", line.strip_prefix("  ").unwrap_or(line))).collect()
+}
+
+/// A file that an example shows is there when it is run.
 #[test]
 fn the_examples_of_the_help_print_what_it_says() {
-    let names = source_names().map(|(_, name)| name).chain(["kalender".to_owned()]);
-    for name in names {
+    let folder = Path::new(env!("CARGO_TARGET_TMPDIR"));
+    let others = ["kalender", "fragen"].map(str::to_owned);
+    for name in source_names().map(|(_, name)| name).chain(others) {
         let help = printed(&["help", &name], 0);
         assert_eq!(help, printed(&[&name, "--help"], 0), "{name}");
         assert_eq!(help, printed(&["-h", &name], 0), "{name}");
-        let (_, example) = help.split_once("\n  $ ./fristen ").expect("an example");
+        let (before, example) = help.split_once("\n  $ ./fristen ").expect("an example");
         let (call, expected) = example.split_once('\n').expect("its output");
-        let unindented = expected.lines().map(|line| line.strip_prefix("  ").unwrap_or(line));
-        let expected: Vec<_> = unindented.collect();
-        assert_eq!(printed(&words(call), 0), expected.join("\n") + "\n", "{call}");
+        if let Some((_, file)) = before.split_once("\n  $ cat ") {
+            let (file, content) = file.split_once('\n').expect("its content");
+            fs::write(folder.join(file), unindented(content)).expect("it is written");
+        }
+        let output = program().current_dir(folder).args(words(call)).output().expect("it runs");
+        assert_eq!(String::from_utf8_lossy(&output.stdout), unindented(expected), "{call}");
+        assert_eq!((output.status.code(), output.stderr), (Some(0), vec![]), "{call}");
     }
 }
 
@@ -240,6 +255,8 @@ const WRONG: &[(&str, &str)] = &[
     ("kalender 2026 --bytes", "--bytes gibt es zu diesem Befehl nicht"),
     ("tag 2026-01-01 --json --bytes", "erwartet --json oder --bytes, nicht beide"),
     ("tag 2026-01-01 --laut", "unbekannte Option „--laut“"),
+    ("tag 2026-01-01 --roh", "--roh gibt es zu diesem Befehl nicht"),
+    ("kalender 2026 --roh --json", "--roh gibt es zu diesem Befehl nicht"),
 ];
 
 #[test]
@@ -456,8 +473,8 @@ impl Random {
 #[test]
 fn no_arguments_make_it_panic() {
     let mut vocabulary: Vec<String> = source_names().map(|(_, name)| name).collect();
-    let others = "tag contrl check check-at span frist abmeldung kalender help --json --bytes --help \
-                  --eeg --eeg=ja ja nein -- - -1 0 1 2 61 4294967295 4294967296 1995 2026 2899 2900 \
+    let others = "tag contrl check check-at span frist abmeldung kalender help --json --bytes --roh \
+                  --help fragen --eeg --eeg=ja ja nein -- - -1 0 1 2 61 4294967295 4294967296 1995 2026 2899 2900 \
                   1996-01-01 2026-02-29 2026-03-29 2899-12-31 9999-99-99 02:30 24:00 12:00:00.5 \
                   2026-03-29T02:30:00+02:00 1996-01-01T00:00:00+01:00 2899-12-31T23:59:59+01:00 \
                   0000-01-01T00:00:00Z @0 @-9223372036854775808.4294967295 @29348002799.999999999 \
@@ -473,7 +490,7 @@ fn no_arguments_make_it_panic() {
         let output = run(&arguments);
         match output.status.code() {
             Some(0 | 2) => assert!(output.stderr.is_empty(), "{arguments:?}"),
-            Some(64) => assert!(output.stdout.is_empty(), "{arguments:?}"),
+            Some(64 | 66) => assert!(output.stdout.is_empty(), "{arguments:?}"),
             status => panic!("{arguments:?}: {status:?}"),
         }
     }

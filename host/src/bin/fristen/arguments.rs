@@ -14,6 +14,8 @@ pub enum Form {
 #[derive(Debug, Default)]
 pub struct Arguments {
     pub form: Form,
+    /// Records in and out, instead of any form.
+    pub raw: bool,
     pub help: bool,
     pub eeg: Option<OsString>,
     /// What is no option, or stands behind `--`.
@@ -35,6 +37,7 @@ impl Arguments {
                 Some("-h" | "--help") => read.help = true,
                 Some("--json") => read.form(Form::Json)?,
                 Some("--bytes") => read.form(Form::Bytes)?,
+                Some("--roh") => read.raw = true,
                 Some("--eeg") => {
                     let mark = left.next();
                     read.given.push(argument);
@@ -50,6 +53,19 @@ impl Arguments {
                 }
                 _ => read.word(argument),
             }
+        }
+        Ok(read)
+    }
+
+    /// The words of a line of a file, where there are no options.
+    pub fn of_line(words: &[&str]) -> Result<Arguments, Usage> {
+        let mut read = Arguments::default();
+        for word in words.iter().map(OsString::from) {
+            if is_option(&word) {
+                let message = format!("Optionen gibt es in einer Zeile nicht: {}", quoted(&word));
+                return Err(Usage::new(message));
+            }
+            read.word(word);
         }
         Ok(read)
     }

@@ -2,6 +2,7 @@
 
 pub mod abmeldung;
 pub mod berlin;
+pub mod fragen;
 pub mod fristen;
 pub mod kalender;
 pub mod vorlauf;

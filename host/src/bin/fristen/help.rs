@@ -1,6 +1,7 @@
 //! The help of the program and of each subcommand.
 
-use crate::command::{Command, GROUPS, PROGRAM};
+use crate::command::{Command, Task, GROUPS, PROGRAM};
+use crate::commands::fragen::FILE;
 use crate::names::{FRISTEN, VORLAUF};
 use mako_fristen_host::Parameter;
 
@@ -26,11 +27,13 @@ Angaben
 Optionen, an beliebiger Stelle
   --json      eine Zeile JSON
   --bytes     die 32 Bytes der Antwort, hexadezimal
+  --roh       nur bei fragen: Datensätze von 32 Bytes statt Zeilen
   --help, -h  Hilfe, auch zu einem Befehl
   --          danach folgen keine Optionen mehr
 
-Ende mit 0: Antwort. 2: abgelehnt. 64: falscher Aufruf. 69: nicht zu bauen.
-70: Antwort der Bibliothek nicht lesbar. 74: Ausgabe gestört.
+Ende mit 0: Antwort. 2: abgelehnt. 64: falscher Aufruf, auch in einer Zeile von fragen.
+66: Datei nicht lesbar. 69: nicht zu bauen. 70: Antwort der Bibliothek nicht lesbar.
+74: Ausgabe gestört.
 ";
 
 /// The list of all subcommands.
@@ -55,13 +58,21 @@ pub fn of(command: &Command) -> String {
         (_, true) => format!("\nFORM\n{}", frist_shapes()),
         _ => String::new(),
     };
-    let output: String = command.output.lines().map(indented).collect();
+    let file = match command.task {
+        Task::Fragen => format!("  $ cat fragen.txt\n{}", block(FILE)),
+        Task::Ask(_) | Task::Kalender => String::new(),
+    };
+    let output = block(command.output);
     format!(
-        "Aufruf: {PROGRAM} {}\n{also}\n{}\n{shapes}\nBeispiel\n  $ {PROGRAM} {}\n{output}",
+        "Aufruf: {PROGRAM} {}\n{also}\n{}\n{shapes}\nBeispiel\n{file}  $ {PROGRAM} {}\n{output}",
         command.usage(),
         command.meaning,
         command.example
     )
+}
+
+fn block(text: &str) -> String {
+    text.lines().map(indented).collect()
 }
 
 fn indented(line: &str) -> String {

@@ -1,6 +1,7 @@
 use mako_fristen_host::{
-    berlin_date, ffi, tag_des_beginns, AbmeldungVorlauf, Answer, Call, Date, Eeg, Error,
-    FristShape, Parameter, Question, Refusal, Span, Sparte, VorlaufShape, VorlaufVerdict,
+    berlin_date, ffi, tag_des_beginns, AbmeldungVorlauf, Answer, Call, ContrlAnlass, Date, Eeg,
+    Error, Frage, FristShape, Parameter, Question, Refusal, Span, Sparte, VorlaufShape,
+    VorlaufVerdict,
 };
 
 /// A call with its arguments, as they were given. What a command has read by its name is here for
@@ -36,6 +37,19 @@ impl Inquiry {
             ),
             _ => self.question.ask(answer),
         }
+    }
+
+    /// The same as a question of a file; none for a call that a file does not ask.
+    pub fn frage(&self) -> Option<Frage> {
+        let Question { code, date, date2, instant, .. } = self.question;
+        let (received, uebertragungstag, anchor) = (instant, date, date2);
+        Some(match self.call {
+            Call::ContrlDueAt => Frage::Contrl { received, anlass: ContrlAnlass::of_code(code)? },
+            Call::FristDueAt => Frage::Frist { shape: self.frist?, received },
+            Call::VorlaufCheck => Frage::Check { shape: self.vorlauf?, uebertragungstag, anchor },
+            Call::VorlaufSpan => Frage::Span { shape: self.vorlauf?, uebertragungstag },
+            _ => return None,
+        })
     }
 
     /// The Sparte, be it the first code or the second.

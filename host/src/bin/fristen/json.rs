@@ -19,6 +19,16 @@ impl Json {
     pub fn list(members: impl IntoIterator<Item = Json>) -> Json {
         Json::List(members.into_iter().collect())
     }
+
+    /// The object behind one more member.
+    pub fn after(self, name: &'static str, value: Json) -> Json {
+        match self {
+            Json::Object(members) => {
+                Json::Object([(name, value)].into_iter().chain(members).collect())
+            }
+            _ => self,
+        }
+    }
 }
 
 /// On one line, without spaces between the tokens.

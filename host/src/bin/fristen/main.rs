@@ -5,6 +5,7 @@ mod command;
 mod commands;
 mod deutsch;
 mod errors;
+mod fragen;
 mod help;
 mod inquiry;
 mod json;
@@ -13,15 +14,18 @@ mod labels;
 mod names;
 mod operands;
 mod outcome;
+mod reply;
 mod report;
 mod sentences;
 mod usage;
 
 use arguments::{is_option, Arguments, Form};
-use command::Command;
+use command::{Command, Task};
+use fragen::Input;
 use kalenderblatt::{Mark, Year};
-use mako_fristen_host::{check_archive, Answer, Call, Error, Refusal};
+use mako_fristen_host::{check_archive, Call, Error};
 use outcome::Outcome;
+use reply::Reply;
 use std::env;
 use std::ffi::OsString;
 use std::io::{self, IsTerminal};
@@ -74,26 +78,34 @@ fn helped(name: Option<&OsString>) -> Result<Outcome, Usage> {
 }
 
 fn answered(command: &Command, arguments: &Arguments) -> Result<Outcome, Usage> {
-    match command.call {
-        Some(call) => called(command, call, arguments),
-        None => kalender(command, arguments),
+    match command.task {
+        Task::Fragen => fragen(arguments),
+        _ if arguments.raw => Err(Usage::new("--roh gibt es zu diesem Befehl nicht")),
+        Task::Ask(call) => called(command, call, arguments),
+        Task::Kalender => kalender(command, arguments),
     }
+}
+
+fn fragen(arguments: &Arguments) -> Result<Outcome, Usage> {
+    let (file, form) = (operands::file(arguments)?, arguments.form);
+    if arguments.raw && form != Form::Sentence {
+        return Err(Usage::new("erwartet --roh ohne --json und --bytes"));
+    }
+    if let Err(unreadable) = check_archive() {
+        return Ok(Outcome::unreadable(&unreadable));
+    }
+    Ok(match Input::open(file) {
+        Ok(input) if arguments.raw => fragen::records(input),
+        Ok(input) => fragen::lines(input, form),
+        Err(unread) => unread,
+    })
 }
 
 fn called(command: &Command, call: Call, arguments: &Arguments) -> Result<Outcome, Usage> {
     let inquiry = operands::inquiry(command, call, arguments)?;
-    let (form, given) = (arguments.form, &arguments.given);
     let answer = check_archive().map_err(Error::from).and_then(|()| inquiry.answer());
-    let said = answer.and_then(|answer| match form {
-        Form::Sentence => sentences::of(&inquiry, &answer),
-        Form::Json => report::answered(&inquiry, given, &answer).map(|json| json.to_string()),
-        Form::Bytes => Ok(format!("{answer:x}")),
-    });
-    Ok(Outcome::of(said, |refusal: Refusal| match form {
-        Form::Sentence => errors::refused(refusal),
-        Form::Json => report::refused(&inquiry, given, refusal).to_string(),
-        Form::Bytes => format!("{:x}", Answer::refused(refusal)),
-    }))
+    let reply = Reply { form: arguments.form, given: &arguments.given, line: None };
+    Ok(reply.outcome(&inquiry, answer))
 }
 
 fn kalender(command: &Command, arguments: &Arguments) -> Result<Outcome, Usage> {

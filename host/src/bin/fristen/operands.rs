@@ -31,6 +31,14 @@ pub fn year(command: &Command, arguments: &Arguments) -> Result<u32, Usage> {
     Ok(year)
 }
 
+/// The file of a subcommand that takes one; none for the standard input.
+pub fn file(arguments: &Arguments) -> Result<Option<&OsStr>, Usage> {
+    let mut words = Words::new(arguments);
+    let file = words.left.next().map(OsString::as_os_str);
+    words.end()?;
+    Ok(file.filter(|file| *file != "-"))
+}
+
 fn read(
     inquiry: &mut Inquiry,
     parameter: Parameter,

@@ -31,7 +31,17 @@ impl Usage {
             }
         }
     }
+
+    /// The same on one line, of a line of a file.
+    pub fn of_line(&self, line: u64) -> String {
+        let message = &self.message;
+        let form = self.command.map(|command| format!(" (Aufbau: {})", command.usage()));
+        format!("fristen: Zeile {line}: {message}{}\n", form.unwrap_or_default())
+    }
 }
+
+/// How much of a text a complaint quotes.
+const MOST_QUOTED: usize = 80;
 
 /// The names of all, a line for each heading.
 fn commands() -> String {
@@ -42,12 +52,16 @@ fn commands() -> String {
     GROUPS.iter().map(line).collect()
 }
 
-/// In German quotation marks, with nothing in it that would steer a terminal.
+/// In German quotation marks, for a complaint: of a long text the beginning.
 pub fn quoted(text: &OsStr) -> String {
-    quoted_bytes(text.as_encoded_bytes())
+    let text = text.to_string_lossy();
+    match text.char_indices().nth(MOST_QUOTED) {
+        Some((end, _)) => quoted_bytes(format!("{}…", &text[..end]).as_bytes()),
+        None => quoted_bytes(text.as_bytes()),
+    }
 }
 
-/// The same of any bytes.
+/// In German quotation marks, with nothing in it that would steer a terminal.
 pub fn quoted_bytes(text: &[u8]) -> String {
     let text = String::from_utf8_lossy(text);
     let text: String = text.chars().flat_map(visible).collect();

@@ -1,4 +1,4 @@
-use crate::command::Command;
+use crate::command::{Command, Task};
 use mako_fristen_host::{Call, Parameter};
 
 const GRUND: (Parameter, &str) = (Parameter::Reason, "GRUND");
@@ -7,7 +7,7 @@ const EEG: (Parameter, &str) = (Parameter::Eeg, "--eeg ja|nein|unbekannt");
 pub const COMMANDS: [Command; 3] = [
     Command {
         name: "abmeldung-fuer",
-        call: Some(Call::AbmeldungFuer),
+        task: Task::Ask(Call::AbmeldungFuer),
         operands: &[GRUND, EEG],
         summary: "welche Vorlauffrist eine Abmeldung durch den Netzbetreiber hat",
         meaning: "GRUND ist der Transaktionsgrund; nur ZQ7, genau so geschrieben, ist die\n\
@@ -20,7 +20,7 @@ pub const COMMANDS: [Command; 3] = [
     },
     Command {
         name: "abmeldung",
-        call: Some(Call::AbmeldungCheck),
+        task: Task::Ask(Call::AbmeldungCheck),
         operands: &[
             GRUND,
             EEG,
@@ -39,7 +39,7 @@ pub const COMMANDS: [Command; 3] = [
     },
     Command {
         name: "ankuendigung",
-        call: Some(Call::EogAnkuendigungFristgerecht),
+        task: Task::Ask(Call::EogAnkuendigungFristgerecht),
         operands: &[(Parameter::Instant, "EINGANG"), (Parameter::Date, "ZUORDNUNGSBEGINN")],
         summary: "ob die Ankündigung der Zuordnung des E/G von 00:00 bis 13:00 Uhr des letzten \
                   Werktags davor kam",

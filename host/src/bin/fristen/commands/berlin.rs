@@ -1,10 +1,10 @@
-use crate::command::Command;
+use crate::command::{Command, Task};
 use mako_fristen_host::{Call, Parameter};
 
 pub const COMMANDS: [Command; 6] = [
     Command {
         name: "berlin-at",
-        call: Some(Call::BerlinAt),
+        task: Task::Ask(Call::BerlinAt),
         operands: &[(Parameter::Date, "DATUM"), (Parameter::Clock, "UHRZEIT")],
         summary: "der Zeitpunkt einer Uhrzeit in Berlin",
         meaning:
@@ -17,7 +17,7 @@ pub const COMMANDS: [Command; 6] = [
     },
     Command {
         name: "berlin-midnight",
-        call: Some(Call::BerlinMidnight),
+        task: Task::Ask(Call::BerlinMidnight),
         operands: &[(Parameter::Date, "DATUM")],
         summary: "der Zeitpunkt von 00:00 Uhr in Berlin",
         meaning: "Der Beginn des Tages in Berlin.",
@@ -27,7 +27,7 @@ pub const COMMANDS: [Command; 6] = [
     },
     Command {
         name: "end-of-day-berlin",
-        call: Some(Call::EndOfDayBerlin),
+        task: Task::Ask(Call::EndOfDayBerlin),
         operands: &[(Parameter::Date, "DATUM")],
         summary: "der letzte Zeitpunkt des Tages in Berlin",
         meaning: "Die letzte Nanosekunde des Tages in Berlin.",
@@ -37,7 +37,7 @@ pub const COMMANDS: [Command; 6] = [
     },
     Command {
         name: "tagesbeginn-utc",
-        call: Some(Call::TagesbeginnUtc),
+        task: Task::Ask(Call::TagesbeginnUtc),
         operands: &[(Parameter::Date, "DATUM"), (Parameter::Sparte, "SPARTE")],
         summary: "wann der Tag in der Sparte Strom oder Gas beginnt",
         meaning: "Strom beginnt um 00:00 Uhr, Gas um 06:00 Uhr gesetzlicher deutscher Zeit.\n\
@@ -48,7 +48,7 @@ pub const COMMANDS: [Command; 6] = [
     },
     Command {
         name: "berlin-date",
-        call: Some(Call::BerlinDate),
+        task: Task::Ask(Call::BerlinDate),
         operands: &[(Parameter::Instant, "ZEITPUNKT")],
         summary: "welcher Tag dann in Berlin ist",
         meaning: "Der Tag in Berlin, und was die Uhr dort zeigt.",
@@ -57,7 +57,7 @@ pub const COMMANDS: [Command; 6] = [
     },
     Command {
         name: "tag-des-beginns",
-        call: Some(Call::TagDesBeginns),
+        task: Task::Ask(Call::TagDesBeginns),
         operands: &[(Parameter::Instant, "ZEITPUNKT"), (Parameter::Sparte, "SPARTE")],
         summary: "welcher Tag in der Sparte Strom oder Gas dann beginnt",
         meaning:

@@ -1,10 +1,10 @@
-use crate::command::Command;
+use crate::command::{Command, Task};
 use mako_fristen_host::{Call, Parameter};
 
 pub const COMMANDS: [Command; 12] = [
     Command {
         name: "contrl",
-        call: Some(Call::ContrlDueAt),
+        task: Task::Ask(Call::ContrlDueAt),
         operands: &[(Parameter::Anlass, "ANLASS"), (Parameter::Instant, "EINGANG")],
         summary: "wann die CONTRL fällig ist",
         meaning: "ANLASS ist Regelfall (6 Stunden), StromUtilmdOderOrders (15 Minuten, bei Eingang an\n\
@@ -17,7 +17,7 @@ pub const COMMANDS: [Command; 12] = [
     },
     Command {
         name: "aperak-strom",
-        call: Some(Call::AperakStromDueAt),
+        task: Task::Ask(Call::AperakStromDueAt),
         operands: &[(Parameter::Instant, "EINGANG")],
         summary: "wann die APERAK auf UTILMD oder ORDERS Strom fällig ist",
         meaning: "45 Minuten nach Eingang, auch an Sonn- und Feiertagen; bei Eingang an einem Samstag\n\
@@ -29,7 +29,7 @@ pub const COMMANDS: [Command; 12] = [
     },
     Command {
         name: "aperak-strom-allgemein",
-        call: Some(Call::AperakStromAllgemeinDueAt),
+        task: Task::Ask(Call::AperakStromAllgemeinDueAt),
         operands: &[(Parameter::Instant, "EINGANG")],
         summary: "wann die APERAK auf eine andere Nachricht Strom fällig ist",
         meaning: "Um 12:00 Uhr des ersten Werktags nach dem Eingangstag.",
@@ -40,7 +40,7 @@ pub const COMMANDS: [Command; 12] = [
     },
     Command {
         name: "aperak-gas-folgeprozess",
-        call: Some(Call::AperakGasFolgeprozessDueAt),
+        task: Task::Ask(Call::AperakGasFolgeprozessDueAt),
         operands: &[(Parameter::Instant, "EINGANG")],
         summary: "wann die APERAK im Folgeprozess Gas fällig ist",
         meaning: "Um 12:00 Uhr des ersten Werktags nach dem Eingangstag.",
@@ -51,7 +51,7 @@ pub const COMMANDS: [Command; 12] = [
     },
     Command {
         name: "aperak-gas-initialprozess",
-        call: Some(Call::AperakGasInitialprozessDueAt),
+        task: Task::Ask(Call::AperakGasInitialprozessDueAt),
         operands: &[(Parameter::Instant, "EINGANG")],
         summary: "wann die APERAK im Initialprozess Gas fällig ist",
         meaning: "Mit Ablauf des dritten Werktags nach dem Eingangstag.",
@@ -62,7 +62,7 @@ pub const COMMANDS: [Command; 12] = [
     },
     Command {
         name: "aperak-gas",
-        call: Some(Call::AperakGasDueAt),
+        task: Task::Ask(Call::AperakGasDueAt),
         operands: &[(Parameter::Pid, "PID"), (Parameter::Instant, "EINGANG")],
         summary: "wann die APERAK auf eine Nachricht Gas fällig ist",
         meaning: "44001, 44016, 44039 und 44042 sind Initialprozesse, jede andere Zahl ist ein\n\
@@ -74,7 +74,7 @@ pub const COMMANDS: [Command; 12] = [
     },
     Command {
         name: "add-hours",
-        call: Some(Call::AddHours),
+        task: Task::Ask(Call::AddHours),
         operands: &[(Parameter::Instant, "ZEITPUNKT"), (Parameter::Count, "N")],
         summary: "der Zeitpunkt N Stunden später",
         meaning: "N Stunden später, an jedem Tag. Beim Wechsel der Uhren geht die Berliner Uhr eine\n\
@@ -85,7 +85,7 @@ pub const COMMANDS: [Command; 12] = [
     },
     Command {
         name: "deadline-at-werktage",
-        call: Some(Call::DeadlineAtWerktage),
+        task: Task::Ask(Call::DeadlineAtWerktage),
         operands: &[(Parameter::Instant, "EINGANG"), (Parameter::Count, "N")],
         summary: "das Ende des N-ten Werktags nach dem Eingangstag",
         meaning: "Das Ende des N-ten Werktags nach dem Eingangstag; mit 0 das Ende des Eingangstags.",
@@ -95,7 +95,7 @@ pub const COMMANDS: [Command; 12] = [
     },
     Command {
         name: "end-of-werktag-after",
-        call: Some(Call::EndOfWerktagAfter),
+        task: Task::Ask(Call::EndOfWerktagAfter),
         operands: &[(Parameter::Instant, "EINGANG"), (Parameter::Count, "N")],
         summary: "dasselbe wie deadline-at-werktage, unter dem anderen Namen der Quelle",
         meaning: "Das Ende des N-ten Werktags nach dem Eingangstag; mit 0 das Ende des Eingangstags.",
@@ -105,7 +105,7 @@ pub const COMMANDS: [Command; 12] = [
     },
     Command {
         name: "next-werktag-at",
-        call: Some(Call::NextWerktagAt),
+        task: Task::Ask(Call::NextWerktagAt),
         operands: &[(Parameter::Instant, "EINGANG"), (Parameter::Clock, "UHRZEIT")],
         summary: "die Uhrzeit am ersten Werktag nach dem Eingangstag",
         meaning: "Die Uhrzeit am ersten Werktag nach dem Eingangstag.",
@@ -116,7 +116,7 @@ pub const COMMANDS: [Command; 12] = [
     },
     Command {
         name: "nth-werktag-at",
-        call: Some(Call::NthWerktagAt),
+        task: Task::Ask(Call::NthWerktagAt),
         operands: &[
             (Parameter::Instant, "EINGANG"),
             (Parameter::Count, "N"),
@@ -131,7 +131,7 @@ pub const COMMANDS: [Command; 12] = [
     },
     Command {
         name: "frist",
-        call: Some(Call::FristDueAt),
+        task: Task::Ask(Call::FristDueAt),
         operands: &[(Parameter::Shape, "FORM [N] [UHRZEIT]"), (Parameter::Instant, "EINGANG")],
         summary: "wann eine Antwort fällig ist",
         meaning: "WerktagAt ist die Uhrzeit am N-ten Werktag nach dem Eingangstag, EndOfWerktag sein\n\

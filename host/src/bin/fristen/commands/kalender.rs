@@ -1,10 +1,10 @@
-use crate::command::Command;
+use crate::command::{Command, Task};
 use mako_fristen_host::{Call, Parameter};
 
 pub const COMMANDS: [Command; 8] = [
     Command {
         name: "tag",
-        call: Some(Call::IsWerktag),
+        task: Task::Ask(Call::IsWerktag),
         operands: &[(Parameter::Date, "DATUM")],
         summary: "ob der Tag ein Werktag ist, und warum nicht",
         meaning:
@@ -16,7 +16,7 @@ pub const COMMANDS: [Command; 8] = [
     },
     Command {
         name: "next-werktag",
-        call: Some(Call::NextWerktag),
+        task: Task::Ask(Call::NextWerktag),
         operands: &[(Parameter::Date, "DATUM")],
         summary: "der erste Werktag ab dem Tag, diesen eingeschlossen",
         meaning: "Der erste Werktag ab dem Tag. Ist er selbst ein Werktag, so ist er es.",
@@ -25,7 +25,7 @@ pub const COMMANDS: [Command; 8] = [
     },
     Command {
         name: "add-werktage",
-        call: Some(Call::AddWerktage),
+        task: Task::Ask(Call::AddWerktage),
         operands: &[(Parameter::Date, "DATUM"), (Parameter::Count, "N")],
         summary: "der N-te Werktag nach dem Tag",
         meaning:
@@ -37,7 +37,7 @@ pub const COMMANDS: [Command; 8] = [
     },
     Command {
         name: "sub-werktage",
-        call: Some(Call::SubWerktage),
+        task: Task::Ask(Call::SubWerktage),
         operands: &[(Parameter::Date, "DATUM"), (Parameter::Count, "N")],
         summary: "der N-te Werktag vor dem Tag",
         meaning: "Der N-te Werktag vor dem Tag, der selbst nicht mitzählt. Mit 0 der Tag selbst,\n\
@@ -48,7 +48,7 @@ pub const COMMANDS: [Command; 8] = [
     },
     Command {
         name: "werktage-between",
-        call: Some(Call::WerktageBetween),
+        task: Task::Ask(Call::WerktageBetween),
         operands: &[(Parameter::Date, "VON"), (Parameter::SecondDate, "BIS")],
         summary: "wie viele Werktage nach dem ersten Tag bis zum zweiten einschließlich liegen",
         meaning:
@@ -61,7 +61,7 @@ pub const COMMANDS: [Command; 8] = [
     },
     Command {
         name: "add-months",
-        call: Some(Call::AddMonths),
+        task: Task::Ask(Call::AddMonths),
         operands: &[(Parameter::Date, "DATUM"), (Parameter::Count, "N")],
         summary: "der Tag N Monate später",
         meaning: "N Monate später. Fehlt der Tag im Zielmonat, so gilt dessen letzter (§ 188 BGB).",
@@ -71,7 +71,7 @@ pub const COMMANDS: [Command; 8] = [
     },
     Command {
         name: "subtract-months",
-        call: Some(Call::SubtractMonths),
+        task: Task::Ask(Call::SubtractMonths),
         operands: &[(Parameter::Date, "DATUM"), (Parameter::Count, "N")],
         summary: "der Tag N Monate früher",
         meaning: "N Monate früher. Fehlt der Tag im Zielmonat, so gilt dessen letzter (§ 188 BGB).",
@@ -80,7 +80,7 @@ pub const COMMANDS: [Command; 8] = [
     },
     Command {
         name: "kalender",
-        call: None,
+        task: Task::Kalender,
         operands: &[(Parameter::Count, "JAHR")],
         summary: "die zwölf Monate eines Jahres mit allen Feiertagen",
         meaning: "Das Jahr auf einem Blatt. Tage, die keine Werktage sind, sind im Terminal rot,\n\

@@ -1,4 +1,4 @@
-use crate::command::Command;
+use crate::command::{Command, Task};
 use mako_fristen_host::{Call, Parameter};
 
 const FORM: (Parameter, &str) = (Parameter::VorlaufShape, "FORM [ZAHLEN]");
@@ -6,7 +6,7 @@ const FORM: (Parameter, &str) = (Parameter::VorlaufShape, "FORM [ZAHLEN]");
 pub const COMMANDS: [Command; 3] = [
     Command {
         name: "check",
-        call: Some(Call::VorlaufCheck),
+        task: Task::Ask(Call::VorlaufCheck),
         operands: &[
             FORM,
             (Parameter::Date, "ÜBERTRAGUNGSTAG"),
@@ -26,7 +26,7 @@ Zulässig sind Termine ab Dienstag, dem 13. Januar 2026.",
     },
     Command {
         name: "check-at",
-        call: Some(Call::VorlaufCheckAt),
+        task: Task::Ask(Call::VorlaufCheckAt),
         operands: &[
             FORM,
             (Parameter::Instant, "ÜBERTRAGEN"),
@@ -47,7 +47,7 @@ Als frühester Termin wird Samstag, der 10. Januar 2026, genannt; zulässig sind
     },
     Command {
         name: "span",
-        call: Some(Call::VorlaufSpan),
+        task: Task::Ask(Call::VorlaufSpan),
         operands: &[FORM, (Parameter::Date, "ÜBERTRAGUNGSTAG")],
         summary: "welche Termine eine Nachricht des Tages nennen darf",
         meaning: "Die zulässigen Termine: alle ab einem Tag, alle von einem bis zu einem, oder keiner.",
