@@ -80,10 +80,9 @@ def fragen(root):
         if written(program, given, pause, close) != (answers[:length] if is_file else b""):
             faults.append(f"{PROGRAM}: {what}: writes otherwise, or does not end")
     looked += 1
-    folder = os.open(root, os.O_RDONLY)  # which cannot be read
-    if subprocess.run([program], stdin=folder, stdout=subprocess.PIPE, check=False).stdout:
-        faults.append(f"{PROGRAM}: writes something for an input that cannot be read")
-    os.close(folder)
+    with open(os.devnull, "wb") as unreadable:
+        if subprocess.run([program], stdin=unreadable, stdout=subprocess.PIPE, check=False).stdout:
+            faults.append(f"{PROGRAM}: writes something for an input that cannot be read")
     return looked, faults
 
 

@@ -10,9 +10,12 @@ import tempfile
 from pathlib import Path
 
 import examples
+import fragen
 import sources
 
-CHECKS = {**sources.CHECKS, "examples": examples.examples}
+CHECKS = {**sources.CHECKS, "examples": examples.examples, "fragen": fragen.fragen}
+# One of the faults is to wait for an end that does not come.
+fragen.SECONDS = 2
 
 REPLY = "reply (now (answer .entry)) (einsAnswer n)"
 EQUATION = "(r, now (answer .exit)) ≡ " + REPLY
@@ -22,6 +25,8 @@ SPEC = "crates/andere/specs/Zwei.antt"
 PAPER = "docs/host-calls.md"
 HOST = "host/src/ffi.rs"
 README = "README.md"
+PROGRAM = "target/bin/fragen"
+STORED = "crates/fragen/stdout"
 GOOD = {
     "crates.txt": "mako_fristen:\nandere: mako_fristen\n",
     LIB: f"""// Two calls.
@@ -72,6 +77,19 @@ Text.
     other
 """,
     "fristen": '#!/bin/sh\n[ "$1" = eins ] && echo one || printf "two\\nlines\\n"\n',
+    PROGRAM: """#!/usr/bin/env python3
+import os
+most, got = 65536, b""
+try:
+    while len(got) <= most and (piece := os.read(0, most + 1 - len(got))):
+        got += piece
+except OSError:
+    got = b"?"
+if len(got) % 32 == 0 and len(got) <= most:
+    os.write(1, bytes(255 - byte for byte in got))
+""",
+    "crates/fragen/stdin": "ab" * 32768,
+    STORED: bytes(255 - byte for byte in b"ab" * 32768),
     "NOTICE": "x" * 200 + "\n",
     "crates/andere/stdin": "x" * 200 + "\n",
     "target/x.rt": "pub fn f() {}\n" + "x" * 200 + "\n",
@@ -168,6 +186,13 @@ BAD = [
     ("examples", "a line too few", README, without("    lines\n"), "README.md:8: ./fristen zwei: prints"),
     ("examples", "no output", README, without("    one\n"), "README.md:3: ./fristen eins: no output"),
     ("examples", "no program", "fristen", gone, "fristen"),
+    ("fragen", "no program", PROGRAM, gone, PROGRAM),
+    ("fragen", "too few are stored", STORED, only(b"x"), "are stored"),
+    ("fragen", "another answer", STORED, only(b"x" * 65536), "in one piece: writes"),
+    ("fragen", "one piece is read", PROGRAM, put("while len(got) <= most and", "if"), "in pieces: writes"),
+    ("fragen", "half a record is answered", PROGRAM, put("% 32", "% 1"), "33 bytes: writes"),
+    ("fragen", "a file too long is answered", PROGRAM, put("65536", "65568"), "65568 bytes: writes"),
+    ("fragen", "what cannot be read is answered", PROGRAM, put('b"?"', 'b"?" * 32'), "cannot be read"),
 ]
 
 # What the length of lines passes.
