@@ -589,3 +589,14 @@ fn no_lines_make_it_panic() {
     let asked = input.split(|byte| *byte == b'\n').zip(1..).filter(|(line, _)| asks(line));
     assert_eq!(both, asked.map(|(_, number)| number).collect::<Vec<usize>>());
 }
+
+/// What the README points to.
+#[test]
+fn the_file_of_the_documents_is_answered() {
+    let file = concat!(env!("CARGO_MANIFEST_DIR"), "/../docs/fragen.txt");
+    let given = answers(&[file], "", 2);
+    let marks: Vec<_> =
+        given.iter().map(|line| line.split_once(": ").map(|(mark, _)| mark)).collect();
+    assert_eq!(marks, ["2", "3", "4", "7", "8"].map(Some));
+    assert!(given[4].starts_with("8: Abgelehnt (3): "), "{}", given[4]);
+}
