@@ -10,13 +10,14 @@ use mathlib.Core.List.{List, _++_}
 use mathlib.Core.Path.{_≡_, sym, ap, _∙_}
 use native.Mathlib.Omega.{arith}
 use native.Mathlib.Decide.{decLe}
-use borrow.Author.Tests.{eq-eqb, le-leb, lt-leb}
+use borrow.Author.Tests.{le-leb, lt-leb}
 use lib.ListN.{length, take, drop, length-append}
 use lib.Seq.{take-at, drop-append-add, drop-drop}
 use Rattle.berlin.specs.Berlin.{hours, minutes, readClock}
 use Rattle.antwortsatz.specs.declared.Answer.{Answer}
 use Rattle.antwortsatz.specs.Bytes.{bytesOf, reply}
 use Rattle.antwortsatz.proofs.AnswerBytes.{bytes-length}
+use Rattle.antwortsatz.proofs.Rules.{reply-whole}
 use Rattle.fragesatz.specs.declared.Question.{Question}
 use Rattle.fragesatz.specs.Record.{questionOf, questionBytes}
 use Rattle.fragesatz.specs.File.{isFile, records}
@@ -59,11 +60,6 @@ module _ (w : ℕ → Bool) where
     unfolding questionsReply
     answer-at i h = rw f (record-at (length l / 32) i l h)
 
-  -- what a call leaves
-  left-by : (b : List ℕ) (a : Answer) → length b ≡ 32 → bytesOf a ≡ reply b a .1
-  unfolding reply
-  left-by b a h = rw (eq-eqb (length b) 32 h)
-
   pub record-gets :
       (l m : List ℕ) (i : ℕ) (q : Question) (a : Answer) →
       Fits q → questionAnswer w q ≡ a →
@@ -74,7 +70,7 @@ module _ (w : ℕ → Bool) where
       ∙ ap (λ (r : List ℕ). bytesOf (questionAnswer w (questionOf r))) s
       ∙ ap (λ (r : Question). bytesOf (questionAnswer w r)) (question-back q f)
       ∙ ap bytesOf e
-      ∙ left-by b a n
+      ∙ sym (ap (λ (r : ℕ × List ℕ). r .1) (reply-whole b a n))
 
 pub clock-same : (h m s : ℕ) → clockOfSeconds (clockSeconds h m s) ≡ readClock h m s 0
 unfolding clockOfSeconds readClock

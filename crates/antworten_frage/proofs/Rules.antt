@@ -27,6 +27,7 @@ use Rattle.antwortsatz.specs.Refusals.{unknownCode}
 use Rattle.antwortsatz.specs.Answers.{refused}
 use Rattle.antwortsatz.specs.Bytes.{bytesOf, reply}
 use Rattle.antwortsatz.proofs.AnswerBytes.{bytes-length}
+use Rattle.antwortsatz.proofs.Rules.{reply-whole}
 use Rattle.fragesatz.specs.declared.Question.{Question}
 use Rattle.fragesatz.specs.Record.{questionOf}
 use Rattle.fragesatz.specs.File.{isFile, records, questionsOf}
@@ -99,8 +100,7 @@ pub ruleset question-rules = (byte2-set, byte3-set, operation-unknown, operation
 
 -- what is left in a slice of 32 bytes
 replied : (l p : List ℕ) (x : Answer) (r : ℕ) → length l ≡ 32 → (r, p) ≡ reply l x → p ≡ bytesOf x
-unfolding reply
-replied l p x r n e = ap (λ (z : ℕ × List ℕ). z .1) (rw (eq-eqb (length l) 32 n) at e)
+replied l p x r n e = ap (λ (z : ℕ × List ℕ). z .1) (e ∙ reply-whole l x n)
 
 -- what stands up to the end of a part that was put back: what stood before it, and the part
 up-to-part :

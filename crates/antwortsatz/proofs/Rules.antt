@@ -2,6 +2,7 @@
 --   call-rules    for every host call: its answer is what a definition gives, so what `reply` promises of the answer
 --                 holds of the definition
 --   bytes-are     for `bytes_of`, whose seconds went through `bits_of`
+--   reply-whole   what a slice of 32 bytes gets
 --   reply-rules   for `reply`: a slice of another length; one byte more is copied; all are copied
 -- Assumes nothing.
 use Prim.Native.Nat.{ℕ, _+_, _≤_, _<_}
@@ -33,6 +34,10 @@ pub bytes-are :
 unfolding bytesOf
 bytes-are a s f e = rw (e, toZ-ofZ f)
 
+pub reply-whole : (l : List ℕ) (a : Answer) → length l ≡ 32 → reply l a ≡ (a .refusal, bytesOf a)
+unfolding reply
+reply-whole l a h = rw (eq-eqb (length l) 32 h)
+
 pub reply-other : (l : List ℕ) (a : Answer) → (length l ≡ 32 → ⊥) → (1, l) ≡ reply l a
 unfolding reply
 reply-other l a h = rw (ne-eqb (length l) 32 h)
@@ -52,10 +57,9 @@ pub reply-done :
     (l l′ b : List ℕ) (a : Answer) (i : ℕ) →
     length l ≡ 32 → b ≡ bytesOf a → take i l′ ≡ take i b → length l′ ≡ 32 → 32 ≤ i →
     (a .refusal, l′) ≡ reply l a
-unfolding reply
 reply-done l l′ b a i h e t g m =
     let n = ap length e ∙ bytes-length a in
     let w : l′ ≡ bytesOf a = sym (take-all i l′ (omega arith)) ∙ t ∙ take-all i b (omega arith) ∙ e in
-    rw (eq-eqb (length l) 32 h, w)
+    rw (reply-whole l a h, w)
 
 pub ruleset reply-rules = (reply-other, copy-more, copy-length, reply-done)
