@@ -2,7 +2,6 @@
 -- H. Each question and each answer is 32 bytes by the papers' layouts, with the numbers that the case's sentence has.
 -- Assumes nothing.
 use Prim.Native.Nat.{ℕ}
-use mathlib.Core.Bool.{Bool}
 use mathlib.Core.List.{List, [], _∷_}
 use mathlib.Core.Path.{_≡_, refl}
 use Rattle.zaehlung.specs.Walk.{dayAfter, up, down, past, first, among, add, sub, next, W, between}

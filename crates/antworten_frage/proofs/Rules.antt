@@ -6,15 +6,15 @@
 --   file-rules       for `questions_reply`: lengths that no file has; one answer more; all of them
 -- Assumes nothing.
 use Prim.Native.Nat.{ℕ, suc, _+_, _-_, _/_, _%_, _≤_, _<_}
-use mathlib.Core.Bool.{Bool, true, false, not, _&&_}
-use mathlib.Core.List.{List, [], _∷_, _++_, append-assoc, append-nil}
-use mathlib.Core.Path.{_≡_, refl, sym, ap, _∙_, subst}
+use mathlib.Core.Bool.{Bool, true, false, not}
+use mathlib.Core.List.{List, _++_, append-assoc, append-nil}
+use mathlib.Core.Path.{_≡_, sym, ap, _∙_}
 use native.Mathlib.Omega.{arith}
-use borrow.Author.Tests.{not-true, not-false, eq-eqb, ne-eqb, le-leb, lt-leb, eqb-true, leb-true}
+use borrow.Author.Tests.{not-true, not-false, eq-eqb, ne-eqb, le-leb, lt-leb}
 use borrow.Rule.Slice.PartMut.{putMid, postOf}
 use mir.Syntax.{w64}
 use mir.Val.{SFits}
-use lib.ListN.{length, getD, take, drop, length-take, length-drop, length-append}
+use lib.ListN.{length, getD, take, drop, length-drop, length-append}
 use lib.Seq.{take-all, take-at, drop-drop, length-take-le}
 use Rattle.datum.proofs.Signed.{back}
 use Rattle.berlin.specs.declared.Reading.{Reading}
@@ -35,7 +35,6 @@ use Rattle.fragesatz.proofs.Rules.{FileLengths, file-is}
 use Rattle.antworten.proofs.Codes.{entry, code-refused, code-taken}
 use Rattle.antworten.proofs.Rules.{read-same}
 use Rattle.antworten_frist.specs.Frist.{contrlDueAtAnswer, fristDueAtAnswer}
-use Rattle.antworten_vorlauf.specs.Vorlauf.{vorlaufCheckAnswer, vorlaufSpanAnswer}
 use Rattle.antworten_frage.specs.Frage.{clockOfSeconds, contrlQuestionAnswer, fristQuestionAnswer}
 use Rattle.antworten_frage.specs.Frage.{operations, questionAnswer}
 use Rattle.antworten_frage.specs.Fragen.{answersTo, questionsReply}
