@@ -6,7 +6,9 @@
 //! | [`instants`] | instants and clock times in its types, and where its answers change |
 //! | [`original`] | what the original answers to a question, in document 01's terms |
 //! | [`zone`] | what the system's tz database answers |
+//! | [`records`] | questions as the records of a file |
 //! | [`random`] | seeded numbers |
+//! | [`walk`] | how far the original walks for an answer |
 //! | [`rows`] | the questions, in rows: a new call is a new set of rows |
 //! | [`run`] | puts the questions of rows to both sides |
 //! | [`fuzz`] | puts any numbers and bytes to the host calls, with guarded slices |
@@ -22,6 +24,8 @@ pub mod options;
 pub mod original;
 pub mod progress;
 pub mod random;
+pub mod records;
 pub mod rows;
 pub mod run;
+pub mod walk;
 pub mod zone;

@@ -8,6 +8,7 @@ mod verdict;
 pub use panics::{caught, Panic};
 pub use span::expected_of_the_verdicts;
 
+use crate::records::{self, Record};
 use crate::{days, instants};
 use mako_fristen::antwort::FristShape;
 use mako_fristen::HolidayCalendar::BdewMaKo;
@@ -37,6 +38,18 @@ pub fn expected(question: &Question) -> Expected {
 /// A panic that stands for no refusal.
 pub fn expected_uncapped(question: &Question) -> Expected {
     told(|| answered(question, |n, _| n))
+}
+
+/// The answer to a record of a file: that of the single call to what stands in it.
+///
+/// # Errors
+///
+/// A panic that stands for no refusal.
+pub fn expected_of_record(record: &Record) -> Expected {
+    match records::read(record) {
+        Ok(question) => expected(&question),
+        Err(refusal) => Ok(Answer::refused(refusal)),
+    }
 }
 
 fn told(original: impl FnOnce() -> Result<Answer, Refusal>) -> Expected {

@@ -4,6 +4,7 @@
 mod abmeldung;
 pub(crate) mod any;
 mod corners;
+pub mod files;
 mod instants;
 mod kalender;
 mod uhr;
@@ -12,6 +13,8 @@ pub mod zone;
 
 use crate::original::{self, Expected};
 use crate::random::Random;
+use crate::run::Places;
+use files::FileRow;
 use mako_fristen_host::{Answer, Call, Question};
 
 /// The longest answer that is lent.
@@ -76,13 +79,29 @@ pub fn rows(seed: u64, random: u64) -> Vec<Row> {
     rows
 }
 
-/// The rows of a long run, with some so many random questions: the rows above, whose random ones
-/// are four times what they are told, and for every call arguments of every kind.
+/// The rows of a short run: those above, of the tz database, and of files.
 #[must_use]
-pub fn long(seed: u64, random: u64) -> Vec<Row> {
+pub fn short(seed: u64, random: u64) -> Vec<Box<dyn Places>> {
+    all(rows(seed, random), files::rows(seed, random))
+}
+
+/// The rows of a long run, with some so many random questions: those of a short one, whose random
+/// ones are four times what they are told, and for every call arguments of every kind.
+#[must_use]
+pub fn long(seed: u64, random: u64) -> Vec<Box<dyn Places>> {
+    all(long_rows(seed, random), files::rows(seed, random / 8))
+}
+
+fn long_rows(seed: u64, random: u64) -> Vec<Row> {
     let mut rows = rows(seed, random / 8);
     rows.extend(any::rows(seed, random / 2));
     rows
+}
+
+fn all(rows: Vec<Row>, files: Vec<FileRow>) -> Vec<Box<dyn Places>> {
+    let rows = rows.into_iter().chain(zone::opened());
+    let rows = rows.map(|row| Box::new(row) as Box<dyn Places>);
+    rows.chain(files.into_iter().map(|row| Box::new(row) as Box<dyn Places>)).collect()
 }
 
 /// How many questions there are where the original walks far and `few` are enough for a short run:
@@ -94,7 +113,7 @@ fn far(few: u64, random: u64) -> u64 {
 
 #[cfg(test)]
 mod tests {
-    use super::{long, rows, Row};
+    use super::{long_rows, rows, Row};
     use mako_fristen_host::Call;
 
     #[test]
@@ -108,7 +127,7 @@ mod tests {
     #[test]
     fn a_long_run_has_millions_of_every_call() {
         const RANDOM: u64 = 250_000_000;
-        let rows = long(1, RANDOM);
+        let rows = long_rows(1, RANDOM);
         for call in Call::ALL {
             let of_call = rows.iter().filter(|row| row.call == call);
             let sum: u64 = of_call.map(|row| row.len).sum();
@@ -121,7 +140,7 @@ mod tests {
     /// A row and a place mean the same question however many there are.
     #[test]
     fn questions_do_not_depend_on_how_many_there_are() {
-        let (few, many) = (long(7, 8_000_000), long(7, 250_000_000));
+        let (few, many) = (long_rows(7, 8_000_000), long_rows(7, 250_000_000));
         assert_eq!(few.len(), many.len());
         for (few, many) in few.iter().zip(&many) {
             assert_eq!((few.call, few.what), (many.call, many.what));

@@ -1,7 +1,9 @@
 //! Puts the questions of rows to both sides.
 
+mod file;
+
 use crate::cores::{cores, split};
-use crate::original::caught;
+use crate::original::{caught, Panic};
 use crate::progress::Progress;
 use crate::rows::{Probe, Row, LONGEST};
 use mako_fristen_host::{Answer, Refusal};
@@ -15,7 +17,50 @@ const SHARE: u64 = 4096;
 /// A lent slice of any length up to the longest, with guard bytes on both sides.
 type Lent = [u8; GUARD + LONGEST + GUARD];
 
-/// A question on which the two sides differ, in full.
+/// A row that can be run. What is put at a place, a question or a file of them, is made from the
+/// place alone.
+pub trait Places: Sync {
+    /// The call, as C knows it.
+    fn call(&self) -> &'static str;
+
+    /// Which arguments it has.
+    fn what(&self) -> &'static str;
+
+    /// How many places there are.
+    fn places(&self) -> u64;
+
+    /// What is put at the place, in words.
+    fn told(&self, place: u64) -> String;
+
+    /// Puts it to both sides.
+    fn put(&self, place: u64) -> Put;
+}
+
+/// What came of a place.
+pub struct Put {
+    /// How many answers were compared, with a difference or without: at least one.
+    pub compared: u64,
+    pub differences: u64,
+    /// The first few of them, in full.
+    pub shown: Vec<String>,
+}
+
+impl Put {
+    /// One comparison.
+    fn one(difference: Option<String>) -> Put {
+        Put {
+            compared: 1,
+            differences: difference.is_some().into(),
+            shown: Vec::from_iter(difference),
+        }
+    }
+
+    fn unmade(place: u64, panic: &Panic) -> Put {
+        Put::one(Some(format!("place {place}, whose question is not made: {panic}")))
+    }
+}
+
+/// A place at which the two sides differ, in full.
 pub struct Difference {
     pub place: u64,
     pub text: String,
@@ -23,7 +68,9 @@ pub struct Difference {
 
 #[derive(Default)]
 pub struct Outcome {
-    /// How many questions were put to both sides, with a difference or without.
+    /// How many places were put to both sides.
+    pub put: u64,
+    /// How many answers were compared, with a difference or without.
     pub compared: u64,
     pub differences: u64,
     /// Those of the first few places.
@@ -31,52 +78,71 @@ pub struct Outcome {
 }
 
 impl Outcome {
-    /// Whether the row has questions, and all were put.
+    /// Whether the row has places, and all were put.
     #[must_use]
-    pub fn is_whole(&self, row: &Row) -> bool {
-        row.len > 0 && self.compared == row.len
+    pub fn is_whole(&self, row: &dyn Places) -> bool {
+        row.places() > 0 && self.put == row.places()
     }
 
-    fn add(&mut self, place: u64, text: String) {
-        self.differences += 1;
-        self.shown.push(Difference { place, text });
+    fn add(&mut self, place: u64, Put { compared, differences, shown }: Put) {
+        let shown = shown.into_iter().map(|text| Difference { place, text }).collect();
+        self.join(Outcome { put: 1, compared, differences, shown });
+    }
+
+    fn join(&mut self, other: Outcome) {
+        self.put += other.put;
+        self.compared += other.compared;
+        self.differences += other.differences;
+        self.shown.extend(other.shown);
         self.shown.sort_by_key(|difference| difference.place);
         self.shown.truncate(SHOWN);
     }
 }
 
-/// Compares every probe of the rows, on all cores. All rows advance alike, so that a long run goes
-/// on at the rate at which it began.
+/// Puts every place of the rows, on all cores. All rows advance alike, so that a long run goes on at
+/// the rate at which it began.
 #[must_use]
-pub fn run(rows: &[Row], progress: &Progress) -> Vec<Outcome> {
+pub fn run(rows: &[&dyn Places], progress: &Progress) -> Vec<Outcome> {
     let outcomes: Vec<Mutex<Outcome>> = rows.iter().map(|_| Mutex::default()).collect();
-    let longest = rows.iter().map(|row| row.len).max().unwrap_or_default();
+    let longest = rows.iter().map(|row| row.places()).max().unwrap_or_default();
     let parts = (longest / SHARE).max(cores() as u64 * 64);
     let of_each = rows.len() as u64;
     let work = |(): &mut (), part: u64| {
         let (row, part) = ((part % of_each) as usize, part / of_each);
-        let (outcome, row) = (&outcomes[row], &rows[row]);
-        let (from, to) = (row.len * part / parts, row.len * (part + 1) / parts);
-        let mut compared = 0;
-        for place in from..to {
-            if let Some(text) = difference_at(row, place) {
-                outcome.lock().expect("no thread panics").add(place, text);
-            }
-            compared += 1;
-        }
-        outcome.lock().expect("no thread panics").compared += compared;
+        let (outcome, row) = (&outcomes[row], rows[row]);
+        let (from, to) = (row.places() * part / parts, row.places() * (part + 1) / parts);
+        let mut of_part = Outcome::default();
+        (from..to).for_each(|place| of_part.add(place, row.put(place)));
+        outcome.lock().expect("no thread panics").join(of_part);
         progress.add(to - from);
     };
     split(cores(), parts * of_each, || (), work);
     outcomes.into_iter().map(|outcome| outcome.into_inner().expect("no thread panics")).collect()
 }
 
-/// What the two sides say at a place of the row, if it is not the same.
-#[must_use]
-pub fn difference_at(row: &Row, place: u64) -> Option<String> {
-    match caught(|| (row.probe)(place)) {
-        Ok(probe) => difference(row, &probe),
-        Err(panic) => Some(format!("place {place}, whose question is not made: {panic}")),
+impl Places for Row {
+    fn call(&self) -> &'static str {
+        self.call.name()
+    }
+
+    fn what(&self) -> &'static str {
+        self.what
+    }
+
+    fn places(&self) -> u64 {
+        self.len
+    }
+
+    fn told(&self, place: u64) -> String {
+        let probe = (self.probe)(place);
+        format!("{} with {} bytes", probe.question, probe.len)
+    }
+
+    fn put(&self, place: u64) -> Put {
+        match caught(|| (self.probe)(place)) {
+            Ok(probe) => Put::one(difference(self, &probe)),
+            Err(panic) => Put::unmade(place, &panic),
+        }
     }
 }
 
@@ -125,7 +191,7 @@ pub fn hex(bytes: &[u8]) -> String {
 
 #[cfg(test)]
 mod tests {
-    use super::{difference, run};
+    use super::{difference, run, Places};
     use crate::original::{self, Expected};
     use crate::progress::Progress;
     use crate::rows::{Probe, Row};
@@ -142,9 +208,8 @@ mod tests {
     #[test]
     fn every_probe_of_every_row_is_compared() {
         let nothing = |_: &Question| Ok(Answer::default());
-        let rows = [row(original::expected), row(nothing), row(original::expected)];
-        let progress = Progress::new(300);
-        let outcomes = run(&rows, &progress);
+        let (right, wrong) = (row(original::expected), row(nothing));
+        let outcomes = run(&[&right, &wrong, &right], &Progress::new(300));
         let counts = outcomes.iter().map(|outcome| (outcome.compared, outcome.differences));
         assert_eq!(counts.collect::<Vec<_>>(), [(100, 0), (100, 100), (100, 0)]);
         let places: Vec<u64> = outcomes[1].shown.iter().map(|shown| shown.place).collect();
@@ -167,11 +232,11 @@ mod tests {
     #[test]
     fn a_row_is_whole_if_it_has_questions_and_all_were_put() {
         let row = row(original::expected);
-        let outcome = run(std::slice::from_ref(&row), &Progress::new(100)).remove(0);
+        let outcome = run(&[&row], &Progress::new(100)).remove(0);
         assert!(outcome.is_whole(&row));
         assert!(!outcome.is_whole(&Row { len: 101, ..row }));
-        let empty = [self::row(original::expected)].map(|row| Row { len: 0, ..row });
-        assert!(!run(&empty, &Progress::new(0))[0].is_whole(&empty[0]));
+        let empty = Row { len: 0, ..self::row(original::expected) };
+        assert!(!run(&[&empty], &Progress::new(0))[0].is_whole(&empty));
     }
 
     /// Neither one that the original raises nor one of the harness ends the run, or passes.
@@ -180,7 +245,8 @@ mod tests {
         let raised = row(|_| original::caught(|| panic!("made up")));
         let escaped = row(|_| panic!("got away"));
         let unmade = Row { probe: Box::new(|place| panic!("no {place}")), ..row(|_| panic!()) };
-        let outcomes = run(&[raised, escaped, unmade], &Progress::new(300));
+        let rows: [&dyn Places; 3] = [&raised, &escaped, &unmade];
+        let outcomes = run(&rows, &Progress::new(300));
         let told = [
             "mf_add_werktage(2026-04-02, 0): an unknown panic, 'made up', in ",
             "mf_add_werktage(2026-04-02, 0): an unknown panic, 'got away', in ",

@@ -5,8 +5,8 @@
 
 use harness::options::{self, DEFAULT_SEED};
 use harness::progress::{span, Progress};
-use harness::rows::{self, Row};
-use harness::run::{self, Difference, Outcome};
+use harness::run::{self, Difference, Outcome, Places};
+use harness::{records, rows};
 use mako_fristen_host::Call;
 use std::process::ExitCode;
 use std::time::Instant;
@@ -18,36 +18,36 @@ fn main() -> ExitCode {
     let (seed, millions) =
         (options::option("--seed", DEFAULT_SEED), options::option("--millions", DEFAULT_MILLIONS));
     println!("seed {seed}, about {millions} million random questions");
-    let mut rows = rows::long(seed, (millions * 1e6) as u64);
-    rows.extend(rows::zone::opened());
+    let rows = rows::long(seed, (millions * 1e6) as u64);
+    let rows: Vec<&dyn Places> = rows.iter().map(Box::as_ref).collect();
     if let Some(row) = options::given("--row") {
         return put_again(&rows, row, options::option("--place", 0));
     }
     let started = Instant::now();
-    let progress = Progress::new(rows.iter().map(|row| row.len).sum());
+    let progress = Progress::new(rows.iter().map(|row| row.places()).sum());
     let outcomes = progress.shown(|| run::run(&rows, &progress));
     let differences = table(&rows, &outcomes);
     for (number, (row, outcome)) in rows.iter().zip(&outcomes).enumerate() {
         for Difference { place, text } in &outcome.shown {
-            println!("{}, {}: {text}", row.call.name(), row.what);
+            println!("{}, {}: {text}", row.call(), row.what());
             let of_run = format!("--seed {seed} --millions {millions}");
             println!("    again    oracle/long {of_run} --row {number} --place {place}");
         }
     }
     println!("{} rows in {}", rows.len(), span(started.elapsed()));
-    let whole = rows.iter().zip(&outcomes).all(|(row, outcome)| outcome.is_whole(row));
+    let whole = rows.iter().zip(&outcomes).all(|(&row, outcome)| outcome.is_whole(row));
     ExitCode::from(u8::from(differences != 0 || !whole))
 }
 
 /// Prints comparisons and differences of every call, and gives the sum of the latter.
-fn table(rows: &[Row], outcomes: &[Outcome]) -> u64 {
+fn table(rows: &[&dyn Places], outcomes: &[Outcome]) -> u64 {
     println!("{:36} {:>12} {:>12}", "call", "comparisons", "differences");
     let (mut comparisons, mut differences) = (0, 0);
-    for call in Call::ALL {
-        let of_call = || rows.iter().zip(outcomes).filter(|(row, _)| row.call == call);
+    for call in Call::ALL.map(Call::name).into_iter().chain([records::CALL]) {
+        let of_call = || rows.iter().zip(outcomes).filter(|(row, _)| row.call() == call);
         let compared: u64 = of_call().map(|(_, outcome)| outcome.compared).sum();
         let differing: u64 = of_call().map(|(_, outcome)| outcome.differences).sum();
-        println!("{:36} {compared:12} {differing:12}", call.name());
+        println!("{call:36} {compared:12} {differing:12}");
         comparisons += compared;
         differences += differing;
     }
@@ -55,15 +55,15 @@ fn table(rows: &[Row], outcomes: &[Outcome]) -> u64 {
     differences
 }
 
-fn put_again(rows: &[Row], row: usize, place: u64) -> ExitCode {
-    let Some(row) = rows.get(row).filter(|row| place < row.len) else {
+fn put_again(rows: &[&dyn Places], row: usize, place: u64) -> ExitCode {
+    let Some(row) = rows.get(row).filter(|row| place < row.places()) else {
         options::stop("there is no such row or place");
     };
-    if let Some(text) = run::difference_at(row, place) {
-        println!("{text}");
-        return ExitCode::FAILURE;
+    let put = row.put(place);
+    if put.differences == 0 {
+        println!("{}: no difference", row.told(place));
+        return ExitCode::SUCCESS;
     }
-    let probe = (row.probe)(place);
-    println!("{} with {} bytes: no difference", probe.question, probe.len);
-    ExitCode::SUCCESS
+    put.shown.iter().for_each(|text| println!("{text}"));
+    ExitCode::FAILURE
 }

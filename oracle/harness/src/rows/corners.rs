@@ -195,7 +195,7 @@ const CORNER_INSTANTS: [OffsetDateTime; 18] = [
     datetime!(2899-12-31 16:59:59.999999999 UTC),
 ];
 
-fn corners(call: Call) -> Vec<Question> {
+pub(super) fn corners(call: Call) -> Vec<Question> {
     if has_verdict(call) {
         return corner_verdicts(call);
     }
@@ -297,7 +297,7 @@ fn no_date_list() -> Vec<Date> {
 }
 
 /// In the first place, in the second, and in both.
-fn no_dates(call: Call) -> Vec<Question> {
+pub(super) fn no_dates(call: Call) -> Vec<Question> {
     let good = [Date::FIRST, date(2026, 4, 2), Date::LAST];
     let none = no_date_list();
     let values = Values {
@@ -321,7 +321,7 @@ fn no_dates(call: Call) -> Vec<Question> {
 const LAST_SPRING: Date = date(2899, 3, 29);
 
 /// Good and refused values for all parameters, each with each.
-fn refused(call: Call) -> Vec<Question> {
+pub(super) fn refused(call: Call) -> Vec<Question> {
     const FIRST: i64 = Instant::FIRST.seconds;
     const LAST: i64 = Instant::LAST.seconds;
     let instants = [

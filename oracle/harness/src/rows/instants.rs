@@ -151,7 +151,7 @@ fn any_question(call: Call, random: &mut Random) -> Question {
     filled(call, instant, random)
 }
 
-fn any_count(call: Call, random: &mut Random) -> Question {
+pub(super) fn any_count(call: Call, random: &mut Random) -> Question {
     let instant = any_instant(random);
     filled(call, instant, random).with_count(kalender::large_count(random))
 }

@@ -57,7 +57,7 @@ fn any_question(call: Call, random: &mut Random) -> Question {
     anchored(any_shape(question, random), random)
 }
 
-fn any_count(call: Call, random: &mut Random) -> Question {
+pub(super) fn any_count(call: Call, random: &mut Random) -> Question {
     let question = any_shape(Question::new(call), random);
     let counts = [question.n, question.n2, kalender::large_count(random)];
     let question = Question {
