@@ -3,15 +3,20 @@
 
 mod area;
 mod case;
+mod file;
 mod system;
 
 pub use area::Place;
 pub use case::Case;
+pub use file::FileCase;
 pub use system::{on_valgrind, tell_of_crashes};
 
 use crate::original::caught;
+use crate::records;
+use crate::rows::files::AskFile;
 use area::{Area, Lent};
 use case::Round;
+use file::refused_fault;
 use mako_fristen_host::{ffi, Answer, Call, Question, Refusal};
 use std::fmt;
 use std::time::{Duration, Instant};
@@ -23,6 +28,8 @@ const LONGEST_TIME: Duration = Duration::from_millis(300);
 const SLOWER_ON_VALGRIND: u32 = 50;
 const TIMES: usize = 3;
 const SHOWN: usize = 5;
+/// One case in so many is a file.
+const FILES: u64 = Call::ALL.len() as u64 + 1;
 
 /// Puts a question with a reason of any length and a lent answer; returns the number.
 pub type Ask = fn(&Question, &[u8], &mut [u8]) -> u8;
@@ -52,11 +59,12 @@ pub fn host_calls(question: &Question, reason: &[u8], answer: &mut [u8]) -> u8 {
 #[derive(Default)]
 pub struct Found {
     pub calls: u64,
-    /// How many calls had an answer of 32 bytes that the original gave as well.
+    /// How many answers of 32 bytes the original gave as well.
     pub told: u64,
     pub wrong: u64,
     /// The first few, in full.
     pub shown: Vec<String>,
+    /// The longest time that a question took, of a file on average.
     pub slowest: Duration,
     /// The question that took longest.
     pub slowest_question: String,
@@ -81,44 +89,74 @@ impl Found {
 /// Puts cases and checks what comes back.
 pub struct Fuzzer {
     ask: Ask,
+    ask_file: AskFile,
+    /// What the calls write.
     answers: Area,
-    reasons: Area,
+    /// What they read: reasons and questions.
+    read: Area,
     pub found: Found,
 }
 
 impl Fuzzer {
     #[must_use]
-    pub fn new(ask: Ask) -> Fuzzer {
-        let (answers, reasons, found) = (Area::default(), Area::default(), Found::default());
-        Fuzzer { ask, answers, reasons, found }
+    pub fn new(ask: Ask, ask_file: AskFile) -> Fuzzer {
+        let (answers, read, found) = (Area::default(), Area::default(), Found::default());
+        Fuzzer { ask, ask_file, answers, read, found }
     }
 
-    /// Puts the case of a place.
+    /// Puts the case of a place: a question, or a file of them.
     pub fn put_at(&mut self, seed: u64, place: u64) {
-        match caught(|| Case::at(seed, place)) {
-            Ok(case) => self.put(&case, seed, place),
-            Err(panic) => self.wrong("a question", &panic.to_string(), seed, place),
+        let put = if (place + 1).is_multiple_of(FILES) {
+            caught(|| FileCase::at(seed, place)).map(|case| self.put_file(&case, seed, place))
+        } else {
+            caught(|| Case::at(seed, place)).map(|case| self.put(&case, seed, place))
+        };
+        if let Err(panic) = put {
+            self.wrong("a question", &panic.to_string(), seed, place);
         }
     }
 
     /// Puts the case at every place, with an answer of 32 bytes and one of another length.
     pub fn put(&mut self, case: &Case, seed: u64, place: u64) {
-        system::at_place(place);
         if let Some(Err(panic)) = &case.expected {
             self.wrong(case, &panic.to_string(), seed, place);
         }
-        let errors = system::valgrind_errors();
         let mut first = None;
-        for round in &case.rounds {
-            self.found.calls += 1;
-            let (fault, answer) = self.round(case, round, first);
+        self.put_each(case, &case.rounds, [seed, place], |fuzzer, round| {
+            let (fault, answer) = fuzzer.round(case, round, first);
             first = first.or(answer);
-            if let Some(fault) = fault {
-                self.wrong(case, &fault, seed, place);
+            fault
+        });
+    }
+
+    /// Puts the file at every place, with answers as long as the questions and others.
+    pub fn put_file(&mut self, case: &FileCase, seed: u64, place: u64) {
+        if let Some(panic) = case.panic() {
+            self.wrong(case, &panic.to_string(), seed, place);
+        }
+        let singles = case.singles(self.ask);
+        self.put_each(case, &case.rounds, [seed, place], |fuzzer, round| {
+            fuzzer.file_round(case, round, &singles)
+        });
+    }
+
+    fn put_each(
+        &mut self,
+        case: impl fmt::Display,
+        rounds: &[Round],
+        [seed, place]: [u64; 2],
+        mut put: impl FnMut(&mut Fuzzer, &Round) -> Option<String>,
+    ) {
+        system::at_place(place);
+        let errors = system::valgrind_errors();
+        for round in rounds {
+            self.found.calls += 1;
+            if let Some(fault) = put(self, round) {
+                self.wrong(&case, &fault, seed, place);
             }
         }
         if system::valgrind_errors() != errors {
-            self.wrong(case, "valgrind reported an error", seed, place);
+            self.wrong(&case, "valgrind reported an error", seed, place);
         }
     }
 
@@ -139,7 +177,7 @@ impl Fuzzer {
     ) -> (Option<String>, Option<Answer>) {
         let expected = case.expected.as_ref().and_then(|expected| expected.as_ref().ok()).copied();
         let mut answer = self.answers.lend(round.place, &round.content, round.guard);
-        let mut reason = self.reasons.lend(round.reason_place, &case.reason, round.guard);
+        let mut reason = self.read.lend(round.read_place, &case.reason, round.guard);
         let whole = round.content.len() == Answer::LEN;
         answer.mark(if whole { Mark::Undefined } else { Mark::NoAccess });
         let started = Instant::now();
@@ -157,25 +195,60 @@ impl Fuzzer {
             }
             _ => (length_fault(number, answer.slice() == round.content), None),
         };
-        let late = self.late(case, took);
+        let ask = self.ask;
+        let late = self.late(case, 1, took, || {
+            let _ = ask(&case.question, &case.reason, &mut [0; Answer::LEN]);
+        });
         let fault = fault.or(beside.map(String::from)).or(late);
         (fault.map(|fault| format!("{fault} ({round})")), given)
     }
 
-    /// Keeps the slowest call; one that seems slower is put again, and its least time counts.
-    fn late(&mut self, case: &Case, took: Duration) -> Option<String> {
-        if took <= self.found.slowest {
+    /// One call of a file; what is wrong with it.
+    fn file_round(&mut self, case: &FileCase, round: &Round, singles: &[Answer]) -> Option<String> {
+        let refused = records::is_refused(case.questions.len(), round.content.len());
+        let mut answers = self.answers.lend(round.place, &round.content, round.guard);
+        let mut questions = self.read.lend(round.read_place, &case.questions, round.guard);
+        answers.mark(if refused { Mark::NoAccess } else { Mark::Undefined });
+        let started = Instant::now();
+        let number = (self.ask_file)(questions.slice(), answers.slice());
+        let took = started.elapsed();
+        let fault = if refused {
+            answers.mark(Mark::Defined);
+            refused_fault(number, answers.slice() == round.content)
+        } else {
+            self.found.told += case.told();
+            case.answers_fault(number, answers.slice(), singles)
+        };
+        let beside = beside(&answers, &mut questions, &case.questions);
+        let ask = self.ask_file;
+        let late = self.late(case, case.records(), took, || {
+            let _ = ask(&case.questions, &mut round.content.clone());
+        });
+        let fault = fault.or(beside.map(String::from)).or(late);
+        fault.map(|fault| format!("{fault} ({round})"))
+    }
+
+    /// Keeps the slowest call, by the question; one that seems slower is put again, and its least
+    /// time counts.
+    fn late(
+        &mut self,
+        case: impl fmt::Display,
+        questions: u32,
+        took: Duration,
+        again: impl Fn(),
+    ) -> Option<String> {
+        if took / questions <= self.found.slowest {
             return None;
         }
         let again = (0..TIMES).map(|_| {
             let started = Instant::now();
-            let _ = (self.ask)(&case.question, &case.reason, &mut [0; Answer::LEN]);
+            again();
             started.elapsed()
         });
-        let least = again.fold(took, Duration::min);
+        let least = again.fold(took, Duration::min) / questions;
         if least > self.found.slowest {
             self.found.slowest = least;
-            self.found.slowest_question = case.question.to_string();
+            self.found.slowest_question = case.to_string();
         }
         let slower = if on_valgrind() { SLOWER_ON_VALGRIND } else { 1 };
         (least > LONGEST_TIME * slower).then(|| format!("it takes {least:?}"))
@@ -209,11 +282,11 @@ fn length_fault(number: u8, untouched: bool) -> Option<String> {
 }
 
 /// What is wrong beside the answer.
-fn beside(answer: &Lent, reason: &mut Lent, content: &[u8]) -> Option<&'static str> {
+fn beside(answer: &Lent, read: &mut Lent, content: &[u8]) -> Option<&'static str> {
     if !answer.is_intact() {
         Some("bytes beside the answer were written")
-    } else if !reason.is_intact() || reason.slice() != content {
-        Some("the reason or bytes beside it were written")
+    } else if !read.is_intact() || read.slice() != content {
+        Some("what is read or bytes beside it were written")
     } else {
         None
     }

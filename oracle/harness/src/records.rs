@@ -127,6 +127,15 @@ fn seconds_of(clock: Clock) -> u32 {
     }
 }
 
+/// For tests: three CONTRL of 2 April 2026, each received a second after the other, and one that is
+/// refused.
+#[cfg(test)]
+pub(crate) fn four() -> Vec<u8> {
+    let contrl = |seconds| Question::at(Call::ContrlDueAt, Instant::new(seconds, 0));
+    let seconds = [1_775_080_800, 1_775_080_801, 1_775_080_802, 0];
+    seconds.into_iter().flat_map(|seconds| written(&contrl(seconds), [0; LEN])).collect()
+}
+
 #[cfg(test)]
 mod tests {
     use super::{clock, is_refused, read, written, Record, LEN, OPERATIONS};

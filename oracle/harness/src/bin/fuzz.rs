@@ -1,18 +1,19 @@
 //! Puts any numbers and bytes to the host calls, with guarded slices. Ends with 1 if anything is
-//! wrong, or nothing was put. Options: `--seed N`, `--count N` (questions, each put eight times), and
-//! to put one question again, `--place N`.
+//! wrong, or nothing was put. Options: `--seed N`, `--count N` (questions and files of them, each put
+//! eight times), and to put one again, `--place N`.
 
 use harness::cores::{cores, split};
 use harness::fuzz::{host_calls, on_valgrind, tell_of_crashes, Found, Fuzzer};
 use harness::options::{self, DEFAULT_SEED};
 use harness::progress::Progress;
+use mako_fristen_host::ffi;
 use std::process::ExitCode;
 
 const DEFAULT_COUNT: u64 = 1_000_000;
 /// Under valgrind, which is slower by some fifty times.
 const DEFAULT_COUNT_ON_VALGRIND: u64 = 10_000;
 /// How many questions a thread takes at a time.
-const SHARE: u64 = 31;
+const SHARE: u64 = 32;
 
 fn main() -> ExitCode {
     options::only(&["--seed", "--count", "--place"]);
@@ -33,8 +34,9 @@ fn main() -> ExitCode {
         (from..to).for_each(|place| fuzzer.put_at(seed, place));
         progress.add(to - from);
     };
+    let fuzzer = || Fuzzer::new(host_calls, ffi::mf_questions);
     let parts = (places.end - places.start).div_ceil(SHARE);
-    let fuzzers = progress.shown(|| split(threads, parts, || Fuzzer::new(host_calls), work));
+    let fuzzers = progress.shown(|| split(threads, parts, fuzzer, work));
     let found = fuzzers.into_iter().map(|fuzzer| fuzzer.found).fold(Found::default(), Found::and);
     report(&found, seed, valgrind)
 }

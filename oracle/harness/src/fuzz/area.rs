@@ -3,8 +3,8 @@
 use super::system::{between_closed_pages, mark, Mark};
 use std::ops::Range;
 
-/// The longest slice.
-pub const LONGEST: usize = 4096;
+/// The longest slice: somewhat more than the longest file of questions.
+pub const LONGEST: usize = 65_700;
 /// At least so many guard bytes before and after a slice among others.
 const GUARD: usize = 64;
 
@@ -30,8 +30,8 @@ pub struct Area {
 
 impl Default for Area {
     fn default() -> Area {
-        let among = vec![0; GUARD + LONGEST + 3 * GUARD];
-        Area { among, pages: between_closed_pages(), heap: Box::default() }
+        let among = vec![0; LONGEST + 4 * GUARD];
+        Area { among, pages: between_closed_pages(LONGEST + GUARD), heap: Box::default() }
     }
 }
 
@@ -42,7 +42,8 @@ impl Area {
         let (whole, from) = match place {
             Place::Among(by) => {
                 let start = self.among.as_ptr().align_offset(GUARD);
-                (&mut self.among[..], start + GUARD + by % GUARD)
+                let from = GUARD + by % GUARD;
+                (&mut self.among[start..start + from + len + GUARD], from)
             }
             Place::AfterPage => (&mut self.pages[..len + GUARD], 0),
             Place::BeforePage => {

@@ -1,6 +1,6 @@
 //! A question of any kind, what is expected of it, and where its slices lie.
 
-use super::area::{Place, LONGEST};
+use super::area::Place;
 use crate::original::{self, Expected};
 use crate::random::Random;
 use crate::rows::any;
@@ -9,6 +9,7 @@ use mako_fristen_host::{Answer, Call, Parameter, Question, Reason};
 use std::fmt;
 
 const LONGEST_REASON: u32 = 300;
+const LONGEST_ANSWER: u32 = 4096;
 /// An ordinary reason. It stands for one for which a question has no room.
 const ORDINARY: &[u8] = b"Z33";
 
@@ -23,7 +24,8 @@ pub struct Case {
 /// One call: where its slices lie, and what stands in and beside them before.
 pub struct Round {
     pub place: Place,
-    pub reason_place: Place,
+    /// That of what it reads: the reason, or the questions of a file.
+    pub read_place: Place,
     pub content: Vec<u8>,
     pub guard: u8,
 }
@@ -44,12 +46,12 @@ impl Case {
         let question = question.with_reason(room);
         let told = !is_far(&question) || random.below(256) == 0;
         let expected = told.then(|| original::expected(&question));
-        Case { question, reason, expected, rounds: rounds(random) }
+        Case { question, reason, expected, rounds: rounds(Answer::LEN, other_len, random) }
     }
 }
 
 /// One parameter in two is any number at all; of counts that are walked, one in 32.
-fn wild(call: Call, random: &mut Random) -> Question {
+pub(super) fn wild(call: Call, random: &mut Random) -> Question {
     let question = any::question(call, random);
     call.parameters().iter().fold(question, |question, &parameter| {
         let count = matches!(parameter, Parameter::Count | Parameter::SecondCount);
@@ -72,14 +74,18 @@ fn any_reason(question: &Question, random: &mut Random) -> Vec<u8> {
     start.iter().copied().chain(rest).take(len).collect()
 }
 
-/// Every place, each with an answer of 32 bytes and one of another length.
-fn rounds(random: &mut Random) -> Vec<Round> {
+/// Every place, each with an answer of this length and one of another.
+pub(super) fn rounds(
+    len: usize,
+    other_len: impl Fn(&mut Random) -> usize,
+    random: &mut Random,
+) -> Vec<Round> {
     let among = Place::Among(random.below(64) as usize);
     let places = [among, Place::AfterPage, Place::BeforePage, Place::Heap];
-    let lens = places.map(|place| [Answer::LEN, other_len(random)].map(|len| (place, len)));
+    let lens = places.map(|place| [len, other_len(random)].map(|len| (place, len)));
     let mut round = |(place, len)| Round {
         place,
-        reason_place: random.one_of(&places),
+        read_place: random.one_of(&places),
         content: (0..len).map(|_| random.number() as u8).collect(),
         guard: random.number() as u8,
     };
@@ -89,8 +95,8 @@ fn rounds(random: &mut Random) -> Vec<Round> {
 /// A length that is not 32.
 fn other_len(random: &mut Random) -> usize {
     let len = match random.below(16) {
-        0 => random.below(LONGEST as u32 + 1),
-        1..4 => random.one_of(&[0, 1, 31, 33, 64, LONGEST as u32]),
+        0 => random.below(LONGEST_ANSWER + 1),
+        1..4 => random.one_of(&[0, 1, 31, 33, 64, LONGEST_ANSWER]),
         _ => random.below(71),
     };
     if len as usize == Answer::LEN {
@@ -112,7 +118,7 @@ impl fmt::Display for Case {
 
 impl fmt::Display for Round {
     fn fmt(&self, f: &mut fmt::Formatter<'_>) -> fmt::Result {
-        let Round { place, reason_place, content, .. } = self;
-        write!(f, "{} bytes {place:?}, the reason {reason_place:?}", content.len())
+        let Round { place, read_place, content, .. } = self;
+        write!(f, "{} bytes {place:?}, what is read {read_place:?}", content.len())
     }
 }

@@ -33,18 +33,20 @@ extern "C" {
     fn write(fd: c_int, bytes: *const u8, len: usize) -> isize;
 }
 
-/// Bytes with a page before and a page after them that may not be touched. They are never given
-/// back: a thread has two of them.
+/// At least so many bytes with a page before and a page after them that may not be touched. They are
+/// never given back: a thread has two of them.
 #[must_use]
-pub fn between_closed_pages() -> &'static mut [u8] {
+pub fn between_closed_pages(least: usize) -> &'static mut [u8] {
+    let len = least.next_multiple_of(PAGE);
     // SAFETY: new memory, of which the middle is opened for reading and writing and is used by
     // nobody else.
     unsafe {
-        let at = mmap(ptr::null_mut(), 3 * PAGE, PROT_NONE, MAP_PRIVATE_ANONYMOUS, -1, 0);
+        let whole = len + 2 * PAGE;
+        let at = mmap(ptr::null_mut(), whole, PROT_NONE, MAP_PRIVATE_ANONYMOUS, -1, 0);
         assert!(at as isize != -1, "no memory");
         let middle = at.cast::<u8>().add(PAGE);
-        assert_eq!(mprotect(middle.cast(), PAGE, PROT_READ_WRITE), 0, "no memory");
-        slice::from_raw_parts_mut(middle, PAGE)
+        assert_eq!(mprotect(middle.cast(), len, PROT_READ_WRITE), 0, "no memory");
+        slice::from_raw_parts_mut(middle, len)
     }
 }
 

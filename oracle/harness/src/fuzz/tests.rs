@@ -1,10 +1,12 @@
 //! What errs in a known way has to be found.
 
+mod file;
+
 use super::area::{Area, Place};
 use super::case::Round;
 use super::{host_calls, tell_of_crashes, Ask, Case, Found, Fuzzer};
 use crate::original;
-use mako_fristen_host::{Answer, Call, Date, Question, Reason};
+use mako_fristen_host::{ffi, Answer, Call, Date, Question, Reason};
 use std::hint::black_box;
 use std::io::ErrorKind;
 use std::os::unix::process::ExitStatusExt;
@@ -27,12 +29,12 @@ fn case(len: usize) -> Case {
 }
 
 fn round(place: Place, len: usize) -> Round {
-    Round { place, reason_place: place, content: vec![0x5a; len], guard: 0xa5 }
+    Round { place, read_place: place, content: vec![0x5a; len], guard: 0xa5 }
 }
 
 /// The faults of the case, one for each place.
 fn faults(ask: Ask, case: &Case) -> Vec<String> {
-    let mut fuzzer = Fuzzer::new(ask);
+    let mut fuzzer = Fuzzer::new(ask, ffi::mf_questions);
     // No call is put again for its time, which would be without guard bytes.
     fuzzer.found.slowest = Duration::MAX;
     let each = case.rounds.iter().filter_map(|round| fuzzer.round(case, round, None).0);
@@ -64,7 +66,7 @@ fn a_wrong_expectation_is_found() {
 #[test]
 fn an_unknown_panic_of_the_original_is_wrong() {
     let panic = original::caught(|| -> u8 { panic!("made up") }).expect_err("a panic");
-    let mut fuzzer = Fuzzer::new(host_calls);
+    let mut fuzzer = Fuzzer::new(host_calls, ffi::mf_questions);
     fuzzer.put(&Case { expected: Some(Err(panic)), ..case(32) }, 1, 2);
     let Found { wrong, told, shown, .. } = &fuzzer.found;
     assert_eq!((*wrong, *told), (1, 0), "{shown:?}");
@@ -82,7 +84,7 @@ fn an_answer_that_goes_by_what_stood_there_is_found() {
     assert_found(keeps_a_byte, 32, "expected");
     let mut case = Case { expected: None, ..case(32) };
     case.rounds[1].content[5] = 7;
-    let mut fuzzer = Fuzzer::new(keeps_a_byte);
+    let mut fuzzer = Fuzzer::new(keeps_a_byte, ffi::mf_questions);
     fuzzer.put(&case, 1, 2);
     assert_eq!((fuzzer.found.calls, fuzzer.found.wrong), (4, 1));
     assert!(fuzzer.found.shown[0].contains("oracle/fuzz --seed 1 --place 2"));
@@ -143,8 +145,8 @@ fn a_written_guard_byte_is_found() {
     let asks: [(Ask, &str); 4] = [
         (|q, r, a| (write_at(a, -1), host_calls(q, r, a)).1, "bytes beside the answer"),
         (|q, r, a| (write_at(a, 32), host_calls(q, r, a)).1, "bytes beside the answer"),
-        (|q, r, a| (write_at(r, -1), host_calls(q, r, a)).1, "the reason or bytes beside"),
-        (|q, r, a| (host_calls(q, r, a), write_at(r, 3)).0, "the reason or bytes beside"),
+        (|q, r, a| (write_at(r, -1), host_calls(q, r, a)).1, "what is read or bytes beside"),
+        (|q, r, a| (host_calls(q, r, a), write_at(r, 3)).0, "what is read or bytes beside"),
     ];
     for (ask, expected) in asks {
         let among = Case { rounds: vec![round(Place::Among(3), 32)], ..case(32) };
@@ -155,7 +157,7 @@ fn a_written_guard_byte_is_found() {
 
 #[test]
 fn a_written_reason_is_found() {
-    assert_found(|q, r, a| (host_calls(q, r, a), write_at(r, 2)).0, 32, "the reason or bytes");
+    assert_found(|q, r, a| (host_calls(q, r, a), write_at(r, 2)).0, 32, "what is read or bytes");
 }
 
 #[test]
@@ -228,12 +230,13 @@ fn a_touched_page_is_a_crash() {
     }
 }
 
+const VALGRIND: [&str; 3] = ["valgrind", "--quiet", "--error-exitcode=99"];
+
 /// Where valgrind is installed.
 #[test]
 fn memcheck_sees_bytes_outside_and_bytes_not_written() {
-    let valgrind = ["valgrind", "--quiet", "--error-exitcode=99"];
     for name in ["erring_on_the_heap", "erring_by_an_unwritten_byte", "erring_by_a_look"] {
-        if let Some(output) = run_erring(name, &valgrind) {
+        if let Some(output) = run_erring(name, &VALGRIND) {
             assert_eq!(output.status.code(), Some(99), "{name}");
         }
     }
@@ -242,7 +245,7 @@ fn memcheck_sees_bytes_outside_and_bytes_not_written() {
 /// Puts the case at the place, with this reason.
 fn put_one(ask: Ask, place: Place, len: usize, reason: &[u8]) -> Found {
     tell_of_crashes(5);
-    let mut fuzzer = Fuzzer::new(ask);
+    let mut fuzzer = Fuzzer::new(ask, ffi::mf_questions);
     let rounds = vec![round(place, len)];
     fuzzer.put(&Case { reason: reason.to_vec(), rounds, ..case(len) }, 5, 6);
     fuzzer.found

@@ -111,30 +111,20 @@ mod tests {
     use super::compared;
     use crate::original;
     use crate::progress::Progress;
-    use crate::records::{Record, LEN};
+    use crate::records::{self, LEN};
     use crate::rows::files::{self, AskFile, FileProbe, FileRow};
     use crate::run::{run, Put};
     use mako_fristen_host::{ffi, Answer};
 
-    /// Three CONTRL of 2 April 2026, each received a second after the other, and one that is refused.
-    fn questions() -> Vec<u8> {
-        let record = |seconds: i64| {
-            let mut record: Record = [0; LEN];
-            record[20..28].copy_from_slice(&seconds.to_le_bytes());
-            record
-        };
-        [1_775_080_800, 1_775_080_801, 1_775_080_802, 0].into_iter().flat_map(record).collect()
-    }
-
     fn row(ask: AskFile) -> FileRow {
-        let probe = |_| FileProbe { questions: questions(), len: 4 * LEN, fill: 0xa5 };
+        let probe = |_| FileProbe { questions: records::four(), len: 4 * LEN, fill: 0xa5 };
         let expected = original::expected_of_record;
         FileRow { what: "", len: 10, probe: Box::new(probe), ask, expected }
     }
 
     /// What is found if questions of so many bytes are put with so many for the answers.
     fn put(ask: AskFile, len: usize, answers: usize) -> Put {
-        let questions = questions()[..len].to_vec();
+        let questions = records::four()[..len].to_vec();
         compared(&row(ask), &FileProbe { questions, len: answers, fill: 0xa5 })
     }
 
