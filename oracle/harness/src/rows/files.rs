@@ -128,7 +128,8 @@ fn any_file(random: &mut Random) -> FileProbe {
 }
 
 /// How many records.
-pub(crate) fn any_len(random: &mut Random) -> u32 {
+#[must_use]
+pub fn any_len(random: &mut Random) -> u32 {
     let below = match random.below(64) {
         0 => 2049,
         1..8 => 129,
@@ -139,7 +140,8 @@ pub(crate) fn any_len(random: &mut Random) -> u32 {
 }
 
 /// Another length; most are near.
-pub(crate) fn other_len(len: usize, random: &mut Random) -> usize {
+#[must_use]
+pub fn other_len(len: usize, random: &mut Random) -> usize {
     let any = random.below(71) as usize;
     let near =
         [len + 1, len.saturating_sub(1), len + LEN, len.saturating_sub(LEN), 2 * len, 0, any];
@@ -152,9 +154,14 @@ pub(crate) fn other_len(len: usize, random: &mut Random) -> usize {
 }
 
 /// A question of every kind; one in 32 is none.
-pub(crate) fn any_record(random: &mut Random) -> Record {
+#[must_use]
+pub fn any_record(random: &mut Random) -> Record {
     let call = random.one_of(&OPERATIONS);
-    let mut record = written(&any::question(call, random), random);
+    let question = match random.below(8) {
+        0 if call == Call::FristDueAt => instants::same_day_by_a_switch(call, random),
+        _ => any::question(call, random),
+    };
+    let mut record = written(&question, random);
     if call == Call::FristDueAt && random.below(4) == 0 {
         record[8..12].copy_from_slice(&any_clock(random).to_le_bytes());
     }
@@ -167,7 +174,8 @@ pub(crate) fn any_record(random: &mut Random) -> Record {
 }
 
 /// With anything where the operation has no field, in two records of three.
-pub(crate) fn written(question: &Question, random: &mut Random) -> Record {
+#[must_use]
+pub fn written(question: &Question, random: &mut Random) -> Record {
     let unused = match random.below(3) {
         0 => [0; LEN],
         1 => [u8::MAX; LEN],
@@ -186,7 +194,8 @@ fn any_clock(random: &mut Random) -> u32 {
 }
 
 /// A record of every kind with one to three bits turned, unless the original would walk far for it.
-pub(crate) fn turned(random: &mut Random) -> Record {
+#[must_use]
+pub fn turned(random: &mut Random) -> Record {
     let record = any_record(random);
     let mut turned = record;
     for _ in 0..=random.below(3) {
@@ -200,7 +209,8 @@ pub(crate) fn turned(random: &mut Random) -> Record {
 }
 
 /// Any bytes; in half of the records those of a question in the first four places.
-pub(crate) fn any_bytes(random: &mut Random) -> Record {
+#[must_use]
+pub fn any_bytes(random: &mut Random) -> Record {
     let mut record = std::array::from_fn(|_| random.number() as u8);
     if random.below(2) == 0 {
         let operation = random.below(4);

@@ -139,7 +139,7 @@ pub(super) fn beginning_of(index: u32, call: Call, random: &mut Random) -> Quest
 }
 
 /// Received on the day of a switch, or in the hour after it.
-fn same_day_by_a_switch(call: Call, random: &mut Random) -> Question {
+pub(super) fn same_day_by_a_switch(call: Call, random: &mut Random) -> Question {
     const SAME_DAY_AT: u8 = 2;
     let by = (random.number() >> 1) as i64 % (24 * HOUR) - 2 * HOUR;
     let instant = moved(random.one_of(&SWITCHES), by);
