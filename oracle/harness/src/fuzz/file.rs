@@ -30,7 +30,9 @@ impl FileCase {
         let random = &mut Random::at(seed, ROW, place);
         let mut questions: Vec<u8> = (0..any_len(random)).flat_map(|_| any(random)).collect();
         if random.below(8) == 0 {
-            questions.resize(any_bytes_len(random), random.number() as u8);
+            let more: Vec<u8> = (0..32).flat_map(|_| any(random)).collect();
+            let len = any_bytes_len(random);
+            questions = questions.into_iter().chain(more.into_iter().cycle()).take(len).collect();
         }
         let expected = |record: &Record| {
             let told = !is_far_record(record) || random.below(SELDOM) == 0;
@@ -128,14 +130,13 @@ fn is_far_record(record: &Record) -> bool {
 
 /// Any number of bytes: few, about as many as a file may have, or any up to there.
 fn any_bytes_len(random: &mut Random) -> usize {
-    const MORE: u32 = 64;
-    let longest = LONGEST_FILE as u32;
-    let len = match random.below(4) {
-        0 => longest + random.below(MORE + 1),
-        1 => random.below(longest + 1),
-        _ => random.below(71),
-    };
-    len as usize
+    let by_the_longest = LONGEST_FILE + random.below(65) as usize;
+    match random.below(8) {
+        0 => by_the_longest,
+        1 => random.one_of(&[LONGEST_FILE - LEN, LONGEST_FILE, LONGEST_FILE + LEN]),
+        2 => random.below(LONGEST_FILE as u32 + 1) as usize,
+        _ => random.below(71) as usize,
+    }
 }
 
 impl fmt::Display for FileCase {

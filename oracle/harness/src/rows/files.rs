@@ -315,3 +315,82 @@ fn lengths(seed: u64) -> FileRow {
         FileProbe { questions, len, fill: FILL }
     })
 }
+
+#[cfg(test)]
+mod tests {
+    use super::{rows, FileProbe, FileRow};
+    use crate::original;
+    use crate::records::{self, Record, LEN};
+    use std::collections::HashSet;
+
+    /// How many files are looked at.
+    const LOOK: u64 = 2000;
+
+    fn row(what: &str) -> FileRow {
+        let found = rows(1, 100 * LOOK).into_iter().find(|row| row.what == what);
+        found.expect("a row")
+    }
+
+    fn probes(row: &FileRow) -> impl Iterator<Item = FileProbe> + '_ {
+        (0..row.len).map(|place| (row.probe)(place))
+    }
+
+    fn number(record: &Record) -> u8 {
+        original::expected_of_record(record).expect("no unknown panic").number()
+    }
+
+    #[test]
+    fn no_row_is_empty_and_places_do_not_depend_on_how_many_there_are() {
+        for (few, many) in rows(7, 1_000_000).iter().zip(&rows(7, 30_000_000)) {
+            assert!(few.len > 0, "{}", few.what);
+            let place = few.len.min(many.len) / 2;
+            let [few, many] = [few, many].map(|row| (row.probe)(place));
+            assert_eq!((few.questions, few.len), (many.questions, many.len));
+        }
+    }
+
+    #[test]
+    fn answers_and_refusals_of_every_operation_are_met() {
+        let mut met = HashSet::new();
+        let mut unused = [0; 4];
+        for probe in probes(&row("random, questions of every kind")) {
+            for record in records::each(&probe.questions) {
+                let operation = usize::from(record[0]);
+                met.insert((operation, number(record)));
+                let fields: &[u8] = match operation {
+                    0 => &record[4..20],
+                    1 => &record[12..20],
+                    2 => &record[20..],
+                    _ => &record[16..],
+                };
+                if operation < 4 && fields.iter().any(|&byte| byte != 0) {
+                    unused[operation] += 1;
+                }
+            }
+        }
+        let numbers: [&[u8]; 4] =
+            [&[0, 2, 4, 8], &[0, 2, 4, 5, 6, 8], &[0, 2, 3, 8], &[0, 2, 3, 8]];
+        for (operation, numbers) in numbers.into_iter().enumerate() {
+            let missed = numbers.iter().find(|&&number| !met.contains(&(operation, number)));
+            assert_eq!(missed, None, "of operation {operation}");
+        }
+        assert!((4..256).filter(|&operation| met.contains(&(operation, 2))).count() > 100);
+        assert!(unused.iter().all(|&records| records > 1000), "{unused:?}");
+    }
+
+    #[test]
+    fn files_of_every_length_are_met() {
+        let lens: HashSet<(usize, usize)> = probes(&row("lengths by 0 and by the longest"))
+            .map(|probe| (probe.questions.len(), probe.len))
+            .collect();
+        assert!((0..=130).all(|len| (0..=130).all(|answers| lens.contains(&(len, answers)))));
+        for len in 65_400..=65_700 {
+            let answers = [len, len - 1, len + 1, len - LEN, len + LEN];
+            assert!(answers.iter().all(|&answers| lens.contains(&(len, answers))), "{len}");
+        }
+        let any: Vec<FileProbe> = probes(&row("random, questions of every kind")).collect();
+        assert!(any.iter().any(|probe| probe.questions.len() > 60_000));
+        let refused = any.iter().filter(|p| records::is_refused(p.questions.len(), p.len)).count();
+        assert!((any.len() / 40..any.len() / 10).contains(&refused), "{refused}");
+    }
+}

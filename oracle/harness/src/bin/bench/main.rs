@@ -1,6 +1,8 @@
 //! Times the host calls beside the original, from one run: the median of several rounds, in which
 //! the two take turns. Ours is the C call with its answer of 32 bytes.
 
+mod files;
+
 use harness::random::Random;
 use harness::{days, instants, options};
 use mako_fristen::abmeldung::AbmeldungVorlauf;
@@ -360,16 +362,23 @@ fn median(mut times: Vec<f64>) -> f64 {
 
 /// Nanoseconds of one call, ours and the original's.
 fn measured(case: &Case) -> [f64; 2] {
-    let sides: [&dyn Fn(); 2] = [&|| ours(&case.inputs), &|| (case.original)(&case.inputs)];
+    let times = medians([&|| ours(&case.inputs), &|| (case.original)(&case.inputs)]);
+    times.map(|time| time / case.inputs.len() as f64)
+}
+
+/// Nanoseconds of one pass of each side. They take turns, and each first does as many passes that are
+/// not timed, since the processor still expects the branches of the other.
+fn medians<const N: usize>(sides: [&dyn Fn(); N]) -> [f64; N] {
     let passes = sides.map(passes_of);
-    let mut times = [Vec::new(), Vec::new()];
+    let mut times = [const { Vec::new() }; N];
     for round in 0..ROUNDS {
-        for turn in 0..2 {
-            let side = (round + turn) % 2;
+        for turn in 0..N {
+            let side = (round + turn) % N;
+            time_of(sides[side], passes[side]);
             times[side].push(time_of(sides[side], passes[side]));
         }
     }
-    times.map(|times| median(times) / case.inputs.len() as f64)
+    times.map(median)
 }
 
 /// The least that a call with an answer does: it tests the length and fills 32 bytes.
@@ -421,5 +430,6 @@ fn main() {
         let ratio = original / ours;
         println!("{name:36} {what:16} {ours:12.1} {original:12.1} {ratio:8.2}");
     }
+    files::print(&only);
     println!("{:53} {:12.1}", "a call that only fills 32 bytes", floor());
 }
