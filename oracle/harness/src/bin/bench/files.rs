@@ -39,30 +39,32 @@ impl Single {
 
     fn ask(self, answer: &mut [u8]) -> u8 {
         match self {
-            Single::Contrl(at, anlass) => {
-                ffi::mf_contrl_due_at(at.seconds, at.nanos, anlass, answer)
+            Single::Contrl(received, anlass) => {
+                ffi::mf_contrl_due_at(received.seconds, received.nanos, anlass, answer)
             }
-            Single::Due(shape, n, Clock { hour, minute, second, nanos }, at) => {
-                let (seconds, nanos_of_at) = (at.seconds, at.nanos);
-                ffi::mf_frist_due_at(
-                    shape,
-                    n,
-                    hour,
-                    minute,
-                    second,
-                    nanos,
-                    seconds,
-                    nanos_of_at,
-                    answer,
-                )
-            }
-            Single::Verdict(shape, n, n2, day, anchor) => {
-                let (year, month) = (anchor.year, anchor.month);
-                let to = anchor.day;
-                ffi::mf_vorlauf_check(
-                    shape, n, n2, day.year, day.month, day.day, year, month, to, answer,
-                )
-            }
+            Single::Due(shape, n, at, received) => ffi::mf_frist_due_at(
+                shape,
+                n,
+                at.hour,
+                at.minute,
+                at.second,
+                at.nanos,
+                received.seconds,
+                received.nanos,
+                answer,
+            ),
+            Single::Verdict(shape, n, n2, date, anchor) => ffi::mf_vorlauf_check(
+                shape,
+                n,
+                n2,
+                date.year,
+                date.month,
+                date.day,
+                anchor.year,
+                anchor.month,
+                anchor.day,
+                answer,
+            ),
             Single::Span(shape, n, n2, Date { year, month, day }) => {
                 ffi::mf_vorlauf_span(shape, n, n2, year, month, day, answer)
             }
@@ -98,38 +100,19 @@ impl Original {
     }
 }
 
-/// A question of the operation, received on a day of 2020 to 2030.
+/// A question of the operation, on a day of 2020 to 2030, with a shape and counts in use.
 fn question(operation: u32, random: &mut Random) -> (Question, Original) {
     let (first, end) = (first_of_january(2020), first_of_january(2031));
     let from = first + random.below(end - first);
     let day = days::day(from);
-    let at = mako_fristen::berlin_midnight(day) + Duration::seconds(random.below(86_400).into());
-    let instant = instants::to_host(at);
+    let received = Duration::seconds(random.below(86_400).into());
+    let received = mako_fristen::berlin_midnight(day) + received;
     let (_, ours, shape) = random.one_of(&SHAPES);
     match operation {
-        0 => {
-            use ContrlAnlass::{GasAlocat, Regelfall, StromUtilmdOderOrders};
-            let code = random.below(3) as u8;
-            let anlass = [Regelfall, StromUtilmdOderOrders, GasAlocat][usize::from(code)];
-            let question = Question::at(Call::ContrlDueAt, instant).with_code(code);
-            (question, Original::Contrl(at, anlass))
-        }
-        1 => {
-            let (code, werktage) = (random.below(4) as u8, 1 + random.below(5));
-            let hour = 8 + random.below(10) as u8;
-            let clock = Time::from_hms(hour, 0, 0).expect("a clock time");
-            let shape = match code {
-                0 => FristShape::WerktagAt { werktage, at: clock },
-                1 => FristShape::EndOfWerktag(werktage),
-                2 => FristShape::SameDayAt(clock),
-                _ => FristShape::SameDay,
-            };
-            let question = Question::at(Call::FristDueAt, instant).with_count(werktage);
-            let question = question.with_code(code).with_clock(Clock::new(hour, 0, 0, 0));
-            (question, Original::Due(shape, at))
-        }
+        0 => contrl(received, random),
+        1 => due(received, random),
         2 => {
-            let months = ours.code() >= 6;
+            let months = matches!(ours.code(), 6 | 7);
             let to = from + 1 + random.below(20) + if months { 90 } else { 0 };
             let question = Question::on(Call::VorlaufCheck, days::date(from)).with_shape(ours);
             let question = question.with_second(days::date(to));
@@ -142,42 +125,101 @@ fn question(operation: u32, random: &mut Random) -> (Question, Original) {
     }
 }
 
-/// Prints nanoseconds per question, of files of each length, of the single calls, and beside each the
+fn contrl(received: OffsetDateTime, random: &mut Random) -> (Question, Original) {
+    use ContrlAnlass::{GasAlocat, Regelfall, StromUtilmdOderOrders};
+    let code = random.below(3) as u8;
+    let anlass = [Regelfall, StromUtilmdOderOrders, GasAlocat][usize::from(code)];
+    let question = Question::at(Call::ContrlDueAt, instants::to_host(received)).with_code(code);
+    (question, Original::Contrl(received, anlass))
+}
+
+fn due(received: OffsetDateTime, random: &mut Random) -> (Question, Original) {
+    let (code, werktage) = (random.below(4) as u8, 1 + random.below(5));
+    let hour = 8 + random.below(10) as u8;
+    let at = Time::from_hms(hour, 0, 0).expect("a clock time");
+    let shape = match code {
+        0 => FristShape::WerktagAt { werktage, at },
+        1 => FristShape::EndOfWerktag(werktage),
+        2 => FristShape::SameDayAt(at),
+        _ => FristShape::SameDay,
+    };
+    let question = Question::at(Call::FristDueAt, instants::to_host(received));
+    let question =
+        question.with_code(code).with_count(werktage).with_clock(Clock::new(hour, 0, 0, 0));
+    (question, Original::Due(shape, received))
+}
+
+/// The same questions as each side takes them, and room for their answers.
+struct Day {
+    file: Vec<u8>,
+    singles: Vec<Single>,
+    originals: Vec<Original>,
+    answers: RefCell<Vec<u8>>,
+}
+
+impl Day {
+    fn new() -> Day {
+        let random = &mut Random::at(3, 0, 0);
+        let operations: Vec<(u32, u32)> =
+            (0..QUESTIONS as u32).map(|place| (place % 4, 0)).collect();
+        let questions = mixed(&operations).into_iter();
+        let (questions, originals): (Vec<Question>, Vec<Original>) =
+            questions.map(|(operation, _)| question(operation, random)).unzip();
+        let records = questions.iter().flat_map(|question| records::written(question, [0; LEN]));
+        let (file, singles): (Vec<u8>, _) =
+            (records.collect(), questions.iter().map(Single::of).collect());
+        let answers = RefCell::new(vec![0; file.len()]);
+        Day { file, singles, originals, answers }
+    }
+
+    /// Puts all in files of so many.
+    fn in_files(&self, questions: usize) {
+        let mut answers = self.answers.borrow_mut();
+        let len = questions * LEN;
+        for (questions, answers) in self.file.chunks(len).zip(answers.chunks_mut(len)) {
+            black_box(ffi::mf_questions(black_box(questions), black_box(answers)));
+        }
+    }
+
+    /// Puts each to its single call.
+    fn one_by_one(&self) {
+        let mut answers = self.answers.borrow_mut();
+        for (single, answer) in self.singles.iter().zip(answers.chunks_exact_mut(LEN)) {
+            black_box(black_box(*single).ask(black_box(answer)));
+        }
+    }
+
+    fn to_the_original(&self) {
+        self.originals.iter().for_each(|original| black_box(*original).ask());
+    }
+
+    /// Whether both ways lead to the same answers, and no question is refused.
+    fn is_sound(&self) -> bool {
+        self.in_files(QUESTIONS);
+        let of_a_file = self.answers.replace(vec![0; self.file.len()]);
+        self.one_by_one();
+        of_a_file == *self.answers.borrow()
+            && of_a_file.iter().step_by(LEN).all(|&number| number == 0)
+    }
+}
+
+/// Prints nanoseconds per question of files of each length and of the single calls, beside the
 /// original's.
 pub fn print(only: &str) {
-    let names = FILES.map(|records| (CALL, format!("{records} in a call")));
+    let files = FILES.map(|questions| (CALL, format!("{questions} in a call")));
     let singles = ("the single calls", String::from("the same"));
-    let names: Vec<(&str, String)> = names.into_iter().chain([singles]).collect();
+    let names: Vec<(&str, String)> = files.into_iter().chain([singles]).collect();
     if !names.iter().any(|(name, what)| format!("{name} {what}").contains(only)) {
         return;
     }
-    let random = &mut Random::at(3, 0, 0);
-    let operations: Vec<(u32, u32)> = (0..QUESTIONS as u32).map(|place| (place % 4, 0)).collect();
-    let questions = mixed(&operations).into_iter();
-    let (questions, originals): (Vec<Question>, Vec<Original>) =
-        questions.map(|(operation, _)| question(operation, random)).unzip();
-    let file: Vec<u8> =
-        questions.iter().flat_map(|question| records::written(question, [0; LEN])).collect();
-    let singles: Vec<Single> = questions.iter().map(Single::of).collect();
-    let answers = RefCell::new(vec![0; file.len()]);
-    let in_files = |records: usize| {
-        let mut answers = answers.borrow_mut();
-        let len = records * LEN;
-        for (questions, answers) in file.chunks(len).zip(answers.chunks_mut(len)) {
-            black_box(ffi::mf_questions(black_box(questions), black_box(answers)));
-        }
-    };
-    let one_by_one = || {
-        for (single, answer) in singles.iter().zip(answers.borrow_mut().chunks_exact_mut(LEN)) {
-            black_box(black_box(*single).ask(black_box(answer)));
-        }
-    };
+    let day = Day::new();
+    assert!(day.is_sound(), "a file and its single calls differ");
     let times = medians([
-        &|| in_files(FILES[0]),
-        &|| in_files(FILES[1]),
-        &|| in_files(FILES[2]),
-        &one_by_one,
-        &|| originals.iter().for_each(|original| black_box(*original).ask()),
+        &|| day.in_files(FILES[0]),
+        &|| day.in_files(FILES[1]),
+        &|| day.in_files(FILES[2]),
+        &|| day.one_by_one(),
+        &|| day.to_the_original(),
     ]);
     let [.., original] = times;
     for ((name, what), ours) in names.iter().zip(times) {
