@@ -1,6 +1,7 @@
 //! How far the original walks, from day to day, for its answer.
 
 use crate::days::{self, DAYS};
+use crate::instants;
 use crate::rows::any;
 use mako_fristen_host::{Call, Date, Instant, Parameter, Question};
 
@@ -18,7 +19,16 @@ pub fn is_far(question: &Question) -> bool {
     } else {
         0
     };
-    apart > FAR || any::steps(call) && steps(question) > FAR
+    !is_refused(question) && (apart > FAR || any::steps(call) && steps(question) > FAR)
+}
+
+/// Whether a date or an instant is refused, and so nothing walked.
+fn is_refused(question: &Question) -> bool {
+    let Question { call, date, date2, instant, instant2, .. } = *question;
+    call.takes(Parameter::Date) && days::given(date).is_err()
+        || call.takes(Parameter::SecondDate) && days::given(date2).is_err()
+        || call.takes(Parameter::Instant) && instants::given(instant).is_err()
+        || call.takes(Parameter::SecondInstant) && instants::given(instant2).is_err()
 }
 
 /// How many Werktage it walks at the most.
@@ -47,7 +57,7 @@ fn steps_of_shape(question: &Question) -> u32 {
     }
 }
 
-/// The index of the date; 0 if it is none, and nothing is walked.
+/// The index of the date; 0 if it is none.
 fn index(date: Date) -> u32 {
     days::given(date).map_or(0, days::index)
 }
