@@ -1,2 +1,3 @@
 pub mod Frage
 pub mod Fragen
+pub mod Inside

@@ -4,6 +4,8 @@ ghost use Prim.Native.Nat.{_<_};
 ghost use lib.ListN.{length, getD};
 ghost use Rattle.werktag.specs.Werktag.{isWerktag};
 ghost use Rattle.fristen.specs.Inside.{properDue};
+ghost use Rattle.berlin.specs.Berlin.{readInstant, readClock};
+ghost use Rattle.antwortsatz.specs.Bytes.{reply};
 ghost use Rattle.antworten.specs.Inside.{properReading, properClock};
 ghost use Rattle.antworten_frist.specs.Inside.{properShapeReading};
 ghost use Rattle.antworten_frist.specs.FristReading.{anlaesse, fristShapes, dueAnswer};
@@ -260,4 +262,46 @@ pub fn frist_due_at_answer(
         return antwortsatz::refused(NO_CLOCK);
     };
     due_answer(0, shape.due_at(received, cal))
+}
+
+// A single call and a file of questions ask the same. What they share reads the numbers and writes the 32 bytes too, so
+// that neither instant nor answer has to be handed on.
+
+/// Writes when a CONTRL is due: what `mf_contrl_due_at` does, and a question of a file. Regelfall received 31 March 2026
+/// 12:00:00 Berlin is due 2 April 00:00.
+pub fn contrl_due_at_reply(seconds: i64, nanos: u32, anlass: u8, answer: &mut [u8]) -> u8
+    ensures { λ r. ⌜
+        (r, now (answer .exit)) ≡ reply (now (answer .entry))
+        (contrlDueAtAnswer (readInstant seconds nanos) anlass)
+        ⌝ }
+{
+    let instant = berlin::read_instant(seconds, nanos);
+    let a = contrl_due_at_answer(instant, anlass);
+    antwortsatz::reply(answer, a)
+}
+
+/// Writes when an answer of a shape is due: what `mf_frist_due_at` does, and a question of a file. `SameDayAt` 12:00
+/// received 9 January 2026 12:00 is due 12 January 12:00.
+pub fn frist_due_at_reply(
+    shape: u8,
+    werktage: u32,
+    hour: u8,
+    minute: u8,
+    second: u8,
+    nanos_of_second: u32,
+    seconds: i64,
+    nanos: u32,
+    answer: &mut [u8],
+    cal: HolidayCalendar,
+) -> u8
+    ensures { λ r. ⌜
+        (r, now (answer .exit)) ≡ reply (now (answer .entry))
+        (fristDueAtAnswer (isWerktag cal) shape werktage (readClock hour minute second «nanos_of_second»)
+        (readInstant seconds nanos))
+        ⌝ }
+{
+    let clock = berlin::read_clock(hour, minute, second, nanos_of_second);
+    let instant = berlin::read_instant(seconds, nanos);
+    let a = frist_due_at_answer(shape, werktage, clock, instant, cal);
+    antwortsatz::reply(answer, a)
 }

@@ -9,6 +9,7 @@ ghost use Rattle.werktag.specs.Werktag.{isWerktag};
 ghost use Rattle.datum.specs.Monate.{M};
 ghost use Rattle.vorlauf.specs.Span.{spanFrom};
 ghost use Rattle.vorlauf.specs.Inside.{insideVerdict, insideSpan, insideAbmeldung};
+ghost use Rattle.antwortsatz.specs.Bytes.{reply};
 ghost use Rattle.antworten.specs.Inside.{properReading};
 ghost use Rattle.antworten_vorlauf.specs.VorlaufReading.{vorlaufShapes, eegMarks, verdictAnswer, abmeldungAnswer};
 ghost use Rattle.antworten_vorlauf.specs.VorlaufReading.{spanAnswer, caseCode, announcedAnswer};
@@ -315,4 +316,46 @@ pub fn eog_ankuendigung_fristgerecht_answer(
         return antwortsatz::refused(INSTANT_OUTSIDE);
     };
     announced_answer(ankuendigung::eog_ankuendigung_fristgerecht(uez, beginn, cal))
+}
+
+// A single call and a file of questions ask the same. What they share writes the 32 bytes too, so that no answer has to
+// be handed on.
+
+/// Writes the verdict of a shape on a transmission date and an anchor: what `mf_vorlauf_check` does, and a question of a
+/// file. `LatestWerktageBefore(1)` for 10 January 2026 against the 12th: TooLate, 0, the 12th.
+pub fn vorlauf_check_reply(
+    code: u8,
+    count: u32,
+    count2: u32,
+    first: Date,
+    second: Date,
+    answer: &mut [u8],
+    cal: HolidayCalendar,
+) -> u8
+    ensures { λ r. ⌜
+        (r, now (answer .exit)) ≡ reply (now (answer .entry))
+        (vorlaufCheckAnswer (isWerktag cal) code count count2 first second)
+        ⌝ }
+{
+    let a = vorlauf_check_answer(code, count, count2, first, second, cal);
+    antwortsatz::reply(answer, a)
+}
+
+/// Writes the anchors that a shape takes for a transmission date: what `mf_vorlauf_span` does, and a question of a file.
+/// `LatestWerktageBefore(1)` for 10 January 2026: from 13 January on.
+pub fn vorlauf_span_reply(
+    code: u8,
+    count: u32,
+    count2: u32,
+    date: Date,
+    answer: &mut [u8],
+    cal: HolidayCalendar,
+) -> u8
+    ensures { λ r. ⌜
+        (r, now (answer .exit)) ≡ reply (now (answer .entry))
+        (vorlaufSpanAnswer (isWerktag cal) code count count2 date)
+        ⌝ }
+{
+    let a = vorlauf_span_answer(code, count, count2, date, cal);
+    antwortsatz::reply(answer, a)
 }

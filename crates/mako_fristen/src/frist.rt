@@ -22,9 +22,7 @@ pub extern "C" fn mf_contrl_due_at(seconds: i64, nanos: u32, anlass: u8, answer:
         (contrlDueAtAnswer (readInstant seconds nanos) anlass)
         ⌝ }
 {
-    let instant = berlin::read_instant(seconds, nanos);
-    let a = antworten_frist::contrl_due_at_answer(instant, anlass);
-    antwortsatz::reply(answer, a)
+    antworten_frist::contrl_due_at_reply(seconds, nanos, anlass, answer)
 }
 
 /// When the Strom APERAK on a UTILMD or ORDERS is due: 45 minutes after its receipt; "Saturday gives Sunday 12:00".
@@ -247,14 +245,16 @@ pub extern "C" fn mf_frist_due_at(
         (readInstant seconds nanos))
         ⌝ }
 {
-    let clock = berlin::read_clock(hour, minute, second, nanos_of_second);
-    let instant = berlin::read_instant(seconds, nanos);
-    let a = antworten_frist::frist_due_at_answer(
+    antworten_frist::frist_due_at_reply(
         shape,
         werktage,
-        clock,
-        instant,
+        hour,
+        minute,
+        second,
+        nanos_of_second,
+        seconds,
+        nanos,
+        answer,
         HolidayCalendar::BdewMaKo,
-    );
-    antwortsatz::reply(answer, a)
+    )
 }

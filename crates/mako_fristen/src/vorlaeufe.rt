@@ -40,15 +40,15 @@ pub extern "C" fn mf_vorlauf_check(
         month: month2,
         day: day2,
     };
-    let a = antworten_vorlauf::vorlauf_check_answer(
+    antworten_vorlauf::vorlauf_check_reply(
         shape,
         count,
         count2,
         first,
         second,
+        answer,
         HolidayCalendar::BdewMaKo,
-    );
-    antwortsatz::reply(answer, a)
+    )
 }
 
 /// The same for a transmission instant and an anchor given as a day's beginning: "4 for either, 7 for the anchor, 8".
@@ -105,14 +105,14 @@ pub extern "C" fn mf_vorlauf_span(
         ⌝ }
 {
     let date = Date { year, month, day };
-    let a = antworten_vorlauf::vorlauf_span_answer(
+    antworten_vorlauf::vorlauf_span_reply(
         shape,
         count,
         count2,
         date,
+        answer,
         HolidayCalendar::BdewMaKo,
-    );
-    antwortsatz::reply(answer, a)
+    )
 }
 
 /// The case of a deregistration: "only the three bytes "ZQ7" are the deactivation reason; "zq7", "ZQ7 " and an empty

@@ -46,23 +46,20 @@ part-question-of-end c = search (needs, file-rules)
 question-of-requires : tie.Need-question-of-requires Inv-loop μ-loop
 question-of-requires c κs = search (needs, file-rules)
 
-question-answer-requires : tie.Need-question-answer-requires Inv-loop μ-loop
-question-answer-requires c κs = search (needs, file-rules)
+add-question-reply : tie.Need-add-question-reply Inv-loop μ-loop
+add-question-reply c = search (needs, file-rules)
 
-add-reply : tie.Need-add-reply Inv-loop μ-loop
-add-reply c = search (needs, file-rules)
+sub-question-reply : tie.Need-sub-question-reply Inv-loop μ-loop
+sub-question-reply c = search (needs, file-rules)
 
-sub-reply : tie.Need-sub-reply Inv-loop μ-loop
-sub-reply c = search (needs, file-rules)
+part-question-reply-start : tie.Need-part-question-reply-start Inv-loop μ-loop
+part-question-reply-start c = search (needs, file-rules)
 
-part-reply-start : tie.Need-part-reply-start Inv-loop μ-loop
-part-reply-start c = search (needs, file-rules)
+part-question-reply-end : tie.Need-part-question-reply-end Inv-loop μ-loop
+part-question-reply-end c = search (needs, file-rules)
 
-part-reply-end : tie.Need-part-reply-end Inv-loop μ-loop
-part-reply-end c = search (needs, file-rules)
-
-reply-requires : tie.Need-reply-requires Inv-loop μ-loop
-reply-requires c κs = search (needs, file-rules)
+question-reply-requires : tie.Need-question-reply-requires Inv-loop μ-loop
+question-reply-requires c κs = search (needs, file-rules)
 
 add-at : tie.Need-add-at Inv-loop μ-loop
 add-at c = search (needs, file-rules)
@@ -73,13 +70,11 @@ loop-less c = search (needs, file-rules)
 loop-again : tie.Need-loop-again Inv-loop μ-loop
 loop-again c =
     let r = c .before .before in
-    let x = r .before .before in
-    let q = x .before in
+    let q = r .before .before in
     let t = q .before .before in
     let i = t .before .loop .inv in (
-      one-more _ _ _ _ _ _ _ _
-          (i .1 ∙ i .2) (i .3) (i .4) (t .loop-test .taken) (q .question-of .ensures) (x .question-answer .ensures)
-          (r .reply .ensures) (i .0),
+      one-more _ _ _ _ _ _ _
+          (i .1 ∙ i .2) (i .3) (i .4) (t .loop-test .taken) (q .question-of .ensures) (r .question-reply .ensures) (i .0),
       search needs,
       search needs,
       search needs,
@@ -110,12 +105,11 @@ questions-reply-spec =
     part-question-of-start
     part-question-of-end
     question-of-requires
-    question-answer-requires
-    add-reply
-    sub-reply
-    part-reply-start
-    part-reply-end
-    reply-requires
+    add-question-reply
+    sub-question-reply
+    part-question-reply-start
+    part-question-reply-end
+    question-reply-requires
     add-at
     loop-less
     loop-again

@@ -1,44 +1,20 @@
--- `mako_fristen::frist::mf_frist_due_at` meets its contract: its answer is what the definition gives, and `reply`
--- writes it.
+-- `mako_fristen::frist::mf_frist_due_at` meets its contract: it asks for the same, with the seconds as they were given.
 -- Assumes nothing.
-use Rattle.antwortsatz.proofs.Rules.{call-rules}
-use Rattle.antworten.proofs.Rules.{read-rules, read-same}
+use mir.Facts.{toZ-ofZ}
 use borrow.Author.Needs.{needs}
 use Rattle.mako_fristen.proofs.frist.mf_frist_due_at.Statement.{statement}
 use Rattle.mako_fristen.proofs.frist.mf_frist_due_at.Tie as tie
 
-read-clock-requires : tie.Need-read-clock-requires
-read-clock-requires c κs = search needs
-
-read-instant-requires : tie.Need-read-instant-requires
-read-instant-requires c κs = search needs
-
-frist-due-at-answer-requires : tie.Need-frist-due-at-answer-requires
-frist-due-at-answer-requires c κs = search (needs, read-rules)
-
-reply-requires : tie.Need-reply-requires
-reply-requires c κs = search needs
+frist-due-at-reply-requires : tie.Need-frist-due-at-reply-requires
+frist-due-at-reply-requires c κs = search needs
 
 same-length : tie.Need-same-length
 same-length c = search needs
 
 returns : tie.Need-returns
 returns c =
-    let a = c .before .before .before .before .before .before .before .before in
     let s = c .before .before .before .before .before in
-    rw (
-      read-same _ _ _ (a .fits .seconds) (s .read-instant .ensures),
-      ← c .before .before .before .before .before .before .read-clock .ensures,
-    )
-    (search (needs, call-rules))
+    rw (toZ-ofZ (s .fits .seconds)) at (c .before .before .frist-due-at-reply .ensures)
 
 pub mf-frist-due-at-spec : {M : Type 1} → statement M
-mf-frist-due-at-spec =
-    tie.close
-    (tie.spec
-    read-clock-requires
-    read-instant-requires
-    frist-due-at-answer-requires
-    reply-requires
-    same-length
-    returns)
+mf-frist-due-at-spec = tie.close (tie.spec frist-due-at-reply-requires same-length returns)

@@ -1,10 +1,10 @@
--- `mako_fristen::vorlaeufe::mf_vorlauf_check` meets its contract: its answer is what the definition gives, and `reply`
+-- `antworten_vorlauf::vorlauf_check_reply` meets its contract: its answer is what the definition gives, and `reply`
 -- writes it.
 -- Assumes nothing.
 use Rattle.antwortsatz.proofs.Rules.{call-rules}
 use borrow.Author.Needs.{needs}
-use Rattle.mako_fristen.proofs.vorlaeufe.mf_vorlauf_check.Statement.{statement}
-use Rattle.mako_fristen.proofs.vorlaeufe.mf_vorlauf_check.Tie as tie
+use Rattle.antworten_vorlauf.proofs.vorlauf_check_reply.Statement.{statement}
+use Rattle.antworten_vorlauf.proofs.vorlauf_check_reply.Tie as tie
 
 vorlauf-check-answer-requires : tie.Need-vorlauf-check-answer-requires
 vorlauf-check-answer-requires c κs = search needs
@@ -18,6 +18,6 @@ same-length c = search needs
 returns : tie.Need-returns
 returns c = search (needs, call-rules)
 
-pub mf-vorlauf-check-spec : {M : Type 1} → statement M
-mf-vorlauf-check-spec =
+pub vorlauf-check-reply-spec : {M : Type 1} → statement M
+vorlauf-check-reply-spec =
     tie.close (tie.spec vorlauf-check-answer-requires reply-requires same-length returns)

@@ -1,0 +1,44 @@
+-- `antworten_frist::frist_due_at_reply` meets its contract: its answer is what the definition gives, and `reply`
+-- writes it.
+-- Assumes nothing.
+use Rattle.antwortsatz.proofs.Rules.{call-rules}
+use Rattle.antworten.proofs.Rules.{read-rules, read-same}
+use borrow.Author.Needs.{needs}
+use Rattle.antworten_frist.proofs.frist_due_at_reply.Statement.{statement}
+use Rattle.antworten_frist.proofs.frist_due_at_reply.Tie as tie
+
+read-clock-requires : tie.Need-read-clock-requires
+read-clock-requires c κs = search needs
+
+read-instant-requires : tie.Need-read-instant-requires
+read-instant-requires c κs = search needs
+
+frist-due-at-answer-requires : tie.Need-frist-due-at-answer-requires
+frist-due-at-answer-requires c κs = search (needs, read-rules)
+
+reply-requires : tie.Need-reply-requires
+reply-requires c κs = search needs
+
+same-length : tie.Need-same-length
+same-length c = search needs
+
+returns : tie.Need-returns
+returns c =
+    let a = c .before .before .before .before .before .before .before .before in
+    let s = c .before .before .before .before .before in
+    rw (
+      read-same _ _ _ (a .fits .seconds) (s .read-instant .ensures),
+      ← c .before .before .before .before .before .before .read-clock .ensures,
+    )
+    (search (needs, call-rules))
+
+pub frist-due-at-reply-spec : {M : Type 1} → statement M
+frist-due-at-reply-spec =
+    tie.close
+    (tie.spec
+    read-clock-requires
+    read-instant-requires
+    frist-due-at-answer-requires
+    reply-requires
+    same-length
+    returns)
