@@ -21,7 +21,8 @@ use werktag::HolidayCalendar;
 /// The first hour that no clock shows.
 const NO_HOUR: u8 = 24;
 
-/// The hour of a clock "in whole seconds": of 46,800 it is 13. From 86,400 on there is none, and so no clock: refusal 5.
+/// The hour of a clock "in whole seconds": of 46,800 it is 13. From 86,400 on there is none, and so no clock: refusal
+/// 5.
 fn hour_of(seconds: u32) -> u8
     ensures { λ r. ⌜ r ≡ hourOf seconds ⌝ }
 {

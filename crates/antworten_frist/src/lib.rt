@@ -267,8 +267,8 @@ pub fn frist_due_at_answer(
 // A single call and a file of questions ask the same. What they share reads the numbers and writes the 32 bytes too, so
 // that neither instant nor answer has to be handed on.
 
-/// Writes when a CONTRL is due: what `mf_contrl_due_at` does, and a question of a file. Regelfall received 31 March 2026
-/// 12:00:00 Berlin is due 2 April 00:00.
+/// Writes when a CONTRL is due: what `mf_contrl_due_at` does, and a question of a file. Regelfall received 31 March
+/// 2026 12:00:00 Berlin is due 2 April 00:00.
 pub fn contrl_due_at_reply(seconds: i64, nanos: u32, anlass: u8, answer: &mut [u8]) -> u8
     ensures { λ r. ⌜
         (r, now (answer .exit)) ≡ reply (now (answer .entry))

@@ -321,8 +321,8 @@ pub fn eog_ankuendigung_fristgerecht_answer(
 // A single call and a file of questions ask the same. What they share writes the 32 bytes too, so that no answer has to
 // be handed on.
 
-/// Writes the verdict of a shape on a transmission date and an anchor: what `mf_vorlauf_check` does, and a question of a
-/// file. `LatestWerktageBefore(1)` for 10 January 2026 against the 12th: TooLate, 0, the 12th.
+/// Writes the verdict of a shape on a transmission date and an anchor: what `mf_vorlauf_check` does, and a question of
+/// a file. `LatestWerktageBefore(1)` for 10 January 2026 against the 12th: TooLate, 0, the 12th.
 pub fn vorlauf_check_reply(
     code: u8,
     count: u32,
@@ -341,8 +341,8 @@ pub fn vorlauf_check_reply(
     antwortsatz::reply(answer, a)
 }
 
-/// Writes the anchors that a shape takes for a transmission date: what `mf_vorlauf_span` does, and a question of a file.
-/// `LatestWerktageBefore(1)` for 10 January 2026: from 13 January on.
+/// Writes the anchors that a shape takes for a transmission date: what `mf_vorlauf_span` does, and a question of a
+/// file. `LatestWerktageBefore(1)` for 10 January 2026: from 13 January on.
 pub fn vorlauf_span_reply(
     code: u8,
     count: u32,

@@ -74,7 +74,8 @@ loop-again c =
     let t = q .before .before in
     let i = t .before .loop .inv in (
       one-more _ _ _ _ _ _ _
-          (i .1 ∙ i .2) (i .3) (i .4) (t .loop-test .taken) (q .question-of .ensures) (r .question-reply .ensures) (i .0),
+          (i .1 ∙ i .2) (i .3) (i .4) (t .loop-test .taken) (q .question-of .ensures)
+          (r .question-reply .ensures) (i .0),
       search needs,
       search needs,
       search needs,
