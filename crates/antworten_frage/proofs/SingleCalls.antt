@@ -3,7 +3,9 @@
 --   Stands l m i q   the questions l and the answers m are a file, whose record number i, counted from 0, is that of q
 --   Gets w l m i a   record number i of the answers is what a call with the answer a leaves in a slice of 32 bytes
 -- A record's fields are what the call's parameters can be, which `Fits` says. What the operation does not use may be
--- anything: the counts and dates of a CONTRL, the dates of a due shape, the anchor of a span, the instant of both.
+-- anything: the counts and dates of a CONTRL, the dates of a due shape, the anchor of a span, the instant of a verdict
+-- and of a span. So may what its shape does not use: `EndOfWerktag` (code 1) and `SameDay` (code 3) have no clock, and
+-- their second count is none that is looked at.
 -- Assumes nothing.
 use Prim.Native.Nat.{ℕ, _*_, _/_, _<_}
 use mathlib.Core.Bool.{Bool, true}
@@ -69,3 +71,18 @@ module _ (w : ℕ → Bool) (l m : List ℕ) (i c n k : ℕ) (d e : Date) (z : �
       Gets w l m i (vorlaufSpanAnswer w c n k d)
   unfolding questionAnswer spanQuestionAnswer onCode
   span-call f p = record-gets w l m i _ _ f refl (p .file) (p .inside) (p .bytes)
+
+module _ (w : ℕ → Bool) (l m : List ℕ) (i n k : ℕ) (d e : Date) (z : ℤ) (x : ℕ) (t : ClockReading) where
+  -- mf_frist_due_at of `EndOfWerktag` with any clock t, whatever the record has for one
+  pub end-of-werktag-call :
+      Fits (asked 1 1 n k d e z x) → Stands l m i (asked 1 1 n k d e z x) →
+      Gets w l m i (fristDueAtAnswer w 1 n t (readInstant z x))
+  unfolding questionAnswer fristQuestionAnswer fristDueAtAnswer onCode
+  end-of-werktag-call f p = record-gets w l m i _ _ f refl (p .file) (p .inside) (p .bytes)
+
+  -- mf_frist_due_at of `SameDay` with any count o and clock t
+  pub same-day-call :
+      (o : ℕ) → Fits (asked 1 3 n k d e z x) → Stands l m i (asked 1 3 n k d e z x) →
+      Gets w l m i (fristDueAtAnswer w 3 o t (readInstant z x))
+  unfolding questionAnswer fristQuestionAnswer fristDueAtAnswer onCode
+  same-day-call o f p = record-gets w l m i _ _ f refl (p .file) (p .inside) (p .bytes)
