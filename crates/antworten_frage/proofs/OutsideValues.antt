@@ -32,9 +32,6 @@ use Rattle.antworten_frage.specs.Frage.{clockOfSeconds, contrlQuestionAn
 use Rattle.antworten_frage.specs.Frage.{checkQuestionAnswer, spanQuestionAnswer, questionAnswer}
 use Rattle.antworten_frage.specs.Fragen.{answersTo, questionsReply}
 
-abbrev reply : List ℕ → List ℕ → ℕ × List ℕ
-reply = questionsReply (isWerktag BdewMaKo)
-
 abbrev questions : List ℕ
 questions =
     0 ∷ 0 ∷ 0 ∷ 0 ∷ 0 ∷ 0 ∷ 0 ∷ 0 ∷ 0 ∷ 0 ∷ 0 ∷ 0 ∷ 0 ∷ 0 ∷ 0 ∷ 0 ∷
@@ -72,7 +69,7 @@ answers =
     []
 
 -- what the answers held before does not matter, and here they held the questions
-pub cases : reply questions questions ≡ (0, answers)
+pub cases : questionsReply (isWerktag BdewMaKo) questions questions ≡ (0, answers)
 unfolding start at isLeap daysInMonth yearLen isDate indexOf dateIn dateOf floorDiv floorMod
     inMonth onMonth addMonths subtractMonths monthsLater monthsEarlier M
     dayAfter up down past first among add sub next W between

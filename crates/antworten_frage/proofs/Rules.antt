@@ -122,10 +122,10 @@ replied l p x r n e = ap (λ (z : ℕ × List ℕ). z .1) (e ∙ reply-whole l x
 
 -- what stands up to the end of a part that was put back: what stood before it, and the part
 up-to-part :
-    (m p : List ℕ) (a k : ℕ) → a ≤ length m → length p ≡ 32 → take (a + 32) (putMid a k m p) ≡ take a m ++ p
-up-to-part m p a k h n =
+    (m p : List ℕ) (a k n : ℕ) → a ≤ length m → length p ≡ n → take (a + n) (putMid a k m p) ≡ take a m ++ p
+up-to-part m p a k n h e =
     rw (← append-assoc (take a m) p (postOf a k m))
-    (take-at (take a m ++ p) (postOf a k m) (a + 32) (simp (length-append, length-take-le a m h) (omega arith)))
+    (take-at (take a m ++ p) (postOf a k m) (a + n) (simp (length-append, length-take-le a m h) (omega arith)))
 
 -- a bytes of the file l are answered, and m is what the answers hold
 abbrev pub Answered : (ℕ → Bool) → List ℕ → List ℕ → ℕ → Type 0
@@ -157,7 +157,7 @@ module _ (w : ℕ → Bool) (l m : List ℕ) where
       replied (take 32 (drop a m)) p (questionAnswer w q) r n (rw s at o)
       ∙ ap (λ (z : Question). bytesOf (questionAnswer w z)) (rw s at i) in
       let c : (length l - a) / 32 ≡ suc ((length l - (a + 32)) / 32) = omega arith in
-      rw (up-to-part m p a (a + 32 - a) (omega arith) (ap length y ∙ bytes-length _), y)
+      rw (up-to-part m p a (a + 32 - a) 32 (omega arith) (ap length y ∙ bytes-length _), y)
       (append-assoc (take a m) _ _ ∙ (rw (c, drop-drop 32 a l) at e))
 
 -- b is what `is_file` returned for the two lengths
