@@ -12,7 +12,7 @@ use mir.Val.{SFits}
 use mir.Facts.{toZ-ofZ}
 use Rattle.zaehlung.specs.declared.Step.{Step}
 use Rattle.zaehlung.specs.declared.Step.the-variants.{Day, Outside}
-use Rattle.zaehlung.specs.Walk.{bit, last, add, sub, next}
+use Rattle.zaehlung.specs.Walk.{last, add, sub, next}
 use Rattle.zaehlung.proofs.Laws.{add-inside, sub-inside, next-inside}
 use Rattle.datum.specs.declared.Date.{Date}
 use Rattle.datum.specs.declared.Index.{Index}
@@ -39,8 +39,6 @@ use Rattle.berlin.specs.Berlin.{tagesbeginnUtc, tagDesBeginns}
 use Rattle.berlin.proofs.Proper.{read-proper, clock-proper as read-clock-proper, at-proper, midnight-proper, end-proper}
 use Rattle.berlin.proofs.Proper.{begin-proper, beginn-le}
 use Rattle.datum.proofs.Signed.{back, back-pos}
-use Rattle.werktag.specs.declared.HolidayCalendar.{HolidayCalendar}
-use Rattle.werktag.specs.Werktag.{isWerktag}
 use Rattle.antwortsatz.specs.declared.Answer.{Answer}
 use Rattle.antwortsatz.specs.Refusals.{noDate, instantOutside, noClock, localTimeAbsent, noBeginning, leavesCalendar}
 use Rattle.antwortsatz.specs.Answers.{refused, ofKind, counted, dated, atInstant}
@@ -79,13 +77,9 @@ module _ (d : Date) (b : Bool) (g : b ≡ isDate d) where
 
 pub ruleset date-rules = (date-none, date-given, date-valid, date-month)
 
--- is_werktag_answer: b is what `is_werktag` returned
-module _ (cal : HolidayCalendar) (i : ℕ) (b : Bool) (r : Answer) (e : b ≡ isWerktag cal i) where
-  pub open-kind : b ≡ true → r ≡ ofKind 1 → r ≡ ofKind (bit (isWerktag cal i))
-  open-kind t p = rw (sym e ∙ t) p
-
-  pub shut-kind : b ≡ false → r ≡ ofKind 0 → r ≡ ofKind (bit (isWerktag cal i))
-  shut-kind t p = rw (sym e ∙ t) p
+-- is_werktag_answer: k is what `werktag::reason` returned, and x what it promises
+pub reason-kind : (k x : ℕ) (r : Answer) → k ≡ x → r ≡ ofKind k → r ≡ ofKind x
+reason-kind k x r e p = rw (← e) p
 
 -- a step s that its function returned
 made-inside : (s : Step) → ((e : ℕ) → s ≡ Day e → e ≤ last) → inside s
@@ -133,8 +127,7 @@ pub ruleset answer-rules = (
   date-refused,
   date-taken,
   day-inside,
-  open-kind,
-  shut-kind,
+  reason-kind,
   add-in,
   sub-in,
   next-in,

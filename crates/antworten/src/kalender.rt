@@ -1,6 +1,7 @@
 // Calendar steps and counts: document 01, refusals 3 and 8.
 ghost use mathlib.Core.Path.{_≡_};
 ghost use Rattle.werktag.specs.Werktag.{isWerktag};
+ghost use Rattle.werktag.specs.Reason.{reason};
 ghost use Rattle.antworten.specs.Inside.{inside};
 ghost use Rattle.antworten.specs.Reading.{stepAnswer, shiftAnswer};
 ghost use Rattle.antworten.specs.Kalender.{isWerktagAnswer, nextWerktagAnswer, addWerktageAnswer};
@@ -36,18 +37,15 @@ fn shift_answer(shifted: Shifted) -> Answer
     }
 }
 
-/// "A day test has kind 1 for a Werktag, else 0." Refusal 3 for no date of the range: 2 April 2026, a Thursday, has
-/// kind 1, 3 April, Karfreitag, kind 0, and 31 April is refused.
+/// The reason of a date as kind: "0 Werktag, 1 Saturday, 2 Sunday, 3 to 22 the holidays". Refusal 3 for no date of the
+/// range: 2 April 2026, a Thursday, has kind 0, 3 April, Karfreitag, kind 17, and 31 April is refused.
 pub fn is_werktag_answer(date: Date, cal: HolidayCalendar) -> Answer
-    ensures { λ r. ⌜ r ≡ isWerktagAnswer (isWerktag cal) date ⌝ }
+    ensures { λ r. ⌜ r ≡ isWerktagAnswer (reason cal) date ⌝ }
 {
     let Index::Day(day) = datum::index_of(date) else {
         return antwortsatz::refused(NO_DATE);
     };
-    if werktag::is_werktag(day, cal) {
-        return antwortsatz::of_kind(1);
-    }
-    antwortsatz::of_kind(0)
+    antwortsatz::of_kind(werktag::reason(day, cal))
 }
 
 /// The first Werktag on or after a date: 3 April 2026 gives 7 April, the Tuesday after Ostern, and 7 April itself. From

@@ -12,7 +12,7 @@ use Rattle.datum.specs.Monate.{monthsLater, monthsEarlier, M}
 use Rattle.datum.specs.Floor.{floorDiv, floorMod}
 use Rattle.werktag.specs.declared.HolidayCalendar.the-variants.{BdewMaKo}
 use Rattle.werktag.specs.Easter.{easterSunday, easterIndex}
-use Rattle.werktag.specs.Werktag.{any, isFixed, isBussUndBettag, isEasterFeast, isBdewMakoHoliday, isWerktag}
+use Rattle.werktag.specs.Werktag.{any, isFixed, isBussUndBettag, isEasterFeast, isWerktag}
 use Rattle.berlin.specs.Berlin.{isBefore, inLimits, readInstant, lastSunday, yearAt, offsetAt, berlinAt}
 use Rattle.berlin.specs.Berlin.{berlinMidnight}
 use Rattle.fristen.specs.Fristen.{instantLater, contrlSeconds, inWindow, toleranzIn, formatumstellungToleranz}
@@ -73,7 +73,7 @@ pub cases : questionsReply (isWerktag BdewMaKo) questions questions ≡ (0, answ
 unfolding start at isLeap daysInMonth yearLen isDate indexOf dateIn dateOf floorDiv floorMod
     inMonth onMonth addMonths subtractMonths monthsLater monthsEarlier M
     dayAfter up down past first among add sub next W between
-    easterSunday easterIndex any isFixed isBussUndBettag isEasterFeast isBdewMakoHoliday isWerktag
+    easterSunday easterIndex any isFixed isBussUndBettag isEasterFeast isWerktag
     isBefore inLimits readInstant lastSunday yearAt offsetAt berlinAt berlinMidnight
     instantLater contrlSeconds inWindow toleranzIn formatumstellungToleranz contrlDueAt nthWerktagAt
     sameDayAt dueAtOf closes reaches checkOf spanOf bitsIn signedIn

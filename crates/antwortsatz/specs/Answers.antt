@@ -4,7 +4,7 @@
 --   zeroDate          = the date of a field that is not used
 --   dateWord d        = the date d as a word: year, month, day from the lowest byte up
 --   refused x         = refusal x, all else zero: 'A refusal leaves bytes 1 to 31 zero'
---   ofKind k          = kind k alone: 'a day test has kind 1 for a Werktag, else 0'
+--   ofKind k          = kind k alone: 'a deregistration reason [has] the code of its case'
 --   counted n         = count n alone: 'a count [fills] the count'
 --   dated d           = date d alone: 'A step fills the date'
 --   atInstant k s x = seconds s and nanoseconds x beside kind k: 'a Gas due instant [has] kind 1 for the initial

@@ -15,7 +15,8 @@ use Rattle.datum.specs.MonthShift.{inMonth, onMonth, addMonths, subtractMonths}
 use Rattle.datum.specs.Monate.{monthsLater, monthsEarlier, M}
 use Rattle.werktag.specs.declared.HolidayCalendar.the-variants.{BdewMaKo}
 use Rattle.werktag.specs.Easter.{easterSunday, easterIndex}
-use Rattle.werktag.specs.Werktag.{any, isFixed, isBussUndBettag, isEasterFeast, isBdewMakoHoliday, isWerktag}
+use Rattle.werktag.specs.Werktag.{any, isFixed, isBussUndBettag, isEasterFeast, isWerktag}
+use Rattle.werktag.specs.Reason.{placeFrom, reason}
 use Rattle.berlin.specs.Berlin.{isBefore, inLimits, readInstant, readClock, lastSunday, yearAt, offsetAt, berlinAt}
 use Rattle.berlin.specs.Berlin.{berlinMidnight, endOfDayBerlin, tagesbeginnUtc}
 use Rattle.fristen.specs.Fristen.{instantLater, contrlSeconds, inWindow, toleranzIn, formatumstellungToleranz}
@@ -41,7 +42,7 @@ on m d = record { year = 2026; month = m; day = d }
 pub cases :
     _≡_ {A = Date × List Answer} (
       easterSunday 2026,
-      isWerktagAnswer w (on 11 18)
+      isWerktagAnswer (reason BdewMaKo) (on 11 18)
           ∷ addWerktageAnswer w (on 4 2) 1
           ∷ addWerktageAnswer w (on 4 4) 0
           ∷ vorlaufCheckAnswer w 0 1 0 (on 1 10) (on 1 12)
@@ -60,7 +61,7 @@ pub cases :
           ∷ [],
     ) (
       on 4 5,
-      ofKind 0
+      ofKind 16
           ∷ dated (on 4 7)
           ∷ dated (on 4 4)
           ∷ judged 1 0 (on 1 12)
@@ -81,7 +82,7 @@ pub cases :
 unfolding start at isLeap daysInMonth yearLen isDate indexOf dateIn dateOf floorDiv floorMod
     inMonth onMonth addMonths subtractMonths monthsLater monthsEarlier M
     dayAfter up down past first among add sub next W between
-    easterSunday easterIndex any isFixed isBussUndBettag isEasterFeast isBdewMakoHoliday isWerktag
+    easterSunday easterIndex any isFixed isBussUndBettag isEasterFeast isWerktag placeFrom reason
     isBefore inLimits readInstant readClock lastSunday yearAt offsetAt berlinAt
     berlinMidnight endOfDayBerlin tagesbeginnUtc
     instantLater contrlSeconds inWindow toleranzIn formatumstellungToleranz contrlDueAt nthWerktagAt

@@ -41,6 +41,9 @@ const REGELFALL: u8 = 0;
 
 const GAS: u8 = 1;
 
+// Its reason: the fourteenth holiday of the list, which begins with 3.
+const BUSS_UND_BETTAG: u8 = 16;
+
 fn on(month: u8, day: u8) -> Date {
     Date {
         year: 2026,
@@ -64,13 +67,13 @@ fn case_a() -> bool {
     easter.day == 5
 }
 
-// 18 November is no Werktag.
+// 18 November is no Werktag: Buß- und Bettag.
 fn case_b() -> bool {
     let mut left = [1u8; 32];
     if mako_fristen::mf_is_werktag(2026, 11, 18, &mut left) != 0 {
         return false;
     }
-    is_answer(&left, antwortsatz::of_kind(0))
+    is_answer(&left, antwortsatz::of_kind(BUSS_UND_BETTAG))
 }
 
 // 2 April plus 1 Werktag is 7 April.

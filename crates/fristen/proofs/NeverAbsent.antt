@@ -31,7 +31,7 @@ use Rattle.datum.proofs.Dates.{index-date}
 use Rattle.datum.proofs.Signed.{clash}
 use Rattle.werktag.specs.declared.HolidayCalendar.{HolidayCalendar}
 use Rattle.werktag.specs.Werktag.{isWerktag}
-use Rattle.werktag.proofs.Rules.{weekend}
+use Rattle.werktag.proofs.Reasons.{weekend-shut}
 use Rattle.berlin.specs.declared.Moment.{Moment}
 use Rattle.berlin.specs.declared.Clock.{Clock}
 use Rattle.berlin.specs.declared.Resolved.{Resolved}
@@ -52,7 +52,7 @@ use Rattle.fristen.specs.Fristen.{isInitial, aperakGasDueAt}
 use Rattle.fristen.specs.FristShape.{sameDayAt, dueAtOf}
 
 pub sunday-shut : (cal : HolidayCalendar) (i : ℕ) → weekday i ≡ 6 → isWerktag cal i ≡ false
-sunday-shut cal i e = sym (weekend cal i (weekday i) refl (omega arith))
+sunday-shut cal i e = weekend-shut cal i (omega arith)
 
 module _ (w : ℕ → Bool) (shut : (i : ℕ) → weekday i ≡ 6 → w i ≡ false) where
   pub switches-shut : (y : ℕ) → 1996 ≤ y → (w (lastSunday y 3) ≡ false) × (w (lastSunday y 10) ≡ false)

@@ -10,7 +10,7 @@ use Rattle.zaehlung.specs.Walk.{dayAfter, up, add}
 use Rattle.datum.specs.Calendar.{isLeap, yearLen, daysInMonth, dateIn, dateOf}
 use Rattle.werktag.specs.declared.HolidayCalendar.the-variants.{BdewMaKo}
 use Rattle.werktag.specs.Easter.{easterSunday, easterIndex}
-use Rattle.werktag.specs.Werktag.{any, isFixed, isBussUndBettag, isEasterFeast, isBdewMakoHoliday, isWerktag}
+use Rattle.werktag.specs.Werktag.{any, isFixed, isBussUndBettag, isEasterFeast, isWerktag}
 use Rattle.berlin.specs.declared.Moment.{Moment}
 use Rattle.berlin.specs.Berlin.{oClock, momentOf, isBefore, inLimits, lastSunday, yearAt, offsetAt, berlinAt}
 use Rattle.berlin.specs.Berlin.{berlinMidnight, endOfDayBerlin}
@@ -78,7 +78,7 @@ pub werktage :
     ∷ deadlineAtWerktage werktag (m 1736121600) 5 ∷ deadlineAtWerktage werktag (m 1736121600) 0 ∷ []
     ≡ due 1736247600 ∷ due 1736762400 ∷ due 1736762400
     ∷ At (momentOf 1736809199 999999999) ∷ At (momentOf 1736204399 999999999) ∷ []
-unfolding nthWerktagAt endOfWerktagAfter add up isWerktag isBdewMakoHoliday isFixed isBussUndBettag isEasterFeast any
+unfolding nthWerktagAt endOfWerktagAfter add up isWerktag isFixed isBussUndBettag isEasterFeast any
     easterIndex easterSunday endOfDayBerlin berlinAt offsetAt yearAt lastSunday dateOf dateIn at start yearLen
     daysInMonth isLeap
 werktage = refl
@@ -89,7 +89,7 @@ pub gas :
     aperakGasDueAt werktag 44001 (m 1736157600) ∷ aperakGasDueAt werktag 44051 (m 1736157600) ∷ []
     ≡ record { initial = true; due = At (momentOf 1736463599 999999999) } ∷
     record { initial = false; due = due 1736247600 } ∷ []
-unfolding aperakGasDueAt isInitial nthWerktagAt endOfWerktagAfter add up isWerktag isBdewMakoHoliday isFixed
+unfolding aperakGasDueAt isInitial nthWerktagAt endOfWerktagAfter add up isWerktag isFixed
     isBussUndBettag isEasterFeast any easterIndex easterSunday endOfDayBerlin berlinAt offsetAt yearAt lastSunday dateOf
     dateIn at start yearLen daysInMonth isLeap
 gas = refl
@@ -110,7 +110,7 @@ pub shapes :
     dueAtOf werktag SameDay (m 1767956400) ∷ []
     ≡ due 1768215600 ∷ due 1767956400
     ∷ Absent ∷ At (momentOf 1767999599 999999999) ∷ []
-unfolding dueAtOf sameDayAt isBefore nthWerktagAt add up isWerktag isBdewMakoHoliday isFixed isBussUndBettag
+unfolding dueAtOf sameDayAt isBefore nthWerktagAt add up isWerktag isFixed isBussUndBettag
     isEasterFeast any easterIndex easterSunday endOfDayBerlin berlinAt offsetAt yearAt lastSunday dateOf dateIn at start
     yearLen daysInMonth isLeap
 shapes = refl

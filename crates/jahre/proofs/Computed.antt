@@ -27,13 +27,14 @@ use Rattle.zaehlung.proofs.Every.{run, run-at, split}
 use Rattle.datum.specs.Calendar.{isLeap, yearLen, yearStart, yearOf, daysInMonth, monthStart, monthOf, dateIn}
 use Rattle.datum.proofs.Years.{start-none}
 use Rattle.datum.proofs.Dates.{and-left, and-right, yearLen-at}
-use Rattle.datum.proofs.Rules.{start-is}
 use Rattle.datum.proofs.Signed.{sub-pos, sub-neg}
 use Rattle.werktag.specs.declared.HolidayCalendar.{HolidayCalendar}
 use Rattle.werktag.specs.declared.HolidayCalendar.the-variants.{BdewMaKo}
 use Rattle.werktag.specs.Easter.{easterSunday, easterIndex}
 use Rattle.werktag.specs.Werktag.{any, eqZ, fixedDays, isFixed, isBussUndBettag, easterOffsets, isEasterFeast}
 use Rattle.werktag.specs.Werktag.{isWerktagIn, isWerktag}
+use Rattle.werktag.proofs.Easter.{dayIn, easterIn, easter-is, firstOf, weekday-in}
+use Rattle.werktag.proofs.Search.{any-map}
 use Rattle.werktag.proofs.Signed.{from-distance}
 
 pub record Year : Type 0 where
@@ -41,23 +42,12 @@ pub record Year : Type 0 where
   pub standing : List ℕ
   pub feasts : List ℤ
 
--- day d of month m as a day of the year, from 0 on
-abbrev dayIn : Bool → ℕ → ℕ → ℕ
-dayIn l m d = monthStart l m + (d - 1)
-
 abbrev fixedIn : Bool → List ℕ
 fixedIn l = map (λ x. dayIn l (x .1) (x .0)) fixedDays
 
 -- the Wednesday from 16 to 22 November of a year that begins on weekday f
 abbrev bussIn : Bool → ℕ → ℕ
 bussIn l f = 325 + bit l - (f + bit l + 1) % 7
-
-abbrev easterIn : ℕ → ℕ
-easterIn y = let d = easterSunday y in dayIn (isLeap y) (d .month) (d .day)
-
--- the weekday of 1 January, without a walk over the years
-abbrev firstOf : ℕ → ℕ
-firstOf k = (365 * k + ((k + 1995) / 4 + (k + 1995) / 400 - (k + 1995) / 100) - 483) % 7
 
 unfoldable pub yearFor : ℕ → Year
 yearFor k =
@@ -154,11 +144,6 @@ buss-same l f r h =
     ∙ wednesday l f r
 
 -- the feasts that move with Easter: a distance from it is the same in indexes and in days of the year
-any-map : {A B : Type 0} (p : B → Bool) (f : A → B) (xs : List A) → any p (map f xs) ≡ any (λ x. p (f x)) xs
-unfolding any
-any-map p f [] = refl
-any-map p f (x ∷ xs) = rw (any-map p f xs)
-
 any-cong : {A : Type 0} (p q : A → Bool) (xs : List A) → ((x : A) → p x ≡ q x) → any p xs ≡ any q xs
 unfolding any
 any-cong p q [] e = refl
@@ -174,24 +159,13 @@ distance s r e =
 feast-same :
     (s r e y : ℕ) → easterIndex y ≡ s + e →
     isEasterFeast (s + r) y ≡ any (eqZ (pos r)) (map (λ o. pos e +ℤ o) easterOffsets)
-unfolding isEasterFeast
+unfolding isEasterFeast any
 feast-same s r e y q =
     rw (q, any-map (eqZ (pos r)) (λ o. pos e +ℤ o) easterOffsets)
     (any-cong (λ o. eqZ (pos (s + r)) (pos (s + e) +ℤ o)) (λ o. eqZ (pos r) (pos e +ℤ o)) easterOffsets (λ o.
     sym (from-distance (pos (s + r)) (pos (s + e)) o)
     ∙ ap (λ (z : ℤ). eqZ z o) (distance s r e)
     ∙ from-distance (pos r) (pos e) o))
-
-easter-year : (y : ℕ) → easterSunday y .year ≡ y
-unfolding easterSunday
-easter-year y = refl
-
-easter-is : (k : ℕ) → easterIndex (1996 + k) ≡ yearStart k + easterIn (1996 + k)
-unfolding easterIndex
-easter-is k = let z : 1996 + k - 1996 ≡ k = omega arith in rw (easter-year (1996 + k), z) (omega arith)
-
-weekday-same : (s f r : ℕ) → f ≡ s % 7 → (s + r) % 7 ≡ (f + r) % 7
-weekday-same s f r e = omega arith
 
 -- the order of the tests
 in-order :
@@ -208,7 +182,7 @@ open-is k r h =
     let l : Bool = isLeap (1996 + k) in
     let f : ℕ = firstOf k in
     let g : r < 365 + bit l = omega (arith, yearLen-at (1996 + k) k refl) in
-    let q = weekday-same (yearStart k) f r (ap (λ (s : ℕ). s % 7) (start-is k)) in
+    let q = weekday-in k r in
     let e = feast-same (yearStart k) r (easterIn (1996 + k)) (1996 + k) (easter-is k) in
     rw (q, fixed-same l r g, buss-same l f r g, e)
     (in-order (leb 5 ((f + r) % 7)) (any (eqb r) (fixedIn l)) (eqb r (bussIn l f))

@@ -2,6 +2,7 @@
 ghost use mathlib.Core.Path.{_≡_};
 ghost use Rattle.werktag.specs.declared.HolidayCalendar.the-variants.{BdewMaKo};
 ghost use Rattle.werktag.specs.Werktag.{isWerktag};
+ghost use Rattle.werktag.specs.Reason.{reason};
 ghost use Rattle.antwortsatz.specs.Bytes.{reply};
 ghost use Rattle.antworten.specs.Reading.{dateFrom};
 ghost use Rattle.antworten.specs.Kalender.{isWerktagAnswer, nextWerktagAnswer, addWerktageAnswer, subWerktageAnswer};
@@ -9,13 +10,13 @@ ghost use Rattle.antworten.specs.Kalender.{werktageBetweenAnswer, addMonthsAnsw
 use datum::Date;
 use werktag::HolidayCalendar;
 
-/// Kind 1 for a Werktag, else 0. "Werktag: not Saturday, Sunday or a holiday": 2 April 2026 has kind 1, 3 April,
-/// Karfreitag, kind 0. 31 April is no date: refusal 3.
+/// Why a date is closed, as kind: "0 Werktag, 1 Saturday, 2 Sunday, 3 to 22 the holidays". 2 April 2026 has kind 0,
+/// 3 April, Karfreitag, kind 17. 31 April is no date: refusal 3, whose kind is 0 too.
 #[no_mangle]
 pub extern "C" fn mf_is_werktag(year: u16, month: u8, day: u8, answer: &mut [u8]) -> u8
     ensures { λ r. ⌜
         (r, now (answer .exit)) ≡ reply (now (answer .entry))
-        (isWerktagAnswer (isWerktag BdewMaKo) (dateFrom year month day))
+        (isWerktagAnswer (reason BdewMaKo) (dateFrom year month day))
         ⌝ }
 {
     let date = Date { year, month, day };

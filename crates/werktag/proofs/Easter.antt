@@ -1,20 +1,31 @@
--- The Anonymous Gregorian algorithm in the calendar's years: no difference in it goes below 0, and it gives a date of
+-- The Anonymous Gregorian algorithm in the calendar's years: no difference in it goes below 0, and it gives a Sunday of
 -- March or April.
 --   enough, room       the difference under l does not go below 0
 --   n-bounds           n lies from 114 to 149, so the date from 22 March to 26 April
 --   easter-valid       Easter Sunday is a date of the range
+--   dayIn l m d        = day d of month m as a day of the year, from 0 on
+--   easterIn y         = Easter Sunday of the year y, the same
+--   easter-is          its index, by the year's start
+--   firstOf k          = the weekday of 1 January of the year 1996 + k, without a walk over the years
+--   weekday-in         the weekday of a day of the year, by that of its first
+--   easter-on-sunday   Easter Sunday is a Sunday, computed for every year
 -- omega takes the remainders one at a time, so each bound has a lemma of its own.
 -- Assumes nothing.
 use Prim.Native.Nat.{ℕ, zero, suc, _+_, _-_, _*_, _/_, _%_, _≤_, _<_}
 use mathlib.Core.Bool.{Bool, true}
 use mathlib.Core.Path.{_≡_, refl, ap}
 use native.Mathlib.Omega.{arith}
+use lib.Dec.{eqb}
+use borrow.Author.Tests.{eqb-true}
 use mir.Syntax.{w8}
 use mir.Val.{Fits}
+use Rattle.zaehlung.specs.Blocks.{start}
+use Rattle.zaehlung.proofs.Every.{run, run-at}
 use Rattle.datum.specs.declared.Date.{Date}
-use Rattle.datum.specs.Calendar.{isDate, isLeap, daysInMonth}
+use Rattle.datum.specs.Calendar.{isDate, isLeap, daysInMonth, monthStart, yearStart, weekday}
 use Rattle.datum.proofs.Dates.{Valid, is-valid}
-use Rattle.werktag.specs.Easter.{easterSunday}
+use Rattle.datum.proofs.Rules.{start-is}
+use Rattle.werktag.specs.Easter.{easterSunday, easterIndex}
 
 pub enough : (x y : ℕ) → y % 4 ≤ 32 + 2 * x + 2 * (y / 4) - 29
 enough x y = omega arith
@@ -92,3 +103,41 @@ easter-valid y d p q e =
     let l = (32 + 2 * (b % 4) + 2 * (c / 4) - h - c % 4) % 7 in
     let k = n-bounds a h l (below-19 y) (below-30 _) (below-7 _) in
     rw e (is-valid _ (dated y (n a h l) p q (k .0) (k .1)))
+
+abbrev pub dayIn : Bool → ℕ → ℕ → ℕ
+dayIn l m d = monthStart l m + (d - 1)
+
+abbrev pub easterIn : ℕ → ℕ
+easterIn y = let d = easterSunday y in dayIn (isLeap y) (d .month) (d .day)
+
+easter-year : (y : ℕ) → easterSunday y .year ≡ y
+unfolding easterSunday
+easter-year y = refl
+
+pub easter-is : (k : ℕ) → easterIndex (1996 + k) ≡ yearStart k + easterIn (1996 + k)
+unfolding easterIndex
+easter-is k = let z : 1996 + k - 1996 ≡ k = omega arith in rw (easter-year (1996 + k), z) (omega arith)
+
+abbrev pub firstOf : ℕ → ℕ
+firstOf k = (365 * k + ((k + 1995) / 4 + (k + 1995) / 400 - (k + 1995) / 100) - 483) % 7
+
+pub weekday-in : (k r : ℕ) → weekday (yearStart k + r) ≡ (firstOf k + r) % 7
+weekday-in k r = same (yearStart k) (firstOf k) r (ap (λ (s : ℕ). s % 7) (start-is k))
+  where
+    same : (s f r : ℕ) → f ≡ s % 7 → (s + r) % 7 ≡ (f + r) % 7
+    same s f r e = omega arith
+
+on-sunday : ℕ → Bool
+on-sunday k = eqb ((firstOf k + easterIn (1996 + k)) % 7) 6
+
+all-on-sunday : run on-sunday 904 0 ≡ true
+unfolding run on-sunday easterSunday start daysInMonth isLeap
+all-on-sunday = refl
+
+pub easter-on-sunday : (y : ℕ) → 1996 ≤ y → y ≤ 2899 → weekday (easterIndex y) ≡ 6
+unfolding on-sunday
+easter-on-sunday y a b =
+    let k = y - 1996 in
+    let q : 1996 + k ≡ y = omega arith in
+    rw (← q, easter-is k, weekday-in k (easterIn (1996 + k)))
+    (eqb-true _ _ (run-at on-sunday 904 0 all-on-sunday k (omega arith) (omega arith)))

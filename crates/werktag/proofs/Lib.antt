@@ -1,5 +1,7 @@
 pub mod Search
+pub mod Place
 pub mod Signed
 pub mod Easter
+pub mod Reasons
 pub mod Rules
 pub mod OutsideValues

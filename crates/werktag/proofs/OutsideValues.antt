@@ -1,6 +1,6 @@
 -- The list's definitions against values from outside: Easter Sundays of published tables (Physikalisch-Technische
--- Bundesanstalt; the earliest and the latest possible date among them), days whose holidays of 2026 are published, and
--- the calendar's first and last Werktag.
+-- Bundesanstalt; the earliest and the latest possible date among them), days whose holidays of 2026 are published, the
+-- calendar's first and last Werktag, and a day for each reason.
 -- Assumes nothing.
 use Prim.Native.Nat.{ℕ}
 use mathlib.Core.Bool.{Bool, true, false}
@@ -12,6 +12,7 @@ use Rattle.datum.specs.Calendar.{isLeap, yearLen, daysInMonth, dateIn, daysBefo
 use Rattle.werktag.specs.declared.HolidayCalendar.the-variants.{BdewMaKo}
 use Rattle.werktag.specs.Easter.{easterSunday, easterIndex}
 use Rattle.werktag.specs.Werktag.{any, isFixed, isBussUndBettag, isEasterFeast, isWerktagIn, isWerktag}
+use Rattle.werktag.specs.Reason.{placeFrom, reason}
 
 abbrev on : ℕ → ℕ → ℕ → Date
 on y m d = record { year = y; month = m; day = d }
@@ -47,3 +48,30 @@ pub edges :
     ≡ false ∷ true ∷ true ∷ false ∷ []
 unfolding isFixed isBussUndBettag isEasterFeast any easterIndex easterSunday dateIn at start yearLen daysInMonth isLeap
 edges = refl
+
+abbrev why : Date → ℕ
+why d = reason BdewMaKo (daysBefore d)
+
+-- a weekday for each holiday of the list, but for Pfingstsonntag, which has none
+pub holidays :
+    why (on 2026 1 1) ∷ why (on 2026 1 6) ∷ why (on 2027 3 8) ∷ why (on 2026 5 1) ∷ why (on 2025 8 15)
+    ∷ why (on 2027 9 20) ∷ why (on 2025 10 3) ∷ why (on 2025 10 31) ∷ why (on 2027 11 1) ∷ why (on 2026 12 24)
+    ∷ why (on 2026 12 25) ∷ why (on 2025 12 26) ∷ why (on 2026 12 31) ∷ why (on 2026 11 18) ∷ why (on 2026 4 3)
+    ∷ why (on 2026 4 6) ∷ why (on 2026 5 14) ∷ why (on 2026 5 25) ∷ why (on 2026 6 4) ∷ []
+    ≡ 3 ∷ 4 ∷ 5 ∷ 6 ∷ 7
+    ∷ 8 ∷ 9 ∷ 10 ∷ 11 ∷ 12
+    ∷ 13 ∷ 14 ∷ 15 ∷ 16 ∷ 17
+    ∷ 18 ∷ 19 ∷ 21 ∷ 22 ∷ []
+unfolding reason placeFrom isBussUndBettag easterIndex easterSunday dateIn at start yearLen daysInMonth isLeap
+holidays = refl
+
+-- the Tuesday after Easter 2026, a Saturday, a Sunday; then what goes first: 8 March 2026 is a Sunday and Frauentag,
+-- 24 May 2026 Pfingstsonntag, 26 December 2026 a Saturday and Weihnachten; 1 May 2008 is Tag der Arbeit and Christi
+-- Himmelfahrt
+pub precedence :
+    why (on 2026 4 7) ∷ why (on 2026 4 4) ∷ why (on 2026 4 5)
+    ∷ why (on 2026 3 8) ∷ why (on 2026 5 24) ∷ why (on 2026 12 26) ∷ why (on 2008 5 1) ∷ []
+    ≡ 0 ∷ 1 ∷ 2
+    ∷ 2 ∷ 2 ∷ 1 ∷ 6 ∷ []
+unfolding reason placeFrom isBussUndBettag easterIndex easterSunday dateIn at start yearLen daysInMonth isLeap
+precedence = refl

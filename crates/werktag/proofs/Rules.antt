@@ -3,7 +3,7 @@
 -- Assumes nothing.
 use Prim.Native.Nat.{ℕ, _+_, _-_, _≤_, _<_}
 use mathlib.Core.Bool.{Bool, true, false, not, _&&_}
-use mathlib.Core.List.{List, [], _∷_}
+use mathlib.Core.List.{List, [], _∷_, _++_, map}
 use mathlib.Core.Path.{_≡_, refl, sym, ap, _∙_}
 use native.Mathlib.Omega.{arith}
 use lib.Dec.{eqb, leb}
@@ -24,12 +24,29 @@ use Rattle.datum.proofs.Signed.{back, pos-fits, neg-fits, back-pos, sub-fits, s
 use Rattle.werktag.specs.declared.HolidayCalendar.{HolidayCalendar}
 use Rattle.werktag.specs.declared.HolidayCalendar.the-variants.{BdewMaKo}
 use Rattle.werktag.specs.Easter.{easterSunday, easterIndex}
-use Rattle.werktag.specs.Werktag.{any, eqZ, fixedDays, isFixed, isBussUndBettag, easterOffsets, isEasterFeast}
-use Rattle.werktag.specs.Werktag.{isBdewMakoHoliday, isWerktag}
-use Rattle.werktag.proofs.Search.{search-hit, search-miss, search-none}
+use Rattle.werktag.specs.Werktag.{eqZ, fixedDays, isDay, isBussUndBettag, easterOffsets, isFeast, isWerktag}
+use Rattle.werktag.specs.Reason.{placeFrom, weekend, fixedTests, feastTests, holidays, reason}
+use Rattle.werktag.proofs.Place.{place-hit, place-miss, place-none, place-left, place-right, map-at}
+use Rattle.werktag.proofs.Reasons.{reason-is, reason-zero}
 use Rattle.werktag.proofs.Signed.{eq-eqZ, ne-eqZ, from-distance}
 
--- is_fixed: the two tables are the months and the days of the definition's list, place by place
+-- weekend: w is what `datum::weekday` returned
+module _ (i w : ℕ) (e : w ≡ weekday i) where
+  pub no-weekend : w < 5 → 0 ≡ placeFrom 1 (weekend i)
+  unfolding placeFrom
+  no-weekend h = rw (← e, ne-eqb w 5 (λ q. omega arith), ne-eqb w 6 (λ q. omega arith))
+
+  pub on-saturday : w ≡ 5 → 1 ≡ placeFrom 1 (weekend i)
+  unfolding placeFrom
+  on-saturday h = rw (← e, eq-eqb w 5 h)
+
+  pub on-sunday : 5 ≤ w → (w ≡ 5 → ⊥) → 2 ≡ placeFrom 1 (weekend i)
+  unfolding placeFrom
+  on-sunday h n =
+      let q : w ≡ 6 = omega (arith, n) in
+      rw (← e, ne-eqb w 5 n, eq-eqb w 6 q)
+
+-- fixed_day: the two tables are the months and the days of the definition's list, place by place
 abbrev pub months : List ℕ
 months = 1 ∷ 1 ∷ 3 ∷ 5 ∷ 8 ∷ 9 ∷ 10 ∷ 10 ∷ 11 ∷ 12 ∷ 12 ∷ 12 ∷ 12 ∷ []
 
@@ -52,42 +69,33 @@ entry-is i h =
     let t = run-at same 13 0 all-same i (omega arith) (omega arith) in
     (eqb-true _ _ (and-left _ _ t), eqb-true _ _ (and-right (eqb (entry i .0) (getD days i 0)) _ t))
 
-abbrev pub onDay : ℕ → ℕ → ℕ × ℕ → Bool
-onDay m d x = eqb (x .0) d && eqb (x .1) m
-
-pub fixed-start : (m d : ℕ) → any (onDay m d) (drop 0 fixedDays) ≡ isFixed m d
-unfolding isFixed
-fixed-start m d = refl
-
-module _ (m d i : ℕ) (e : any (onDay m d) (drop i fixedDays) ≡ isFixed m d) where
-  whole : any (onDay m d) (drop i fixedDays) ≡ any (onDay m d) fixedDays
-  unfolding isFixed
-  whole = e
-
-  pub fixed-hit : i < 13 → getD months i 0 ≡ m → getD days i 0 ≡ d → true ≡ isFixed m d
-  unfolding isFixed
+module _ (m d i : ℕ) (e : placeFrom (3 + i) (drop i (fixedTests m d)) ≡ placeFrom 3 (fixedTests m d)) where
+  pub fixed-hit : i < 13 → getD months i 0 ≡ m → getD days i 0 ≡ d → 3 + i ≡ placeFrom 3 (fixedTests m d)
   fixed-hit h p q =
       let k = entry-is i h in
-      search-hit (onDay m d) fixedDays (0, 0) i whole h
-      (rw (eq-eqb (entry i .0) d (k .0 ∙ q)) (eq-eqb (entry i .1) m (k .1 ∙ p)))
+      place-hit (fixedTests m d) 3 i e h
+      (map-at (isDay m d) fixedDays i (0, 0) false h
+      ∙ rw (eq-eqb (entry i .0) d (k .0 ∙ q)) (eq-eqb (entry i .1) m (k .1 ∙ p)))
 
   pub fixed-other-day :
-      i < 13 → getD months i 0 ≡ m → (getD days i 0 ≡ d → ⊥) → any (onDay m d) (drop (i + 1) fixedDays) ≡ isFixed m d
-  unfolding isFixed
+      i < 13 → getD months i 0 ≡ m → (getD days i 0 ≡ d → ⊥) →
+      placeFrom (3 + (i + 1)) (drop (i + 1) (fixedTests m d)) ≡ placeFrom 3 (fixedTests m d)
   fixed-other-day h p q =
       let k = entry-is i h in
-      search-miss (onDay m d) fixedDays (0, 0) i whole h (rw (ne-eqb (entry i .0) d (λ x. q (sym (k .0) ∙ x))))
+      place-miss (fixedTests m d) 3 i e h
+      (map-at (isDay m d) fixedDays i (0, 0) false h
+      ∙ rw (ne-eqb (entry i .0) d (λ x. q (sym (k .0) ∙ x))))
 
-  pub fixed-other-month : i < 13 → (getD months i 0 ≡ m → ⊥) → any (onDay m d) (drop (i + 1) fixedDays) ≡ isFixed m d
-  unfolding isFixed
+  pub fixed-other-month :
+      i < 13 → (getD months i 0 ≡ m → ⊥) → placeFrom (3 + (i + 1)) (drop (i + 1) (fixedTests m d)) ≡ placeFrom 3 (fixedTests m d)
   fixed-other-month h q =
       let k = entry-is i h in
-      search-miss (onDay m d) fixedDays (0, 0) i whole h
-      (rw (ne-eqb (entry i .1) m (λ x. q (sym (k .1) ∙ x))) (and-no (eqb (entry i .0) d)))
+      place-miss (fixedTests m d) 3 i e h
+      (map-at (isDay m d) fixedDays i (0, 0) false h
+      ∙ rw (ne-eqb (entry i .1) m (λ x. q (sym (k .1) ∙ x))) (and-no (eqb (entry i .0) d)))
 
-  pub fixed-none : 13 ≤ i → false ≡ isFixed m d
-  unfolding isFixed
-  fixed-none h = search-none (onDay m d) fixedDays (0, 0) i whole h
+  pub fixed-none : 13 ≤ i → 0 ≡ placeFrom 3 (fixedTests m d)
+  fixed-none h = place-none (fixedTests m d) 3 i e h
 
 -- is_buss_und_bettag
 module _ (m d w : ℕ) where
@@ -109,7 +117,7 @@ module _ (m d w : ℕ) where
 
 pub ruleset buss-rules = (too-early, too-late, by-weekday)
 
--- is_offset: what the table holds at a place is a signed number of 64 bits
+-- feast_at: what the table holds at a place is a signed number of 64 bits
 abbrev offset : ℕ → ℤ
 offset i = getD easterOffsets i (pos 0)
 
@@ -129,56 +137,67 @@ fits-is (negsuc a) t = neg-fits a (omega (arith, leb-true a 60 t))
 offset-fits : (i : ℕ) → i < 6 → SFits w64 (offset i)
 offset-fits i h = fits-is (offset i) (run-at (λ i. fits (offset i)) 6 0 all-fit i (omega arith) (omega arith))
 
-module _ (z : ℤ) (i : ℕ) (f : SFits w64 z) (e : any (eqZ (back z)) (drop i easterOffsets) ≡
-    any (eqZ (back z)) easterOffsets) where
-  at-z : any (eqZ (back z)) easterOffsets ≡ any (eqZ z) easterOffsets
-  at-z = ap (λ (x : ℤ). any (eqZ x) easterOffsets) (toZ-ofZ f)
+abbrev pub feasts : ℤ → List Bool
+feasts z = map (eqZ z) easterOffsets
 
-  pub offset-hit : i < 6 → ofZ w64 (offset i) ≡ ofZ w64 z → true ≡ any (eqZ z) easterOffsets
+module _ (z : ℤ) (i : ℕ) (f : SFits w64 z)
+    (e : placeFrom (17 + i) (drop i (feasts (back z))) ≡ placeFrom 17 (feasts (back z))) where
+  at-z : placeFrom 17 (feasts (back z)) ≡ placeFrom 17 (feasts z)
+  at-z = ap (λ (x : ℤ). placeFrom 17 (feasts x)) (toZ-ofZ f)
+
+  pub offset-hit : i < 6 → ofZ w64 (offset i) ≡ ofZ w64 z → 17 + i ≡ placeFrom 17 (feasts z)
   offset-hit h p =
-      search-hit (eqZ (back z)) easterOffsets (pos 0) i e h
-      (eq-eqZ (back z) (offset i) (toZ-ofZ f ∙ sym (same-bits (offset i) z (offset-fits i h) f p))) ∙ at-z
+      place-hit (feasts (back z)) 17 i e h
+      (map-at (eqZ (back z)) easterOffsets i (pos 0) false h
+      ∙ eq-eqZ (back z) (offset i) (toZ-ofZ f ∙ sym (same-bits (offset i) z (offset-fits i h) f p))) ∙ at-z
 
   pub offset-miss :
       i < 6 → (ofZ w64 (offset i) ≡ ofZ w64 z → ⊥) →
-      any (eqZ (back z)) (drop (i + 1) easterOffsets) ≡ any (eqZ (back z)) easterOffsets
+      placeFrom (17 + (i + 1)) (drop (i + 1) (feasts (back z))) ≡ placeFrom 17 (feasts (back z))
   offset-miss h n =
-      search-miss (eqZ (back z)) easterOffsets (pos 0) i e h
-      (ne-eqZ (back z) (offset i) (λ q. n (ap (ofZ w64) (sym q ∙ toZ-ofZ f))))
+      place-miss (feasts (back z)) 17 i e h
+      (map-at (eqZ (back z)) easterOffsets i (pos 0) false h
+      ∙ ne-eqZ (back z) (offset i) (λ q. n (ap (ofZ w64) (sym q ∙ toZ-ofZ f))))
 
-  pub offset-none : 6 ≤ i → false ≡ any (eqZ z) easterOffsets
-  offset-none h = search-none (eqZ (back z)) easterOffsets (pos 0) i e h ∙ at-z
+  pub offset-none : 6 ≤ i → 0 ≡ placeFrom 17 (feasts z)
+  offset-none h = place-none (feasts (back z)) 17 i e h ∙ at-z
 
--- is_easter_feast: s is what `days_before` returned for Easter Sunday d
+-- easter_feast: s is what `days_before` returned for Easter Sunday d
 module _ (i y s : ℕ) (d : Date) (h : i ≤ last) (e : d ≡ easterSunday y) (q : s ≡ daysBefore d) (g : s ≤ last) where
   pub distance-fits : SFits w64 (toZ w64 i -ℤ toZ w64 s)
   distance-fits = rw (back-pos i (omega arith), back-pos s (omega arith)) (sub-fits i s (omega arith) (omega arith))
 
-  pub feast : (r : Bool) → r ≡ any (eqZ (back (toZ w64 i -ℤ toZ w64 s))) easterOffsets → r ≡ isEasterFeast i y
-  unfolding isEasterFeast easterIndex any
+  pub feast :
+      (r : ℕ) → r ≡ placeFrom 17 (feasts (back (toZ w64 i -ℤ toZ w64 s))) → r ≡ placeFrom 17 (feastTests i y)
+  unfolding easterIndex
   feast r p =
       let k : s ≡ daysBefore (easterSunday y) = q ∙ ap daysBefore e in
       let t : back (toZ w64 i -ℤ toZ w64 s) ≡ pos i -ℤ pos (easterIndex y) =
       toZ-ofZ distance-fits ∙ (rw (back-pos i (omega arith), back-pos s (omega arith), k)) in
-      p ∙ ap (λ (x : ℤ). any (eqZ x) easterOffsets) t ∙ simp (from-distance (pos i) (pos (easterIndex y)))
+      p ∙ ap (λ (x : ℤ). placeFrom 17 (feasts x)) t ∙ simp (from-distance (pos i) (pos (easterIndex y)))
 
--- is_bdew_mako_holiday: d is the date that `date_of` returned
-module _ (i : ℕ) (d : Date) (e : d ≡ dateOf i) where
-  pub by-table : (a : Bool) → a ≡ isFixed (d .month) (d .day) → a ≡ true → true ≡ isBdewMakoHoliday i
-  unfolding isBdewMakoHoliday
-  by-table a p t = rw (← e, sym p ∙ t)
+-- bdew_mako_holiday: d is the date that `date_of` returned, a what `fixed_day` returned
+module _ (i a : ℕ) (d : Date) (e : d ≡ dateOf i) (p : a ≡ placeFrom 3 (fixedTests (d .month) (d .day))) where
+  pub by-table : (a ≡ 0 → ⊥) → a ≡ placeFrom 3 (holidays i (dateOf i))
+  by-table n = rw (← e) (p ∙ sym (place-left 3 (fixedTests (d .month) (d .day)) _ (λ q. n (p ∙ q))))
 
-  pub by-wednesday :
-      (a b : Bool) (w : ℕ) → a ≡ isFixed (d .month) (d .day) → a ≡ false → w ≡ weekday i →
-      b ≡ isBussUndBettag (d .month) (d .day) w → b ≡ true → true ≡ isBdewMakoHoliday i
-  unfolding isBdewMakoHoliday
-  by-wednesday a b w p t g q u = rw (← e, sym p ∙ t, ← g, sym q ∙ u)
+  -- b is what `is_buss_und_bettag` returned: the Wednesday, then the feasts
+  module _ (b : Bool) (w : ℕ) (t : a ≡ 0) (g : w ≡ weekday i) (q : b ≡ isBussUndBettag (d .month) (d .day) w) where
+    rest : (x : Bool) → b ≡ x → placeFrom 16 (x ∷ feastTests i (d .year)) ≡ placeFrom 3 (holidays i (dateOf i))
+    rest x u =
+        rw (← e, ← g, ← q, u)
+        (sym (place-right 3 (fixedTests (d .month) (d .day)) (x ∷ feastTests i (d .year)) (omega arith)
+        (sym p ∙ t)))
 
-  pub by-easter :
-      (a b r : Bool) (w : ℕ) → a ≡ isFixed (d .month) (d .day) → a ≡ false → w ≡ weekday i →
-      b ≡ isBussUndBettag (d .month) (d .day) w → b ≡ false → r ≡ isEasterFeast i (d .year) → r ≡ isBdewMakoHoliday i
-  unfolding isBdewMakoHoliday
-  by-easter a b r w p t g q u s = rw (← e, sym p ∙ t, ← g, sym q ∙ u) s
+    pub by-wednesday : b ≡ true → 16 ≡ placeFrom 3 (holidays i (dateOf i))
+    unfolding placeFrom
+    by-wednesday u = rest true u
+
+    pub by-easter :
+        (r : ℕ) → b ≡ false → r ≡ placeFrom 17 (feastTests i (d .year)) →
+        r ≡ placeFrom 3 (holidays i (dateOf i))
+    unfolding placeFrom
+    by-easter r u s = s ∙ rest false u
 
   pub year-from : i ≤ last → 1996 ≤ d .year
   year-from h = rw e (index-date i h .0 .from)
@@ -188,20 +207,17 @@ module _ (i : ℕ) (d : Date) (e : d ≡ dateOf i) where
 
 pub ruleset holiday-rules = (by-table, by-wednesday, by-easter, year-from, year-to)
 
--- is_werktag: a day's year and the day in it make its index
-pub parts : (i : ℕ) → yearStart (yearOf i .0) + yearOf i .1 ≡ i
-parts i = omega (arith, at-sum yearLen 903 0 i, start-none)
+-- reason: a is what `weekend` returned
+pub weekend-first :
+    (cal : HolidayCalendar) (i a : ℕ) → a ≡ placeFrom 1 (weekend i) → (a ≡ 0 → ⊥) → a ≡ reason cal i
+weekend-first BdewMaKo i a p n = p ∙ sym (place-left 1 (weekend i) _ (λ q. n (p ∙ q))) ∙ sym (reason-is i)
 
-pub werktag-is : (i : ℕ) → isWerktag BdewMaKo i ≡ (not (leb 5 (weekday i)) && not (isBdewMakoHoliday i))
-unfolding isWerktag isBdewMakoHoliday dateOf
-werktag-is i = rw (parts i)
+pub holiday-then :
+    (cal : HolidayCalendar) (i a r : ℕ) → a ≡ placeFrom 1 (weekend i) → a ≡ 0 → r ≡ placeFrom 3 (holidays i (dateOf i)) →
+    r ≡ reason cal i
+holiday-then BdewMaKo i a r p t q =
+    q ∙ sym (place-right 1 (weekend i) _ (omega arith) (sym p ∙ t)) ∙ sym (reason-is i)
 
-pub weekend : (cal : HolidayCalendar) (i w : ℕ) → w ≡ weekday i → 5 ≤ w → false ≡ isWerktag cal i
-weekend BdewMaKo i w e h = rw (werktag-is i, ← e, le-leb 5 w h)
-
-pub no-weekend :
-    (cal : HolidayCalendar) (i w : ℕ) (r : Bool) → w ≡ weekday i → w < 5 → r ≡ isBdewMakoHoliday i →
-    not r ≡ isWerktag cal i
-no-weekend BdewMaKo i w r e h p = rw (werktag-is i, ← e, lt-leb 5 w h, p)
-
-pub ruleset werktag-rules = (weekend, no-weekend)
+-- is_werktag: r is what `reason` returned
+pub zero-open : (cal : HolidayCalendar) (i r : ℕ) → r ≡ reason cal i → eqb r 0 ≡ isWerktag cal i
+zero-open cal i r e = rw e (reason-zero cal i)

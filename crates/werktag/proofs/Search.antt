@@ -3,11 +3,13 @@
 --   search-hit   an element passes: the search ends with true
 --   search-miss  it does not: the rest decides
 --   search-none  nothing is left: the search ends with false
+--   any-map      the elements that are made of a list's
+--   any-append   two lists one after the other
 -- Assumes nothing.
 use Prim.Native.Nat.{ℕ, _+_, _≤_, _<_}
 use mathlib.Core.Bool.{Bool, true, false, _||_}
-use mathlib.Core.List.{List}
-use mathlib.Core.Path.{_≡_, sym, ap, _∙_}
+use mathlib.Core.List.{List, [], _∷_, _++_, map}
+use mathlib.Core.Path.{_≡_, refl, sym, ap, _∙_}
 use native.Mathlib.Numerals.{add-one}
 use lib.ListN.{length, getD, drop, drop-of-length-le}
 use lib.Seq.{drop-cons}
@@ -28,3 +30,17 @@ module _ {A : Type 0} (p : A → Bool) (l : List A) (z : A) (i : ℕ) where
     pub search-none : length l ≤ i → false ≡ any p l
     unfolding any
     search-none h = ap (any p) (sym (drop-of-length-le l h)) ∙ e
+
+pub any-map : {A B : Type 0} (p : B → Bool) (f : A → B) (xs : List A) → any p (map f xs) ≡ any (λ x. p (f x)) xs
+unfolding any
+any-map p f [] = refl
+any-map p f (x ∷ xs) = rw (any-map p f xs)
+
+pub any-append : {A : Type 0} (p : A → Bool) (xs ys : List A) → any p (xs ++ ys) ≡ (any p xs || any p ys)
+unfolding any
+any-append p [] ys = refl
+any-append p (x ∷ xs) ys = rw (any-append p xs ys) (or (p x) (any p xs) (any p ys))
+  where
+    or : (a b c : Bool) → (a || (b || c)) ≡ ((a || b) || c)
+    or true b c = refl
+    or false b c = refl

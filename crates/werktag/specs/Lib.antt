@@ -1,2 +1,3 @@
 pub mod Easter
 pub mod Werktag
+pub mod Reason

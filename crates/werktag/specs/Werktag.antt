@@ -1,12 +1,12 @@
 -- Werktage by the list of document 01, the same in every year.
 --   fixedDays             = the fixed days, day and month
---   isFixed m d           = whether day d of month m is one of them
+--   isDay m d x           = whether day d of month m is the fixed day x
+--   isFixed m d           = whether it is one of them
 --   isBussUndBettag m d w = whether it is the Wednesday from 16 to 22 November, w being its weekday
 --   easterOffsets         = the days from Easter Sunday to each feast that moves with it
---   isOffset z            = whether z is one of these
---   isEasterFeast i y     = whether the day with index i is one of the feasts of the year y that move with Easter
+--   isFeast i y o         = whether the day with index i lies o days from Easter Sunday of the year y
+--   isEasterFeast i y     = whether it is one of the feasts of the year y that move with Easter
 --   isListed i d          = whether the day with index i and date d is in the list
---   isBdewMakoHoliday i   = whether the day with index i is in the list
 --   isWerktagIn cal k r   = whether day r, from 0 on, of the year 1996 + k is a Werktag
 --   isWerktag cal i       = whether the day with index i is a Werktag
 -- The day test is one of a year and a day in it, so that a fact about all days can be computed year by year;
@@ -19,7 +19,7 @@ use mathlib.Core.List.{List, [], _∷_}
 use lib.Dec.{eqb, leb}
 use lib.IntN.{ℤ, pos, negsuc, negℤ, _+ℤ_}
 use Rattle.datum.specs.declared.Date.{Date}
-use Rattle.datum.specs.Calendar.{yearStart, yearOf, dateIn, dateOf, weekday}
+use Rattle.datum.specs.Calendar.{yearStart, yearOf, dateIn, weekday}
 use Rattle.werktag.specs.declared.HolidayCalendar.{HolidayCalendar}
 use Rattle.werktag.specs.declared.HolidayCalendar.the-variants.{BdewMaKo}
 use Rattle.werktag.specs.Easter.{easterIndex}
@@ -43,8 +43,11 @@ fixedDays =
     (1, 1) ∷ (6, 1) ∷ (8, 3) ∷ (1, 5) ∷ (15, 8) ∷ (20, 9) ∷ (3, 10) ∷ (31, 10) ∷ (1, 11)
     ∷ (24, 12) ∷ (25, 12) ∷ (26, 12) ∷ (31, 12) ∷ []
 
+abbrev pub isDay : ℕ → ℕ → ℕ × ℕ → Bool
+isDay m d x = eqb (x .0) d && eqb (x .1) m
+
 unfoldable pub isFixed : ℕ → ℕ → Bool
-isFixed m d = any (λ x. eqb (x .0) d && eqb (x .1) m) fixedDays
+isFixed m d = any (isDay m d) fixedDays
 
 -- 'Then the Wednesday from 16 to 22 November'
 unfoldable pub isBussUndBettag : ℕ → ℕ → ℕ → Bool
@@ -54,18 +57,15 @@ isBussUndBettag m d w = eqb m 11 && (leb 16 d && (leb d 22 && eqb w 2))
 abbrev pub easterOffsets : List ℤ
 easterOffsets = negℤ (pos 2) ∷ pos 1 ∷ pos 39 ∷ pos 49 ∷ pos 50 ∷ pos 60 ∷ []
 
-abbrev pub isOffset : ℤ → Bool
-isOffset z = any (eqZ z) easterOffsets
+abbrev pub isFeast : ℕ → ℕ → ℤ → Bool
+isFeast i y o = eqZ (pos i) (pos (easterIndex y) +ℤ o)
 
 unfoldable pub isEasterFeast : ℕ → ℕ → Bool
-isEasterFeast i y = any (λ o. eqZ (pos i) (pos (easterIndex y) +ℤ o)) easterOffsets
+isEasterFeast i y = any (isFeast i y) easterOffsets
 
 abbrev pub isListed : ℕ → Date → Bool
 isListed i d =
     isFixed (d .month) (d .day) || (isBussUndBettag (d .month) (d .day) (weekday i) || isEasterFeast i (d .year))
-
-unfoldable pub isBdewMakoHoliday : ℕ → Bool
-isBdewMakoHoliday i = isListed i (dateOf i)
 
 -- 'Werktag: not Saturday, Sunday or a holiday (GPKE Teil 1).' The day's index is yearStart k + r.
 abbrev pub isWerktagIn : HolidayCalendar → ℕ → ℕ → Bool

@@ -1,13 +1,14 @@
 // Werktage: every day that is no Saturday, no Sunday and no holiday (GPKE Teil 1).
 //
-// Document 01, lib.rs (calendar). The list is the same in every year.
+// Document 01, lib.rs (calendar); the reason of a closed day: document 02, F-2. The list is the same in every year.
 ghost use mathlib.Core.Path.{_≡_};
 ghost use Prim.Native.Nat.{_≤_};
 ghost use Rattle.zaehlung.specs.Walk.{last};
-ghost use Rattle.datum.specs.Calendar.{firstYear, lastYear};
+ghost use mathlib.Core.List.{map};
+ghost use Rattle.datum.specs.Calendar.{firstYear, lastYear, dateOf};
 ghost use Rattle.werktag.specs.Easter.{easterSunday};
-ghost use Rattle.werktag.specs.Werktag.{isFixed, isBussUndBettag, isOffset, isEasterFeast};
-ghost use Rattle.werktag.specs.Werktag.{isBdewMakoHoliday, isWerktag};
+ghost use Rattle.werktag.specs.Werktag.{eqZ, isBussUndBettag, easterOffsets, isWerktag};
+ghost use Rattle.werktag.specs.Reason.{placeFrom, weekend, fixedTests, feastTests, holidays, reason};
 use datum::Date;
 
 /// Weekdays, Monday being 0.
@@ -33,22 +34,53 @@ const EASTER_FEASTS: usize = 6;
 
 const EASTER_OFFSET: [i64; EASTER_FEASTS] = [-2, 1, 39, 49, 50, 60];
 
-/// Whether month and day stand side by side in the two tables.
-fn is_fixed(month: u8, day: u8) -> bool
-    ensures { λ r. ⌜ r ≡ isFixed month day ⌝ }
+/// The reasons in the order of the rules: the weekend, then the list. A Werktag has none.
+pub const WERKTAG: u8 = 0;
+
+const SAMSTAG: u8 = 1;
+
+const SONNTAG: u8 = 2;
+
+/// The first of the fixed days.
+const NEUJAHR: u8 = 3;
+
+const BUSS_UND_BETTAG: u8 = NEUJAHR + (FIXED_DAYS as u8);
+
+/// The first of the feasts that move with Easter Sunday.
+const KARFREITAG: u8 = BUSS_UND_BETTAG + 1;
+
+/// The reason of a Saturday or a Sunday.
+fn weekend(day: u32) -> u8
+    requires { ⌜ day ≤ last ⌝ }
+    ensures { λ r. ⌜ r ≡ placeFrom 1 (weekend day) ⌝ }
+{
+    let weekday = datum::weekday(day);
+    if weekday < SATURDAY {
+        return WERKTAG;
+    }
+    if weekday == SATURDAY {
+        return SAMSTAG;
+    }
+    SONNTAG
+}
+
+/// The reason of a fixed day: month and day stand side by side in the two tables.
+fn fixed_day(month: u8, day: u8) -> u8
+    ensures { λ r. ⌜ r ≡ placeFrom 3 (fixedTests month day) ⌝ }
 {
     let mut i = 0;
     while i < FIXED_DAYS {
         let m = FIXED_MONTH[i];
         let d = FIXED_DAY[i];
+        let reason = NEUJAHR + (i as u8);
         i += 1;
         if m == month {
             if d == day {
-                return true;
+                return reason;
             }
         }
     }
-    false
+    WERKTAG
 }
 
 /// Buß- und Bettag: 'the Wednesday from 16 to 22 November'.
@@ -97,43 +129,63 @@ pub fn easter_sunday(year: u16) -> Date
     }
 }
 
-/// Whether a number of days from Easter Sunday is one of the table's.
-fn is_offset(distance: i64) -> bool
-    ensures { λ r. ⌜ r ≡ isOffset distance ⌝ }
+/// The reason of a feast by its distance from Easter Sunday, in days.
+fn feast_at(distance: i64) -> u8
+    ensures { λ r. ⌜ r ≡ placeFrom 17 (map (eqZ distance) easterOffsets) ⌝ }
 {
     let mut i = 0;
     while i < EASTER_FEASTS {
         let offset = EASTER_OFFSET[i];
+        let reason = KARFREITAG + (i as u8);
         i += 1;
         if offset == distance {
-            return true;
+            return reason;
         }
     }
-    false
+    WERKTAG
 }
 
-/// Whether a day is one of the feasts that move with Easter Sunday of its year.
-fn is_easter_feast(index: u32, year: u16) -> bool
+/// The reason of a feast that moves with Easter Sunday of the day's year.
+fn easter_feast(index: u32, year: u16) -> u8
     requires { ⌜ (index ≤ last) × (firstYear ≤ year) × (year ≤ lastYear) ⌝ }
-    ensures { λ r. ⌜ r ≡ isEasterFeast index year ⌝ }
+    ensures { λ r. ⌜ r ≡ placeFrom 17 (feastTests index year) ⌝ }
 {
     let easter = datum::days_before(easter_sunday(year));
-    is_offset((index as i64) - (easter as i64))
+    feast_at((index as i64) - (easter as i64))
 }
 
-/// Whether a day stands in the list: the fixed days, Buß- und Bettag, the feasts that move with Easter.
-fn is_bdew_mako_holiday(index: u32) -> bool
+/// The reason of a holiday of the list: the fixed days, Buß- und Bettag, the feasts that move with Easter. Of two
+/// holidays on one date it is the lower: 1 May 2008, Tag der Arbeit and Christi Himmelfahrt, has 6.
+fn bdew_mako_holiday(index: u32) -> u8
     requires { ⌜ index ≤ last ⌝ }
-    ensures { λ r. ⌜ r ≡ isBdewMakoHoliday index ⌝ }
+    ensures { λ r. ⌜ r ≡ placeFrom 3 (holidays index (dateOf index)) ⌝ }
 {
     let date = datum::date_of(index);
-    if is_fixed(date.month, date.day) {
-        return true;
+    let fixed = fixed_day(date.month, date.day);
+    if fixed != WERKTAG {
+        return fixed;
     }
     if is_buss_und_bettag(date.month, date.day, datum::weekday(index)) {
-        return true;
+        return BUSS_UND_BETTAG;
     }
-    is_easter_feast(index, date.year)
+    easter_feast(index, date.year)
+}
+
+/// Why a day, given by its index, is closed: '0 Werktag, 1 Saturday, 2 Sunday, 3 to 22 the holidays', in the list's
+/// order. The weekend goes before a holiday.
+///
+/// 18 November 2026, Buß- und Bettag, has 16; 8 March 2026, a Sunday and Internationaler Frauentag, has 2.
+pub fn reason(day: u32, cal: HolidayCalendar) -> u8
+    requires { ⌜ day ≤ last ⌝ }
+    ensures { λ r. ⌜ r ≡ reason cal day ⌝ }
+{
+    let weekend = weekend(day);
+    if weekend != WERKTAG {
+        return weekend;
+    }
+    match cal {
+        HolidayCalendar::BdewMaKo => bdew_mako_holiday(day),
+    }
 }
 
 /// Whether a day, given by its index, is a Werktag: 'not Saturday, Sunday or a holiday (GPKE Teil 1)'.
@@ -145,10 +197,5 @@ pub fn is_werktag(day: u32, cal: HolidayCalendar) -> bool
     requires { ⌜ day ≤ last ⌝ }
     ensures { λ r. ⌜ r ≡ isWerktag cal day ⌝ }
 {
-    if SATURDAY <= datum::weekday(day) {
-        return false;
-    }
-    match cal {
-        HolidayCalendar::BdewMaKo => !is_bdew_mako_holiday(day),
-    }
+    reason(day, cal) == WERKTAG
 }

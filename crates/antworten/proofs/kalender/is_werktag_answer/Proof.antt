@@ -23,8 +23,8 @@ returns : tie.Need-returns
 unfolding isWerktagAnswer
 returns c = search (needs, answer-rules)
 
-is-werktag-requires : tie.Need-is-werktag-requires
-is-werktag-requires c κs = search (needs, answer-rules)
+reason-requires : tie.Need-reason-requires
+reason-requires c κs = search (needs, answer-rules)
 
 of-kind-requires : tie.Need-of-kind-requires
 of-kind-requires c κs = search needs
@@ -32,13 +32,6 @@ of-kind-requires c κs = search needs
 returns-2 : tie.Need-returns-2
 unfolding isWerktagAnswer
 returns-2 c = search (needs, answer-rules)
-
-of-kind-requires-2 : tie.Need-of-kind-requires-2
-of-kind-requires-2 c κs = search needs
-
-returns-3 : tie.Need-returns-3
-unfolding isWerktagAnswer
-returns-3 c = search (needs, answer-rules)
 
 pub is-werktag-answer-spec : {M : Type 1} → statement M
 is-werktag-answer-spec =
@@ -49,8 +42,6 @@ is-werktag-answer-spec =
     enum-told
     refused-requires
     returns
-    is-werktag-requires
+    reason-requires
     of-kind-requires
-    returns-2
-    of-kind-requires-2
-    returns-3)
+    returns-2)

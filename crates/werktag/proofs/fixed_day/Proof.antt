@@ -1,28 +1,34 @@
--- `werktag::is_fixed` meets its contract. The invariant: the rest of the table decides.
+-- `werktag::fixed_day` meets its contract. The invariant: the rest of the table decides.
 -- Assumes nothing.
-use Prim.Native.Nat.{_≤_, _-_}
+use Prim.Native.Nat.{_≤_, _+_, _-_}
 use mathlib.Core.Path.{_≡_}
 use lib.ListN.{drop}
-use Rattle.werktag.specs.Werktag.{any, fixedDays, isFixed}
-use Rattle.werktag.proofs.Rules.{onDay, fixed-start, fixed-hit, fixed-other-day, fixed-other-month, fixed-none}
+use Rattle.werktag.specs.Reason.{placeFrom, fixedTests}
+use Rattle.werktag.proofs.Rules.{fixed-hit, fixed-other-day, fixed-other-month, fixed-none}
 use borrow.Author.Needs.{needs}
-use Rattle.werktag.proofs.is_fixed.Statement.{statement}
-use Rattle.werktag.proofs.is_fixed.Tie as tie
+use Rattle.werktag.proofs.fixed_day.Statement.{statement}
+use Rattle.werktag.proofs.fixed_day.Tie as tie
 
 abbrev Inv-loop : tie.InvT-loop
-Inv-loop month day i₀ i = (i ≤ 13) × (any (onDay month day) (drop i fixedDays) ≡ isFixed month day)
+Inv-loop month day i₀ i = (i ≤ 13) × (placeFrom (3 + i) (drop i (fixedTests month day)) ≡ placeFrom 3 (fixedTests month day))
 
 abbrev μ-loop : tie.MeasureT-loop
 μ-loop month day i₀ i = 13 - i
 
 loop-holds : tie.Need-loop-holds Inv-loop μ-loop
-loop-holds c = search (needs, fixed-start)
+loop-holds c = search needs
 
 array-read-m : tie.Need-array-read-m Inv-loop μ-loop
 array-read-m c = search needs
 
 array-read-d : tie.Need-array-read-d Inv-loop μ-loop
 array-read-d c = search needs
+
+cast-reason : tie.Need-cast-reason Inv-loop μ-loop
+cast-reason c = search needs
+
+add-reason : tie.Need-add-reason Inv-loop μ-loop
+add-reason c = search needs
 
 add-i : tie.Need-add-i Inv-loop μ-loop
 add-i c = search needs
@@ -45,8 +51,8 @@ loop-again-2 c = search (needs, fixed-other-month, c .if1 .left)
 returns-2 : tie.Need-returns-2 Inv-loop μ-loop
 returns-2 c = search (needs, fixed-none)
 
-pub is-fixed-spec : {M : Type 1} → statement M
-is-fixed-spec =
+pub fixed-day-spec : {M : Type 1} → statement M
+fixed-day-spec =
     tie.close
     (tie.spec
     Inv-loop
@@ -54,6 +60,8 @@ is-fixed-spec =
     loop-holds
     array-read-m
     array-read-d
+    cast-reason
+    add-reason
     add-i
     returns
     loop-less
