@@ -2,8 +2,8 @@ use crate::bytes;
 use crate::content::FromAnswer;
 use crate::fields::Fields;
 use crate::{
-    AbmeldungVorlauf, Call, Content, Date, Error, GasDue, Instant, Refusal, Span, Unreadable,
-    VorlaufVerdict,
+    AbmeldungVorlauf, Call, Content, Date, DayReason, Error, GasDue, Instant, Refusal, Span,
+    Unreadable, VorlaufVerdict,
 };
 use std::fmt;
 
@@ -59,7 +59,8 @@ impl Answer {
         self.bytes[REFUSAL]
     }
 
-    /// Which of its cases the answer is; what the numbers mean is the call's matter.
+    /// Which of its cases the answer is; what the numbers mean is the call's matter. It is 0 in a
+    /// refusal's answer too, so look at the [`number`](Answer::number) first.
     #[must_use]
     pub const fn kind(&self) -> u8 {
         self.bytes[KIND]
@@ -89,7 +90,7 @@ impl Answer {
         bytes::date(&self.bytes, LAST_DATE)
     }
 
-    /// What an answer of `call` says. Every byte of it counts: a kind that document 01 does not have
+    /// What an answer of `call` says. Every byte of it counts: a kind that the documents do not have
     /// for the call is an error, and so is a field that is not zero although the kind does not fill
     /// it, or a date or an instant outside the calendar. The type is the one that
     /// [`Call::content`] names; as any other, no answer can be read.
@@ -146,9 +147,9 @@ impl Answer {
     /// ```
     /// use mako_fristen_host::{Answer, Call};
     ///
-    /// let werktag = Answer::default().with_kind(1);
-    /// assert_eq!(werktag.checked(Call::IsWerktag), Ok(werktag));
-    /// assert!(werktag.checked(Call::AddWerktage).is_err(), "a step has no kind");
+    /// let karfreitag = Answer::default().with_kind(17);
+    /// assert_eq!(karfreitag.checked(Call::IsWerktag), Ok(karfreitag));
+    /// assert!(karfreitag.checked(Call::AddWerktage).is_err(), "a step has no kind");
     /// ```
     ///
     /// # Errors
@@ -160,7 +161,7 @@ impl Answer {
 
     fn checked_beside(&self, number: u8, call: Call) -> Result<Answer, Error> {
         match call.content() {
-            Content::Werktag => self.is_read_as::<bool>(number, call),
+            Content::Werktag => self.is_read_as::<DayReason>(number, call),
             Content::Date => self.is_read_as::<Date>(number, call),
             Content::Count => self.is_read_as::<u32>(number, call),
             Content::Instant => self.is_read_as::<Instant>(number, call),

@@ -1,4 +1,4 @@
-//! Whether the archive that is linked answers as document 01 has it.
+//! Whether the archive that is linked answers as documents 01 and 02 have it.
 
 use crate::{
     ffi, Answer, Call, Clock, ContrlAnlass, Date, Eeg, Frage, FristShape, Instant, Question,
@@ -6,11 +6,11 @@ use crate::{
 };
 
 /// For the start of a service: asks for an answer of every kind, and compares the 32 bytes with those
-/// that document 01 gives; for those of a file too, with a question of every operation.
+/// that documents 01 and 02 give; for those of a file too, with a question of every operation.
 ///
-/// That an answer can be read does not say that it still means the same. An archive whose day test
-/// has 0 for a Werktag, and not 1, would be read the wrong way round; here it is found. It takes some
-/// microseconds.
+/// That an answer can be read does not say that it still means the same. An older archive, whose day
+/// test gives 1 for a Werktag and 0 for every other day, would be read the wrong way round; here it
+/// is found. It takes some microseconds.
 ///
 /// ```
 /// assert_eq!(mako_fristen_host::check_archive(), Ok(()));
@@ -20,6 +20,7 @@ use crate::{
 ///
 /// The first answer that is another.
 pub fn check_archive() -> Result<(), Unreadable> {
+    checked(&day_tests())?;
     checked(&days())?;
     checked(&gas_due_instants())?;
     checked(&verdicts())?;
@@ -68,13 +69,42 @@ fn kind(kind: u8) -> Answer {
     Answer::default().with_kind(kind)
 }
 
+/// Every reason that a date has. 8 March 2026 is Frauentag too and 24 May Pfingstsonntag, but Sundays;
+/// 1 May 2008 is also 19, Christi Himmelfahrt.
+fn day_tests() -> [Row; 23] {
+    let rows = [
+        (date(4, 2), 0),
+        (date(4, 4), 1),
+        (date(3, 8), 2),
+        (date(5, 24), 2),
+        (date(1, 1), 3),
+        (date(1, 6), 4),
+        (Date::new(2024, 3, 8), 5),
+        (Date::new(2008, 5, 1), 6),
+        (Date::new(2025, 8, 15), 7),
+        (Date::new(2024, 9, 20), 8),
+        (Date::new(2025, 10, 3), 9),
+        (Date::new(2025, 10, 31), 10),
+        (Date::new(2024, 11, 1), 11),
+        (date(12, 24), 12),
+        (date(12, 25), 13),
+        (Date::new(2025, 12, 26), 14),
+        (date(12, 31), 15),
+        (date(11, 18), 16),
+        (date(4, 3), 17),
+        (date(4, 6), 18),
+        (date(5, 14), 19),
+        (date(5, 25), 21),
+        (date(6, 4), 22),
+    ];
+    rows.map(|(date, number)| (Question::on(Call::IsWerktag, date), kind(number)))
+}
+
 /// 2 April is the Thursday before Karfreitag, and the first Werktag after it is the 7th.
-fn days() -> [Row; 5] {
+fn days() -> [Row; 3] {
     let on = |call| Question::on(call, date(4, 2));
     let midnight = Instant::new(1_775_080_800, 0);
     [
-        (on(Call::IsWerktag), kind(1)),
-        (Question::on(Call::IsWerktag, date(4, 3)), kind(0)),
         (on(Call::AddWerktage).with_count(1), kind(0).with_date(date(4, 7))),
         (on(Call::WerktageBetween).with_second(date(4, 7)), kind(0).with_count(1)),
         (on(Call::BerlinMidnight), kind(0).with_instant(midnight)),
@@ -190,12 +220,19 @@ fn file() -> [FileRow; 5] {
 #[cfg(test)]
 mod tests {
     use super::*;
+    use crate::{DayReason, Feiertag};
 
-    /// All kinds of document 01, and its refusals but 1, which no 32 bytes hold; all operations.
+    /// All kinds but that of Pfingstsonntag, which no date has, and the refusals but 1, which no 32
+    /// bytes hold; all operations.
     #[test]
     fn every_kind_and_every_refusal_is_asked_for() {
         let kinds = |rows: &[Row]| rows.iter().map(|(_, answer)| answer.kind()).collect::<Vec<_>>();
-        assert_eq!(kinds(&days()), [1, 0, 0, 0, 0]);
+        let mut reasons = kinds(&day_tests());
+        reasons.dedup();
+        let given = |number: &u8| *number != Feiertag::Pfingstsonntag.number();
+        let known = (0..=u8::MAX).filter(|number| DayReason::of_number(*number).is_some());
+        assert_eq!(reasons, known.filter(given).collect::<Vec<_>>());
+        assert_eq!(kinds(&days()), [0, 0, 0]);
         assert_eq!(kinds(&gas_due_instants()), [0, 1]);
         assert_eq!(kinds(&verdicts()), [0, 1, 2, 3]);
         assert_eq!(kinds(&spans()), [0, 1, 2]);
@@ -206,11 +243,15 @@ mod tests {
         assert!(file().iter().all(|(frage, _)| frage.fragesatz().is_some()));
     }
 
+    /// What an archive gives whose day test says yes or no, 1 or 0, is another answer in every row.
     #[test]
     fn an_answer_that_means_something_else_is_found() {
-        let [(question, open), (_, closed), ..] = days();
-        let turned = checked(&[(question, closed)]);
-        assert_eq!(turned, Err(Unreadable { call: Call::IsWerktag, number: 0, answer: open }));
+        for (question, reason) in day_tests() {
+            let yes_or_no = kind(u8::from(reason.kind() == 0));
+            let turned = checked(&[(question, yes_or_no)]);
+            let found = Err(Unreadable { call: Call::IsWerktag, number: 0, answer: reason });
+            assert_eq!(turned, found, "{question}");
+        }
     }
 
     #[test]

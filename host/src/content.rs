@@ -1,9 +1,9 @@
-//! What the 32 bytes of an answer say, in the words of document 01: which kinds there are, and which
-//! fields each fills. Unused fields are zero.
+//! What the 32 bytes of an answer say, in the words of document 01, and of document 02 for the day
+//! test: which kinds there are, and which fields each fills. Unused fields are zero.
 //!
 //! | content | kind | fills |
 //! |---|---|---|
-//! | day test | 0 no Werktag, 1 Werktag | |
+//! | day test | 0 Werktag, 1 Saturday, 2 Sunday, 3 to 22 the holiday | |
 //! | step, day of an instant | 0 | date |
 //! | count | 0 | count |
 //! | instant | 0 | instant |
@@ -18,17 +18,21 @@
 //! | deregistration | 0 to 3, the case | |
 //! | announcement | 0 no, 1 yes, 2 neither | |
 //!
+//! A refused call has kind 0 too, which is a Werktag's: the refusal number is read first.
+//!
 //! A content is read by the kind, and then written again: where that does not give the very fields
 //! that came, they say something that this version does not know
 //! ([`Answer::read`](crate::Answer::read)).
 
 use crate::fields::Fields;
-use crate::{AbmeldungVorlauf, Call, Date, GasDue, GasProzess, Instant, Span, VorlaufVerdict};
+use crate::{
+    AbmeldungVorlauf, Call, Date, DayReason, GasDue, GasProzess, Instant, Span, VorlaufVerdict,
+};
 
 /// What the answers of a call hold.
 #[derive(Clone, Copy, Debug, PartialEq, Eq, Hash)]
 pub enum Content {
-    /// Whether a day is a Werktag: a `bool`.
+    /// Whether a day is a Werktag, and why not: a [`DayReason`].
     Werktag,
     /// A [`Date`]: of a step, or the day of an instant.
     Date,
@@ -56,10 +60,10 @@ pub trait FromAnswer: Sized {
     const CONTENT: Content;
 
     /// By the kind and the fields that it fills; the others are not looked at. None for a kind that
-    /// document 01 does not have for the call, and for a date or an instant outside the calendar.
+    /// the documents do not have for the call, and for a date or an instant outside the calendar.
     fn read(fields: &Fields, call: Call) -> Option<Self>;
 
-    /// The fields that document 01 has for it.
+    /// The fields that the documents have for it.
     fn written(&self) -> Fields;
 }
 
@@ -77,22 +81,15 @@ fn of_kind(kind: u8) -> Fields {
     Fields { kind, ..Fields::default() }
 }
 
-impl FromAnswer for bool {
+impl FromAnswer for DayReason {
     const CONTENT: Content = Content::Werktag;
 
-    fn read(fields: &Fields, _: Call) -> Option<bool> {
-        match fields.kind {
-            0 => Some(false),
-            1 => Some(true),
-            _ => None,
-        }
+    fn read(fields: &Fields, _: Call) -> Option<DayReason> {
+        DayReason::of_number(fields.kind)
     }
 
     fn written(&self) -> Fields {
-        match self {
-            false => of_kind(0),
-            true => of_kind(1),
-        }
+        of_kind(self.number())
     }
 }
 

@@ -26,7 +26,7 @@ use std::{error, fmt};
 pub enum Error {
     /// The call refused the question.
     Refused(Refusal),
-    /// The call gave an answer that document 01 does not have.
+    /// The call gave an answer that the documents do not have.
     Unreadable(Unreadable),
 }
 

@@ -1,69 +1,123 @@
-//! The names of the holidays of document 01. Easter is not computed again: Karfreitag is read off
-//! [`is_werktag`], and the other feasts follow from it.
+//! The holidays by name and number. When they are is for the day test to say: no rule of the list
+//! stands here, so that the list is the one that is proved.
 
 #[cfg(doc)]
 use crate::Refusal;
-use crate::{is_werktag, Date, Error, Weekday};
+use crate::{day_reason, Date, DayReason, Error};
+use std::fmt;
 
-/// When a holiday is.
-#[derive(Clone, Copy, Debug, PartialEq, Eq)]
-enum Rule {
-    /// Month and day.
-    Fixed(u8, u8),
-    /// The Wednesday from 16 to 22 November.
-    BussUndBettag,
-    /// Days after Easter Sunday, or before it.
-    Easter(i64),
+macro_rules! feiertage {
+    ($($case:ident $name:literal;)+) => {
+        /// A holiday of the list of document 01, in its order.
+        #[derive(Clone, Copy, Debug, PartialEq, Eq, PartialOrd, Ord, Hash)]
+        #[repr(u8)]
+        pub enum Feiertag {
+            $(#[doc = concat!($name, ".")] $case,)+
+        }
+
+        impl Feiertag {
+            /// In the order of their numbers, from 3.
+            pub const ALL: [Feiertag; [$(Feiertag::$case),+].len()] = [$(Feiertag::$case),+];
+
+            /// The German name.
+            ///
+            /// ```
+            /// use mako_fristen_host::Feiertag;
+            ///
+            /// assert_eq!(Feiertag::BussUndBettag.name(), "Buß- und Bettag");
+            /// ```
+            #[must_use]
+            pub const fn name(self) -> &'static str {
+                match self {
+                    $(Feiertag::$case => $name,)+
+                }
+            }
+        }
+    };
 }
 
-/// A holiday of document 01.
-#[derive(Clone, Copy, Debug, PartialEq, Eq)]
-pub struct Feiertag {
-    /// The German name.
-    pub name: &'static str,
-    rule: Rule,
+feiertage! {
+    Neujahr "Neujahr";
+    HeiligeDreiKoenige "Heilige Drei Könige";
+    InternationalerFrauentag "Internationaler Frauentag";
+    TagDerArbeit "Tag der Arbeit";
+    MariaeHimmelfahrt "Mariä Himmelfahrt";
+    Weltkindertag "Weltkindertag";
+    TagDerDeutschenEinheit "Tag der Deutschen Einheit";
+    Reformationstag "Reformationstag";
+    Allerheiligen "Allerheiligen";
+    Heiligabend "Heiligabend";
+    ErsterWeihnachtsfeiertag "Erster Weihnachtsfeiertag";
+    ZweiterWeihnachtsfeiertag "Zweiter Weihnachtsfeiertag";
+    Silvester "Silvester";
+    BussUndBettag "Buß- und Bettag";
+    Karfreitag "Karfreitag";
+    Ostermontag "Ostermontag";
+    ChristiHimmelfahrt "Christi Himmelfahrt";
+    Pfingstsonntag "Pfingstsonntag";
+    Pfingstmontag "Pfingstmontag";
+    Fronleichnam "Fronleichnam";
 }
 
-const fn fixed(month: u8, day: u8, name: &'static str) -> Feiertag {
-    Feiertag { name, rule: Rule::Fixed(month, day) }
-}
-
-const fn easter(days: i64, name: &'static str) -> Feiertag {
-    Feiertag { name, rule: Rule::Easter(days) }
-}
+/// Behind those of a Werktag, a Saturday and a Sunday.
+const FIRST_NUMBER: u8 = 3;
+/// Up to this one they are on the same day and month in every year.
+const LAST_FIXED: Feiertag = Feiertag::Silvester;
 
 impl Feiertag {
-    /// In the order of document 01.
-    pub const ALL: [Feiertag; 20] = [
-        fixed(1, 1, "Neujahr"),
-        fixed(1, 6, "Heilige Drei Könige"),
-        fixed(3, 8, "Internationaler Frauentag"),
-        fixed(5, 1, "Tag der Arbeit"),
-        fixed(8, 15, "Mariä Himmelfahrt"),
-        fixed(9, 20, "Weltkindertag"),
-        fixed(10, 3, "Tag der Deutschen Einheit"),
-        fixed(10, 31, "Reformationstag"),
-        fixed(11, 1, "Allerheiligen"),
-        fixed(12, 24, "Heiligabend"),
-        fixed(12, 25, "Erster Weihnachtsfeiertag"),
-        fixed(12, 26, "Zweiter Weihnachtsfeiertag"),
-        fixed(12, 31, "Silvester"),
-        Feiertag { name: "Buß- und Bettag", rule: Rule::BussUndBettag },
-        easter(KARFREITAG, "Karfreitag"),
-        easter(1, "Ostermontag"),
-        easter(39, "Christi Himmelfahrt"),
-        easter(49, "Pfingstsonntag"),
-        easter(50, "Pfingstmontag"),
-        easter(60, "Fronleichnam"),
-    ];
+    /// The number by which the day test knows it, from 3: its place in the list.
+    ///
+    /// ```
+    /// use mako_fristen_host::Feiertag;
+    ///
+    /// assert_eq!(Feiertag::Neujahr.number(), 3);
+    /// assert_eq!(Feiertag::Fronleichnam.number(), 22);
+    /// ```
+    #[must_use]
+    pub const fn number(self) -> u8 {
+        self as u8 + FIRST_NUMBER
+    }
 
-    /// The holidays of a year by date; two on one date in the order of document 01.
+    pub(crate) fn of_number(number: u8) -> Option<Feiertag> {
+        let place = number.checked_sub(FIRST_NUMBER)?;
+        Feiertag::ALL.get(usize::from(place)).copied()
+    }
+
+    /// The holiday on a date, be it a weekday or not; of two the lower number, as on 1 May 2008,
+    /// which is Christi Himmelfahrt too. On a weekend the day test does not name it
+    /// ([`day_reason`]).
+    ///
+    /// ```
+    /// use mako_fristen_host::{day_reason, Date, DayReason, Feiertag};
+    ///
+    /// let sunday = Date::new(2026, 3, 8);
+    /// assert_eq!(day_reason(sunday), Ok(DayReason::Sonntag));
+    /// assert_eq!(Feiertag::on(sunday), Ok(Some(Feiertag::InternationalerFrauentag)));
+    /// assert_eq!(Feiertag::on(Date::new(2008, 5, 1)), Ok(Some(Feiertag::TagDerArbeit)));
+    /// assert_eq!(Feiertag::on(Date::new(2026, 4, 7)), Ok(None));
+    /// ```
+    ///
+    /// # Errors
+    ///
+    /// [`Refusal::NoDate`].
+    pub fn on(date: Date) -> Result<Option<Feiertag>, Error> {
+        match day_reason(date)? {
+            DayReason::Werktag => Ok(None),
+            DayReason::Samstag => fixed(date),
+            DayReason::Sonntag => Ok(fixed(date)?.or(pfingstsonntag(date)?)),
+            DayReason::Feiertag(holiday) => Ok(Some(holiday)),
+        }
+    }
+
+    /// The holidays of a year by date, one a date: twenty, or nineteen if 1 May is also Christi
+    /// Himmelfahrt.
     ///
     /// ```
     /// use mako_fristen_host::{Date, Feiertag};
     ///
-    /// let (date, holiday) = Feiertag::of_year(2026)?[3];
-    /// assert_eq!((date, holiday.name), (Date::new(2026, 4, 3), "Karfreitag"));
+    /// let holidays = Feiertag::of_year(2026)?;
+    /// assert_eq!(holidays[3], (Date::new(2026, 4, 3), Feiertag::Karfreitag));
+    /// assert_eq!((holidays.len(), Feiertag::of_year(2008)?.len()), (20, 19));
     /// # Ok::<(), mako_fristen_host::Error>(())
     /// ```
     ///
@@ -71,55 +125,42 @@ impl Feiertag {
     ///
     /// [`Refusal::NoDate`], for a year that is none from 1996 to 2899.
     pub fn of_year(year: u16) -> Result<Vec<(Date, Feiertag)>, Error> {
-        let karfreitag = karfreitag(year)?;
-        let dated = |holiday: Feiertag| Some((holiday.rule.date(year, karfreitag)?, holiday));
-        let mut holidays: Vec<_> = Feiertag::ALL.into_iter().filter_map(dated).collect();
-        holidays.sort_by_key(|&(date, _)| date);
-        Ok(holidays)
-    }
-
-    /// The holidays on a date: mostly none, and seldom two, as on 1 May 2008.
-    ///
-    /// ```
-    /// use mako_fristen_host::{Date, Feiertag};
-    ///
-    /// let names: Vec<_> = Feiertag::on(Date::new(2008, 5, 1))?.iter().map(|day| day.name).collect();
-    /// assert_eq!(names, ["Tag der Arbeit", "Christi Himmelfahrt"]);
-    /// # Ok::<(), mako_fristen_host::Error>(())
-    /// ```
-    ///
-    /// # Errors
-    ///
-    /// [`Refusal::NoDate`].
-    pub fn on(date: Date) -> Result<Vec<Feiertag>, Error> {
-        is_werktag(date)?;
-        let holidays = Feiertag::of_year(date.year)?.into_iter();
-        Ok(holidays.filter(|(day, _)| *day == date).map(|(_, holiday)| holiday).collect())
+        let months = 1..=12;
+        let days = months.flat_map(|month| (1..=31).map(move |day| Date::new(year, month, day)));
+        let dates = days.filter(|day| day.weekday().is_some());
+        let named = |date| Feiertag::on(date).map(|holiday| Some((date, holiday?)));
+        dates.filter_map(|date| named(date).transpose()).collect()
     }
 }
 
-const KARFREITAG: i64 = -2;
-
-impl Rule {
-    fn date(self, year: u16, karfreitag: Option<Date>) -> Option<Date> {
-        match self {
-            Rule::Fixed(month, day) => Some(Date::new(year, month, day)),
-            Rule::BussUndBettag => {
-                let mut days = (16..=22).map(|day| Date::new(year, 11, day));
-                days.find(|day| day.weekday() == Some(Weekday::Mittwoch))
-            }
-            Rule::Easter(days) => karfreitag?.plus_days(days - KARFREITAG),
-        }
-    }
-}
-
-/// The only Friday from 20 March to 23 April that is closed: no other holiday lies there.
-fn karfreitag(year: u16) -> Result<Option<Date>, Error> {
-    let days = (0..35).filter_map(|day| Date::new(year, 3, 20).plus_days(day));
-    for friday in days.filter(|day| day.weekday() == Some(Weekday::Freitag)) {
-        if !is_werktag(friday)? {
-            return Ok(Some(friday));
+/// The fixed holiday of a date on a weekend: the one that the day test gives for the same day and
+/// month in the nearest year in which it is a weekday, at most two years away. There it is not hidden:
+/// the fixed ones have the lower numbers. 29 February has none.
+fn fixed(date: Date) -> Result<Option<Feiertag>, Error> {
+    let years = [date.year - 1, date.year + 1, date.year - 2, date.year + 2];
+    let days = years.map(|year| Date { year, ..date });
+    for day in days.into_iter().filter(|day| day.is_in_calendar()) {
+        match day_reason(day)? {
+            DayReason::Samstag | DayReason::Sonntag => {}
+            DayReason::Feiertag(holiday) if holiday <= LAST_FIXED => return Ok(Some(holiday)),
+            DayReason::Werktag | DayReason::Feiertag(_) => return Ok(None),
         }
     }
     Ok(None)
+}
+
+/// The only other one on a weekend is the Sunday before Pfingstmontag.
+fn pfingstsonntag(sunday: Date) -> Result<Option<Feiertag>, Error> {
+    let Some(monday) = sunday.plus_days(1).filter(|day| day.is_in_calendar()) else {
+        return Ok(None);
+    };
+    let whit = day_reason(monday)? == DayReason::Feiertag(Feiertag::Pfingstmontag);
+    Ok(whit.then_some(Feiertag::Pfingstsonntag))
+}
+
+/// The German name.
+impl fmt::Display for Feiertag {
+    fn fmt(&self, f: &mut fmt::Formatter<'_>) -> fmt::Result {
+        f.pad(self.name())
+    }
 }

@@ -5,8 +5,11 @@
 //!
 //! let mut answer = [0; 32];
 //! assert_eq!(mf_is_werktag(2026, 4, 2, &mut answer), 0);
-//! assert_eq!(answer[1], 1, "a Werktag");
+//! assert_eq!(answer[1], 0, "a Werktag");
+//! assert_eq!(mf_is_werktag(2026, 4, 3, &mut answer), 0);
+//! assert_eq!(answer[1], 17, "Karfreitag");
 //! assert_eq!(mf_is_werktag(2026, 2, 29, &mut answer), 3, "no date");
+//! assert_eq!(answer[1], 0, "and no Werktag: the number that is returned comes first");
 //! assert_eq!(mf_is_werktag(2026, 4, 2, &mut answer[..31]), 1, "no room for an answer");
 //! ```
 //!

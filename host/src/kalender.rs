@@ -2,9 +2,9 @@
 //! 1 January 1996 to 31 December 2899 ([`Refusal::NoDate`]), and every step one that would leave
 //! that range ([`Refusal::LeavesCalendar`]).
 
+use crate::{Call, Date, DayReason, Error, Question};
 #[cfg(doc)]
-use crate::Refusal;
-use crate::{Call, Date, Error, Question};
+use crate::{Feiertag, Refusal};
 
 /// Whether `date` is a Werktag: not Saturday, Sunday or a holiday of any Bundesland (GPKE Teil 1).
 /// Karfreitag 2026 is none, and neither is Buß- und Bettag, a holiday of Sachsen alone.
@@ -21,6 +21,29 @@ use crate::{Call, Date, Error, Question};
 ///
 /// [`Refusal::NoDate`].
 pub fn is_werktag(date: Date) -> Result<bool, Error> {
+    Ok(day_reason(date)?.is_werktag())
+}
+
+/// Whether `date` is a Werktag, and if not, why: Saturday, Sunday or a holiday. A weekend goes before
+/// a holiday, which [`Feiertag::on`] then names; of two holidays on one date it is the lower number.
+///
+/// ```
+/// use mako_fristen_host::{day_reason, Date, DayReason, Feiertag};
+///
+/// assert_eq!(day_reason(Date::new(2026, 4, 2)), Ok(DayReason::Werktag));
+/// let karfreitag = day_reason(Date::new(2026, 4, 3))?;
+/// assert_eq!(karfreitag, DayReason::Feiertag(Feiertag::Karfreitag));
+/// assert_eq!((karfreitag.number(), karfreitag.name()), (17, "Karfreitag"));
+/// assert_eq!(day_reason(Date::new(2026, 3, 8)), Ok(DayReason::Sonntag), "and Frauentag");
+/// let both = day_reason(Date::new(2008, 5, 1))?;
+/// assert_eq!(both.name(), "Tag der Arbeit", "and Christi Himmelfahrt");
+/// # Ok::<(), mako_fristen_host::Error>(())
+/// ```
+///
+/// # Errors
+///
+/// [`Refusal::NoDate`].
+pub fn day_reason(date: Date) -> Result<DayReason, Error> {
     Question::on(Call::IsWerktag, date).content()
 }
 

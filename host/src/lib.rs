@@ -2,7 +2,7 @@
 //!
 //! | Question | Answer |
 //! |---|---|
-//! | *Is this date a Werktag?* | [`is_werktag`] |
+//! | *Is this date a Werktag? Why not?* | [`is_werktag`], [`day_reason`] |
 //! | *Which is the first Werktag on or after it?* | [`next_werktag`] |
 //! | *Which day is n Werktage later, or earlier?* | [`add_werktage`], [`sub_werktage`] |
 //! | *How many Werktage lie between two dates?* | [`werktage_between`] |
@@ -26,8 +26,8 @@
 //! | *Did the 13:00 announcement come in time?* | [`eog_ankuendigung_fristgerecht`] |
 //! | *What is the answer to each of a day's questions?* | [`fragen`] |
 //!
-//! A call answers, or refuses with one of the numbers of document 01, which [`Refusal`] names. What
-//! is neither is an [`Error::Unreadable`]. No input makes a function of this crate panic.
+//! A call answers, or refuses with one of the numbers of documents 01 and 02, which [`Refusal`]
+//! names. What is neither is an [`Error::Unreadable`]. No input makes a function of this crate panic.
 //! [`Question`] puts any call as a value, [`Frage`] the four that a file of questions has, and
 //! [`ffi`] has the calls themselves, with an answer of any length.
 //!
@@ -74,7 +74,7 @@
 //!
 //! # Answers that cannot be read
 //!
-//! Every byte of an answer is looked at. A number or a kind that document 01 does not have for the
+//! Every byte of an answer is looked at. A number or a kind that the documents do not have for the
 //! call, something in a field that the kind does not fill, a date or an instant outside the calendar:
 //! each is an [`Error::Unreadable`], from any function, and never taken for the answer next to it.
 //! It comes only from an archive of another version than this crate. A kind that means something else
@@ -104,6 +104,7 @@ mod call;
 mod clock;
 mod content;
 mod date;
+mod day_reason;
 mod eeg;
 mod error;
 mod feiertage;
@@ -143,6 +144,7 @@ pub use call::Call;
 pub use clock::{Clock, ClockError};
 pub use content::Content;
 pub use date::{Date, DateError};
+pub use day_reason::DayReason;
 pub use eeg::Eeg;
 pub use error::Error;
 pub use feiertage::Feiertag;
@@ -159,7 +161,7 @@ pub use fristen::{
 pub use gas::{GasDue, GasProzess};
 pub use instant::{Instant, InstantError};
 pub use kalender::{
-    add_months, add_werktage, is_werktag, next_werktag, sub_werktage, subtract_months,
+    add_months, add_werktage, day_reason, is_werktag, next_werktag, sub_werktage, subtract_months,
     werktage_between,
 };
 pub use parameter::Parameter;

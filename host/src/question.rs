@@ -153,10 +153,10 @@ impl Question {
     /// ```
     /// use mako_fristen_host::{Call, Date, Question};
     ///
-    /// let question = Question::on(Call::IsWerktag, Date::new(2026, 4, 2));
+    /// let question = Question::on(Call::IsWerktag, Date::new(2026, 4, 3));
     /// let mut answers = [7; 33];
     /// assert_eq!((question.ask(&mut answers), answers), (1, [7; 33]));
-    /// assert_eq!((question.ask(&mut answers[..32]), answers[1]), (0, 1));
+    /// assert_eq!((question.ask(&mut answers[..32]), answers[1]), (0, 17), "Karfreitag");
     /// ```
     #[must_use]
     pub fn ask(&self, answer: &mut [u8]) -> u8 {
@@ -176,7 +176,7 @@ impl Question {
     ///
     /// # Errors
     ///
-    /// The refusal whose number the call returned; an answer that document 01 does not have.
+    /// The refusal whose number the call returned; an answer that the documents do not have.
     pub fn answer(&self) -> Result<Answer, Error> {
         Answer::of(self.call, |answer| self.ask(answer))
     }

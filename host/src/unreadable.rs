@@ -1,7 +1,7 @@
 use crate::{Answer, Call};
 use std::{error, fmt};
 
-/// An answer that document 01 does not have: a number, a kind, or something in a field that the kind
+/// An answer that the documents do not have: a number, a kind, or something in a field that the kind
 /// does not fill. The archive is of another version than this host, and what it means is not known.
 /// It is no refusal, and no verdict either.
 #[derive(Clone, Copy, Debug, PartialEq, Eq, Hash)]

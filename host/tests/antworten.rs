@@ -10,12 +10,14 @@ fn bytes_of(call: impl Fn(&mut [u8]) -> u8) -> [u8; 32] {
     answer
 }
 
+/// The byte 1 alone: a Werktag, Saturday, Sunday, Karfreitag.
 #[test]
 fn a_day_test() {
-    let mut werktag = [0; 32];
-    werktag[1] = 1;
-    assert_eq!(bytes_of(|a| ffi::mf_is_werktag(2026, 4, 2, a)), werktag);
-    assert_eq!(bytes_of(|a| ffi::mf_is_werktag(2026, 4, 3, a)), [0; 32]);
+    for (day, kind) in [(2, 0), (3, 17), (4, 1), (5, 2)] {
+        let mut expected = [0; 32];
+        expected[1] = kind;
+        assert_eq!(bytes_of(|a| ffi::mf_is_werktag(2026, 4, day, a)), expected);
+    }
 }
 
 /// 7 April 2026: 2026 is 0x07ea.

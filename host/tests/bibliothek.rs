@@ -109,7 +109,7 @@ fn typed(q: &Question) -> Option<Given> {
 
 fn by_date(q: &Question) -> Option<Given> {
     Some(match q.call {
-        Call::IsWerktag => is_werktag(q.date).map(|yes| kind(yes.into())),
+        Call::IsWerktag => day_reason(q.date).map(|reason| kind(reason.number())),
         Call::NextWerktag => next_werktag(q.date).map(dated),
         Call::AddWerktage => add_werktage(q.date, q.n).map(dated),
         Call::SubWerktage => sub_werktage(q.date, q.n).map(dated),
@@ -315,7 +315,7 @@ fn threads_ask_at_the_same_time() {
     is_plain::<(Error, Refusal, Unreadable, Content)>();
     is_plain::<(Call, Parameter, ContrlAnlass, Sparte, Eeg, GasDue, FristShape)>();
     is_plain::<(VorlaufShape, VorlaufVerdict, Span, AbmeldungVorlauf)>();
-    is_plain::<(Frage, Fragesatz, Antwort)>();
+    is_plain::<(Frage, Fragesatz, Antwort, DayReason, Feiertag)>();
     let mut random = Random(0x6661_6465);
     let questions: Vec<Question> = Call::ALL.map(|call| random.question(call)).to_vec();
     let answers = || questions.iter().map(Question::answer).collect::<Vec<Given>>();
@@ -369,7 +369,8 @@ fn every_date_is_counted_or_none() {
         assert_eq!((again.is_some(), again.unwrap_or(date)), (date.weekday().is_some(), date));
         assert_eq!(Date::of_day_number(number), None);
         assert_eq!(date.plus_days(number), None);
-        let holiday = Feiertag::on(date).is_ok_and(|holidays| !holidays.is_empty());
+        assert_eq!(is_werktag(date), day_reason(date).map(DayReason::is_werktag), "{date}");
+        let holiday = Feiertag::on(date).is_ok_and(|holiday| holiday.is_some());
         assert!(!(holiday && is_werktag(date) == Ok(true)), "{date}");
         assert_eq!(Feiertag::of_year(date.year).is_ok(), (1996..2900).contains(&date.year));
     }

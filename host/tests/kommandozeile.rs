@@ -6,7 +6,9 @@ mod fragen;
 #[path = "kommandozeile/saetze.rs"]
 mod saetze;
 
-use mako_fristen_host::{ffi, Answer, Call, Clock, Date, Instant, Parameter, Question, Reason};
+use mako_fristen_host::{
+    ffi, Answer, Call, Clock, Date, DayReason, Instant, Parameter, Question, Reason,
+};
 use saetze::{CASES, DAYS, DUE, JSON, LABELS, SPANS, VERDICTS, VERDICTS_JSON};
 use std::ffi::{OsStr, OsString};
 use std::fs;
@@ -225,6 +227,37 @@ fn refusals_with_their_number() {
     }
 }
 
+/// Its kind is 0, as a Werktag's: neither words nor JSON nor the status may say that it is one.
+#[test]
+fn a_refused_day_is_no_werktag() {
+    for day in ["1995-12-31", "2900-01-01", "2026-02-29"] {
+        let sentence = printed(&["tag", day], 2);
+        assert!(sentence.starts_with("Abgelehnt (3): "), "{sentence}");
+        let json = printed(&["tag", day, "--json"], 2);
+        assert!(json.contains("\"refusal\":{\"number\":3,"), "{json}");
+        for text in [&sentence, &json] {
+            assert!(!text.contains("Werktag") && !text.contains("\"werktag\""), "{text}");
+            assert!(!text.contains("\"kind\""), "{text}");
+        }
+        assert_eq!(printed(&["tag", day, "--bytes"], 2), format!("03{}\n", "00".repeat(31)));
+    }
+    assert_eq!(printed(&["tag", "2026-04-07", "--bytes"], 0), format!("{}\n", "00".repeat(32)));
+}
+
+/// All of them beside their names, and that a refusal is none.
+#[test]
+fn the_help_of_tag_has_the_reasons() {
+    let help = printed(&["tag", "--help"], 0);
+    let reasons = (0..=22).filter_map(DayReason::of_number);
+    let rows: String = reasons.map(|r| format!("  {:2}  {}\n", r.number(), r.name())).collect();
+    assert!(
+        rows.starts_with("   0  Werktag\n") && rows.ends_with("  22  Fronleichnam\n"),
+        "{rows}"
+    );
+    assert!(help.contains(&format!("\n{rows}\n")), "{help}");
+    assert!(help.contains("\nEin abgelehnter Aufruf ist keine Antwort"), "{help}");
+}
+
 const WRONG: &[(&str, &str)] = &[
     ("tag", "es fehlt: DATUM"),
     ("tag 2026-4-2", "DATUM: erwartet ein Datum wie 2026-04-02, nicht „2026-4-2“"),
@@ -316,8 +349,13 @@ fn the_calendar_of_a_year_as_json() {
                  \"werktage\":249,\"werktage_by_month\":[20,20,22,20,18,21,23,21,22,22,20,20],\
                  \"closed\":[\"2026-01-01\",\"2026-01-03\",";
     assert!(year.starts_with(begin) && year.lines().count() == 1, "{year}");
-    let end = "{\"date\":\"2026-12-31\",\"weekday\":\"Donnerstag\",\"name\":\"Silvester\"}]}\n";
+    let end = "{\"date\":\"2026-12-31\",\"weekday\":\"Donnerstag\",\"number\":15,\
+               \"name\":\"Silvester\",\"reason\":15}]}\n";
     assert!(year.ends_with(end), "{year}");
+    let sunday = "{\"date\":\"2026-03-08\",\"weekday\":\"Sonntag\",\"number\":5,\
+                  \"name\":\"Internationaler Frauentag\",\"reason\":2},";
+    assert!(year.contains(sunday), "{year}");
+    assert_eq!(year.matches("\"number\":").count(), 20, "{year}");
 }
 
 /// The second case of every code.
@@ -433,7 +471,8 @@ fn the_calendar_of_a_year() {
     assert_eq!(lines[0], "Kalender 2008 (* kein Werktag)");
     assert_eq!(lines[4], "    1* 2  3  4  5* 6*                1  2* 3*                   1* 2*");
     assert!(sheet.contains("\n 1. Mai        Donnerstag  Tag der Arbeit\n"));
-    assert!(sheet.contains("\n 1. Mai        Donnerstag  Christi Himmelfahrt\n"));
+    assert!(sheet.contains("\n11. Mai        Sonntag     Pfingstsonntag\n"));
+    assert!(!sheet.contains("Christi Himmelfahrt"), "it is on 1 May too");
     assert!(!sheet.contains('\x1b'));
     assert!(lines.iter().all(|line| line.chars().count() <= 80 && !line.ends_with(' ')));
 }

@@ -2,8 +2,8 @@
 //! made here, and no call is asked.
 
 use mako_fristen_host::{
-    AbmeldungVorlauf, Answer, Call, Date, Error, GasDue, GasProzess, Instant, Refusal, Span,
-    Unreadable, VorlaufVerdict,
+    AbmeldungVorlauf, Answer, Call, Date, DayReason, Error, Feiertag, GasDue, GasProzess, Instant,
+    Refusal, Span, Unreadable, VorlaufVerdict,
 };
 use std::ops::Range;
 
@@ -31,11 +31,11 @@ fn timed() -> Answer {
     Answer::default().with_instant(INSTANT)
 }
 
-/// One answer of each kind that document 01 has for the call. No field that it fills is zero.
+/// One answer of each kind that the documents have for the call. No field that it fills is zero.
 fn answers(call: Call) -> Vec<Answer> {
     let too_late = counted().with_kind(1).with_date(DAY);
     match call {
-        Call::IsWerktag => vec![kind(0), kind(1)],
+        Call::IsWerktag => (0..=22).map(kind).collect(),
         Call::NextWerktag
         | Call::AddWerktage
         | Call::SubWerktage
@@ -272,8 +272,12 @@ fn each_content_as_its_type() {
     let too_late = VorlaufVerdict::TooLate { shortfall_wt: COUNT, earliest_possible: DAY };
     let late = counted().with_kind(1).with_date(DAY);
     let initial = GasDue { kind: GasProzess::Initialprozess, due: INSTANT };
-    assert_eq!(kind(0).read(Call::IsWerktag), Ok(false));
-    assert_eq!(kind(1).read(Call::IsWerktag), Ok(true));
+    assert_eq!(kind(0).read(Call::IsWerktag), Ok(DayReason::Werktag));
+    assert_eq!(kind(1).read(Call::IsWerktag), Ok(DayReason::Samstag));
+    assert_eq!(kind(2).read(Call::IsWerktag), Ok(DayReason::Sonntag));
+    for (number, holiday) in (3..).zip(Feiertag::ALL) {
+        assert_eq!(kind(number).read(Call::IsWerktag), Ok(DayReason::Feiertag(holiday)));
+    }
     assert_eq!(dated().read(Call::AddWerktage), Ok(DAY));
     assert_eq!(counted().read(Call::WerktageBetween), Ok(COUNT));
     assert_eq!(timed().read(Call::ContrlDueAt), Ok(INSTANT));
@@ -307,11 +311,11 @@ fn no_answer_is_read_as_another_type() {
 
 #[test]
 fn an_unreadable_answer_has_its_sentence() {
-    let error = kind(22).read::<bool>(Call::IsWerktag).unwrap_err();
+    let error = kind(23).read::<DayReason>(Call::IsWerktag).unwrap_err();
     assert_eq!(error.refusal(), None);
     let Error::Unreadable(unreadable) = error else { panic!("{error}") };
     let sentence = format!(
-        "mf_is_werktag returned 0 and an answer that this host cannot read: 0016{}",
+        "mf_is_werktag returned 0 and an answer that this host cannot read: 0017{}",
         "00".repeat(30)
     );
     assert_eq!(unreadable.to_string(), sentence);

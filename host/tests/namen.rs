@@ -1,17 +1,13 @@
-//! Weekdays, holidays by name, the Berlin clock of an instant, and the German labels.
+//! Weekdays, the Berlin clock of an instant, and the German labels.
 
 use mako_fristen_host::{
-    berlin_at, is_werktag, AbmeldungVorlauf, BerlinTime, Clock, Date, Feiertag, FristShape,
-    GasProzess, Instant, Refusal, VorlaufShape, Weekday, APERAK_STROM_ALLGEMEIN_LABEL,
-    APERAK_STROM_WINDOW_LABEL, CONTRL_FRIST_LABEL,
+    berlin_at, AbmeldungVorlauf, BerlinTime, Clock, Date, FristShape, GasProzess, Instant, Refusal,
+    VorlaufShape, Weekday, APERAK_STROM_ALLGEMEIN_LABEL, APERAK_STROM_WINDOW_LABEL,
+    CONTRL_FRIST_LABEL,
 };
 
 const fn date(year: u16, month: u8, day: u8) -> Date {
     Date::new(year, month, day)
-}
-
-fn names(date: Date) -> Vec<&'static str> {
-    Feiertag::on(date).expect("a date").iter().map(|holiday| holiday.name).collect()
 }
 
 #[test]
@@ -45,41 +41,6 @@ fn a_day_number_and_its_date_undo_each_other() {
     assert_eq!(Date::of_day_number(i64::MIN), None);
     assert_eq!(date(2026, 2, 28).plus_days(1), Some(date(2026, 3, 1)));
     assert_eq!(date(2026, 2, 28).plus_days(i64::MAX), None);
-}
-
-/// Every date of the calendar: it is closed exactly if it is a Saturday, a Sunday or named.
-#[test]
-fn a_closed_day_has_a_reason() {
-    for year in 1996..=2899 {
-        let holidays = Feiertag::of_year(year).expect("a year of the calendar");
-        assert_eq!(holidays.len(), Feiertag::ALL.len(), "{year}");
-        let mut day = date(year, 1, 1);
-        while day.year == year {
-            let weekend = day.weekday() >= Some(Weekday::Samstag);
-            let named = holidays.iter().any(|(holiday, _)| *holiday == day);
-            assert_eq!(is_werktag(day), Ok(!weekend && !named), "{day}");
-            day = day.plus_days(1).expect("a day");
-        }
-    }
-}
-
-#[test]
-fn holidays_by_name() {
-    assert_eq!(names(date(2026, 4, 3)), ["Karfreitag"]);
-    assert_eq!(names(date(2026, 4, 5)), [""; 0]);
-    assert_eq!(names(date(2026, 4, 6)), ["Ostermontag"]);
-    assert_eq!(names(date(2026, 5, 14)), ["Christi Himmelfahrt"]);
-    assert_eq!(names(date(2026, 5, 24)), ["Pfingstsonntag"]);
-    assert_eq!(names(date(2026, 5, 25)), ["Pfingstmontag"]);
-    assert_eq!(names(date(2026, 6, 4)), ["Fronleichnam"]);
-    assert_eq!(names(date(2026, 11, 18)), ["Buß- und Bettag"]);
-    assert_eq!(names(date(2026, 8, 15)), ["Mariä Himmelfahrt"]);
-    assert_eq!(names(date(2008, 5, 1)), ["Tag der Arbeit", "Christi Himmelfahrt"]);
-    assert_eq!(names(date(2008, 3, 21)), ["Karfreitag"]);
-    assert_eq!(names(date(2038, 4, 23)), ["Karfreitag"]);
-    assert_eq!(Feiertag::on(date(2026, 2, 29)), Err(Refusal::NoDate.into()));
-    assert_eq!(Feiertag::of_year(1995), Err(Refusal::NoDate.into()));
-    assert_eq!(Feiertag::of_year(2900), Err(Refusal::NoDate.into()));
 }
 
 #[test]

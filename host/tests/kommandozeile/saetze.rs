@@ -92,14 +92,21 @@ pub const VERDICTS: &[(&str, &str)] = &[
 
 pub const DAYS: &[(&str, &str)] = &[
     ("tag 2026-04-07", "Dienstag, der 7. April 2026, ist ein Werktag."),
+    ("tag 2026-04-04", "Samstag, der 4. April 2026, ist kein Werktag: Samstag."),
+    ("tag 2026-04-05", "Sonntag, der 5. April 2026, ist kein Werktag: Sonntag."),
     (
         "tag 2026-08-15",
-        "Samstag, der 15. August 2026, ist kein Werktag: Samstag und Mariä Himmelfahrt.",
+        "Samstag, der 15. August 2026, ist kein Werktag: Samstag; auch Mariä Himmelfahrt.",
     ),
     (
-        "tag 2008-05-01",
-        "Donnerstag, der 1. Mai 2008, ist kein Werktag: Tag der Arbeit und Christi Himmelfahrt.",
+        "tag 2026-03-08",
+        "Sonntag, der 8. März 2026, ist kein Werktag: Sonntag; auch Internationaler Frauentag.",
     ),
+    (
+        "tag 2026-05-24",
+        "Sonntag, der 24. Mai 2026, ist kein Werktag: Sonntag; auch Pfingstsonntag.",
+    ),
+    ("tag 2008-05-01", "Donnerstag, der 1. Mai 2008, ist kein Werktag: Tag der Arbeit."),
     ("next-werktag 2026-04-07", "Dienstag, der 7. April 2026, ist selbst ein Werktag."),
     (
         "werktage-between 2025-12-31 2026-12-31",
@@ -270,8 +277,22 @@ pub const JSON: &[(&str, &str)] = &[
     (
         "--json tag 2026-11-18",
         concat!(
-            r#"{"call":"mf_is_werktag","arguments":["2026-11-18"],"refusal":null,"kind":0,"#,
-            r#""kind_name":"KeinWerktag","why":["Buß- und Bettag"]}"#,
+            r#"{"call":"mf_is_werktag","arguments":["2026-11-18"],"refusal":null,"kind":16,"#,
+            r#""kind_name":"Buß- und Bettag","werktag":false,"also":null}"#,
+        ),
+    ),
+    (
+        "tag 2026-03-08 --json",
+        concat!(
+            r#"{"call":"mf_is_werktag","arguments":["2026-03-08"],"refusal":null,"kind":2,"#,
+            r#""kind_name":"Sonntag","werktag":false,"also":"Internationaler Frauentag"}"#,
+        ),
+    ),
+    (
+        "tag 2026-04-07 --json",
+        concat!(
+            r#"{"call":"mf_is_werktag","arguments":["2026-04-07"],"refusal":null,"kind":0,"#,
+            r#""kind_name":"Werktag","werktag":true,"also":null}"#,
         ),
     ),
     (

@@ -3,7 +3,7 @@
 use crate::command::{Command, Task, GROUPS, PROGRAM};
 use crate::commands::fragen::FILE;
 use crate::names::{FRISTEN, VORLAUF};
-use mako_fristen_host::Parameter;
+use mako_fristen_host::{Call, DayReason, Parameter};
 
 const HEAD: &str = "\
 Werktage und Fristen der Marktkommunikation
@@ -36,6 +36,17 @@ Ende mit 0: Antwort. 2: abgelehnt. 64: falscher Aufruf, auch in einer Zeile von 
 74: Ausgabe gestört.
 ";
 
+/// Above the numbers of the day test.
+const NUMBERS: &str =
+    "Nummern: „kind“ in --json; in --bytes das zweite Byte, hexadezimal (17 ist 11)";
+
+/// Below them.
+const REFUSED: &str = "\
+20 kommt nicht vor: Pfingstsonntag ist immer ein Sonntag.
+Ein abgelehnter Aufruf ist keine Antwort, auch wenn sein zweites Byte 0 ist. Das erste
+hat die Nummer der Ablehnung, in --json „refusal“, und der Aufruf endet mit 2.
+";
+
 /// The list of all subcommands.
 pub fn general() -> String {
     let row = |command: &Command| format!("  {}\n      {}\n", command.usage(), command.summary);
@@ -58,13 +69,18 @@ pub fn of(command: &Command) -> String {
         (_, true) => format!("\nFORM\n{}", frist_shapes()),
         _ => String::new(),
     };
+    let reasons = match command.call() {
+        Some(Call::IsWerktag) => format!("\n{NUMBERS}\n{}\n{REFUSED}", reasons()),
+        _ => String::new(),
+    };
     let file = match command.task {
         Task::Fragen => format!("  $ cat fragen.txt\n{}", block(FILE)),
         Task::Ask(_) | Task::Kalender => String::new(),
     };
     let output = block(command.output);
     format!(
-        "Aufruf: {PROGRAM} {}\n{also}\n{}\n{shapes}\nBeispiel\n{file}  $ {PROGRAM} {}\n{output}",
+        "Aufruf: {PROGRAM} {}\n{also}\n{}\n{shapes}{reasons}\n\
+         Beispiel\n{file}  $ {PROGRAM} {}\n{output}",
         command.usage(),
         command.meaning,
         command.example
@@ -94,4 +110,9 @@ fn frist_shapes() -> String {
         indented(&format!("{name}{count}{clock}"))
     };
     FRISTEN.iter().map(shape).collect()
+}
+
+fn reasons() -> String {
+    let row = |reason: DayReason| indented(&format!("{:2}  {reason}", reason.number()));
+    (0..).map_while(DayReason::of_number).map(row).collect()
 }

@@ -22,7 +22,7 @@ impl Inquiry {
         Inquiry { call, question, reason, frist: None, vorlauf: None }
     }
 
-    /// The answer of the call, read: neither a refusal nor bytes that document 01 does not have.
+    /// The answer of the call, read: neither a refusal nor bytes that the documents do not have.
     pub fn answer(&self) -> Result<Answer, Error> {
         Answer::of(self.call, |answer| self.put(answer))
     }

@@ -3,7 +3,7 @@
 use crate::deutsch::{monat, werktage};
 use crate::json::Json;
 use crate::report::{arguments, refusal_json};
-use mako_fristen_host::{is_werktag, Date, Error, Feiertag, Refusal, Weekday};
+use mako_fristen_host::{day_reason, Date, DayReason, Error, Feiertag, Refusal, Weekday};
 use std::ffi::OsString;
 
 /// How a closed day is shown.
@@ -26,26 +26,58 @@ const WEEKDAYS: &str = "Mo Di Mi Do Fr Sa So";
 pub struct Year {
     number: u16,
     months: Vec<Month>,
-    holidays: Vec<(Date, Feiertag)>,
+    holidays: Vec<Holiday>,
+}
+
+/// A holiday of the list; the day test names it unless it is on a weekend.
+#[derive(Debug)]
+struct Holiday {
+    date: Date,
+    holiday: Feiertag,
+    reason: DayReason,
+}
+
+impl Holiday {
+    fn of((date, holiday): (Date, Feiertag)) -> Result<Holiday, Error> {
+        Ok(Holiday { date, holiday, reason: day_reason(date)? })
+    }
+
+    fn line(&self) -> String {
+        let Holiday { date, holiday, .. } = self;
+        let weekday = date.weekday().map(|day| day.to_string()).unwrap_or_default();
+        format!("{:2}. {:<9}  {weekday:<10}  {holiday}", date.day, monat(date.month))
+    }
+
+    fn json(&self) -> Json {
+        let Holiday { date, holiday, reason } = self;
+        let number = |number: u8| Json::Number(i64::from(number));
+        Json::Object(vec![
+            ("date", Json::text(date)),
+            ("weekday", date.weekday().map_or(Json::Null, Json::text)),
+            ("number", number(holiday.number())),
+            ("name", Json::text(holiday)),
+            ("reason", number(reason.number())),
+        ])
+    }
 }
 
 #[derive(Debug)]
 struct Month {
     number: u8,
-    /// Each day, and whether it is a Werktag.
-    days: Vec<(Date, bool)>,
+    /// Each day with what the day test says of it.
+    days: Vec<(Date, DayReason)>,
 }
 
 impl Month {
     fn of(year: u16, number: u8) -> Result<Month, Error> {
         let days = (1..=31).map(|day| Date::new(year, number, day));
         let days = days.filter(|day| day.weekday().is_some());
-        let tested = days.map(|day| is_werktag(day).map(|open| (day, open)));
+        let tested = days.map(|day| day_reason(day).map(|reason| (day, reason)));
         Ok(Month { number, days: tested.collect::<Result<_, _>>()? })
     }
 
     fn werktage(&self) -> u32 {
-        self.days.iter().map(|(_, open)| u32::from(*open)).sum()
+        self.days.iter().map(|(_, reason)| u32::from(reason.is_werktag())).sum()
     }
 }
 
@@ -55,9 +87,9 @@ impl Year {
     /// [`Refusal::NoDate`], for a year that is none from 1996 to 2899.
     pub fn of(year: u32) -> Result<Year, Error> {
         let year = u16::try_from(year).map_err(|_| Refusal::NoDate)?;
-        let holidays = Feiertag::of_year(year)?;
+        let holidays = Feiertag::of_year(year)?.into_iter().map(Holiday::of);
         let months = (1..=12).map(|month| Month::of(year, month)).collect::<Result<_, _>>()?;
-        Ok(Year { number: year, months, holidays })
+        Ok(Year { number: year, months, holidays: holidays.collect::<Result<_, _>>()? })
     }
 
     fn werktage(&self) -> u32 {
@@ -65,7 +97,7 @@ impl Year {
     }
 
     fn is_holiday(&self, date: Date) -> bool {
-        self.holidays.iter().any(|(day, _)| *day == date)
+        self.holidays.iter().any(|holiday| holiday.date == date)
     }
 
     pub fn text(&self, mark: Mark) -> String {
@@ -75,7 +107,7 @@ impl Year {
             lines.extend(self.abreast(months, mark));
             lines.push(String::new());
         }
-        lines.extend(self.holidays.iter().map(|(date, holiday)| named(*date, holiday.name)));
+        lines.extend(self.holidays.iter().map(Holiday::line));
         lines.push(String::new());
         lines.push(format!("{} hat {}.", self.number, werktage(self.werktage())));
         lines.join("\n")
@@ -100,7 +132,7 @@ impl Year {
         let mut lines = vec![format!("{name:WIDTH$}"), format!("{WEEKDAYS:WIDTH$}")];
         let first = month.days.first().and_then(|(day, _)| day.weekday());
         let before = first.map_or(0, |weekday| usize::from(weekday.number() - 1));
-        let days = month.days.iter().map(|(date, open)| self.cell(*date, *open, mark));
+        let days = month.days.iter().map(|(date, reason)| self.cell(*date, *reason, mark));
         let cells: Vec<_> = vec![" ".repeat(3); before].into_iter().chain(days).collect();
         for week in cells.chunks(Weekday::ALL.len()) {
             let padding = " ".repeat(WIDTH - 3 * week.len());
@@ -110,9 +142,9 @@ impl Year {
     }
 
     /// Three columns.
-    fn cell(&self, date: Date, open: bool, mark: Mark) -> String {
+    fn cell(&self, date: Date, reason: DayReason, mark: Mark) -> String {
         let day = date.day;
-        match (open, mark) {
+        match (reason.is_werktag(), mark) {
             (true, _) => format!("{day:2} "),
             (false, Mark::Star) => format!("{day:2}*"),
             (false, Mark::Colour) if self.is_holiday(date) => format!("\x1b[7;31m{day:2}\x1b[0m "),
@@ -123,12 +155,9 @@ impl Year {
     pub fn json(&self, given: &[OsString]) -> Json {
         let months = self.months.iter().map(|month| Json::Number(i64::from(month.werktage())));
         let days = self.months.iter().flat_map(|month| &month.days);
-        let closed = days.filter(|(_, open)| !open).map(|(date, _)| Json::text(date));
-        let holidays = self.holidays.iter().map(|(date, holiday)| {
-            let weekday = date.weekday().map_or(Json::Null, Json::text);
-            let name = Json::text(holiday.name);
-            Json::Object(vec![("date", Json::text(date)), ("weekday", weekday), ("name", name)])
-        });
+        let closed =
+            days.filter(|(_, reason)| !reason.is_werktag()).map(|(date, _)| Json::text(date));
+        let holidays = self.holidays.iter().map(Holiday::json);
         Json::Object(vec![
             ("call", Json::text("kalender")),
             ("arguments", arguments(given)),
@@ -140,11 +169,6 @@ impl Year {
             ("holidays", Json::list(holidays)),
         ])
     }
-}
-
-fn named(date: Date, name: &str) -> String {
-    let weekday = date.weekday().map(|day| day.to_string()).unwrap_or_default();
-    format!("{:2}. {:<9}  {weekday:<10}  {name}", date.day, monat(date.month))
 }
 
 /// What the calendar of a refused year is as JSON.

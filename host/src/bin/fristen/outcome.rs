@@ -104,14 +104,14 @@ fn write(to: &mut impl Write, text: &str) -> io::Result<()> {
 #[cfg(test)]
 mod tests {
     use super::*;
-    use mako_fristen_host::{Answer, Call};
+    use mako_fristen_host::{Answer, Call, DayReason};
 
     #[test]
     fn an_answer_that_cannot_be_read_is_neither_an_answer_nor_a_refusal() {
-        let answer = Answer::default().with_kind(2);
-        let said = answer.read(Call::IsWerktag).map(|werktag: bool| werktag.to_string());
+        let answer = Answer::default().with_kind(23);
+        let said = answer.read(Call::IsWerktag).map(|reason: DayReason| reason.to_string());
         let outcome = Outcome::of(said, errors::refused);
-        let bytes = format!("0002{}", "00".repeat(30));
+        let bytes = format!("0017{}", "00".repeat(30));
         let text = format!(
             "fristen: Die Antwort von mf_is_werktag ist nicht lesbar (Nummer 0, Bytes {bytes}).\n\
              Programm und Bibliothek sind nicht vom selben Stand.\n"

@@ -3,10 +3,10 @@
 use crate::inquiry::Inquiry;
 use crate::json::Json;
 use crate::labels;
-use crate::sentences::why_closed;
+use crate::sentences::also;
 use mako_fristen_host::{
-    AbmeldungVorlauf, Answer, BerlinTime, Clock, Content, Date, Error, GasDue, GasProzess, Instant,
-    Parameter, Refusal, Span, VorlaufVerdict,
+    AbmeldungVorlauf, Answer, BerlinTime, Clock, Content, Date, DayReason, Error, GasDue,
+    GasProzess, Instant, Parameter, Refusal, Span, VorlaufVerdict,
 };
 use std::ffi::OsString;
 
@@ -52,9 +52,10 @@ fn content(inquiry: &Inquiry, answer: &Answer) -> Result<Members, Error> {
     let kind = |name| kind(answer, name);
     Ok(match call.content() {
         Content::Werktag => {
-            let name = if answer.read(call)? { "Werktag" } else { "KeinWerktag" };
-            let why = why_closed(inquiry.question.date)?.into_iter().map(Json::Text);
-            joined([kind(name), vec![("why", Json::list(why))]])
+            let reason: DayReason = answer.read(call)?;
+            let also = also(inquiry, reason)?.map_or(Json::Null, Json::text);
+            let added = vec![("werktag", Json::Bool(reason.is_werktag())), ("also", also)];
+            joined([kind(reason.name()), added])
         }
         Content::Date => vec![("date", Json::text(answer.read::<Date>(call)?))],
         Content::Count => vec![("count", Json::Number(i64::from(answer.read::<u32>(call)?)))],

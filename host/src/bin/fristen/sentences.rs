@@ -7,7 +7,7 @@ mod fristen;
 mod kalender;
 mod vorlauf;
 
-pub use kalender::why_closed;
+pub use kalender::also;
 
 use crate::inquiry::Inquiry;
 use mako_fristen_host::{Answer, Call, Error, FristShape};

@@ -10,7 +10,9 @@ pub const COMMANDS: [Command; 8] = [
         meaning:
             "Keine Werktage sind die Samstage, die Sonntage und die Feiertage der Liste, die in\n\
                   allen Jahren dieselbe ist, dazu der 24. und der 31. Dezember (GPKE Teil 1).\n\
-                  Die ganze Liste zeigt kalender.",
+                  Samstag und Sonntag gehen einem Feiertag vor, der dann hinter „auch“ steht (in\n\
+                  --json „also“). Von zwei Feiertagen an einem Tag wird der mit der kleineren Nummer\n\
+                  genannt. An welchen Tagen sie in einem Jahr liegen, zeigt kalender.",
         example: "tag 2026-11-18",
         output: "Mittwoch, der 18. November 2026, ist kein Werktag: Buß- und Bettag.",
     },
@@ -85,7 +87,9 @@ pub const COMMANDS: [Command; 8] = [
         summary: "die zwölf Monate eines Jahres mit allen Feiertagen",
         meaning: "Das Jahr auf einem Blatt. Tage, die keine Werktage sind, sind im Terminal rot,\n\
                   Feiertage darunter hinterlegt; sonst steht ein Stern dahinter. Ohne Farbe auch,\n\
-                  wenn NO_COLOR gesetzt ist. --bytes gibt es hier nicht.",
+                  wenn NO_COLOR gesetzt ist. --bytes gibt es hier nicht. In --json hat jeder Feiertag\n\
+                  seine Nummer (number) und die, die tag für das Datum nennt (reason): an einem\n\
+                  Samstag 1, an einem Sonntag 2.",
         example: "kalender 2026",
         output: include_str!("kalender-2026.txt"),
     },

@@ -1,23 +1,22 @@
 use crate::deutsch::{dem, den, der, monat, monate, werktage};
 use crate::inquiry::Inquiry;
-use mako_fristen_host::{Date, Error, Feiertag, Weekday};
+use mako_fristen_host::{Date, DayReason, Error, Feiertag};
 
-pub fn day(inquiry: &Inquiry, werktag: bool) -> Result<String, Error> {
-    let date = inquiry.question.date;
-    let why = why_closed(date)?.join(" und ");
-    Ok(match (werktag, why.as_str()) {
-        (true, _) => format!("{}, ist ein Werktag.", der(date)),
-        (false, "") => format!("{}, ist kein Werktag.", der(date)),
-        (false, why) => format!("{}, ist kein Werktag: {why}.", der(date)),
+pub fn day(inquiry: &Inquiry, reason: DayReason) -> Result<String, Error> {
+    let day = der(inquiry.question.date);
+    Ok(match (reason, also(inquiry, reason)?) {
+        (DayReason::Werktag, _) => format!("{day}, ist ein Werktag."),
+        (_, None) => format!("{day}, ist kein Werktag: {reason}."),
+        (_, Some(holiday)) => format!("{day}, ist kein Werktag: {reason}; auch {holiday}."),
     })
 }
 
-/// Saturday or Sunday, then the holidays.
-pub fn why_closed(date: Date) -> Result<Vec<String>, Error> {
-    let weekend = date.weekday().filter(|day| *day >= Weekday::Samstag);
-    let holidays = Feiertag::on(date)?;
-    let names = holidays.iter().map(|holiday| holiday.name.to_owned());
-    Ok(weekend.iter().map(Weekday::to_string).chain(names).collect())
+/// The holiday on a weekend, which goes before it.
+pub fn also(inquiry: &Inquiry, reason: DayReason) -> Result<Option<Feiertag>, Error> {
+    match reason {
+        DayReason::Samstag | DayReason::Sonntag => Feiertag::on(inquiry.question.date),
+        DayReason::Werktag | DayReason::Feiertag(_) => Ok(None),
+    }
 }
 
 pub fn next(inquiry: &Inquiry, to: Date) -> String {
