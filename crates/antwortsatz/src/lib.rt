@@ -97,8 +97,8 @@ pub fn refused(number: u8) -> Answer
     filled(number, 0, 0, 0, 0, 0, 0, 0)
 }
 
-/// A kind alone: the reason of a day ("0 Werktag, 1 Saturday, 2 Sunday, 3 to 22 the holidays"), "a deregistration reason
-/// the code of its case". 3 April 2026, Karfreitag, is `of_kind(17)`; `of_kind(0)` is all zero, and an answer.
+/// A kind alone: the reason of a day ("0 Werktag, 1 Saturday, 2 Sunday, 3 to 22 the holidays"), "a deregistration
+/// reason the code of its case". 3 April 2026, Karfreitag, is `of_kind(17)`; `of_kind(0)` is all zero, and an answer.
 pub fn of_kind(kind: u8) -> Answer
     ensures { λ r. ⌜ r ≡ ofKind kind ⌝ }
 {

@@ -10,7 +10,7 @@
 -- for k < 904 and r < yearLen k.
 -- Source: the definitions of Werktag.
 -- Assumes nothing.
-use Prim.Native.Nat.{ℕ, zero, suc, _+_, _-_, _*_, _/_, _%_, _≤_, _<_}
+use Prim.Native.Nat.{ℕ, zero, suc, _+_, _-_, _%_, _≤_, _<_}
 use mathlib.Core.Bool.{Bool, true, false, not, _&&_, _||_}
 use mathlib.Core.List.{List, [], _∷_, map}
 use mathlib.Core.Path.{_≡_, refl, sym, ap, _∙_}
@@ -24,13 +24,13 @@ use Rattle.zaehlung.specs.Blocks.{start, at}
 use Rattle.zaehlung.proofs.BlockLaws.{at-is}
 use Rattle.zaehlung.proofs.Count.{count-none, count-shift, count-cong}
 use Rattle.zaehlung.proofs.Every.{run, run-at, split}
-use Rattle.datum.specs.Calendar.{isLeap, yearLen, yearStart, yearOf, daysInMonth, monthStart, monthOf, dateIn}
+use Rattle.datum.specs.Calendar.{isLeap, yearLen, yearStart, yearOf, daysInMonth, monthOf, dateIn}
 use Rattle.datum.proofs.Years.{start-none}
 use Rattle.datum.proofs.Dates.{and-left, and-right, yearLen-at}
 use Rattle.datum.proofs.Signed.{sub-pos, sub-neg}
 use Rattle.werktag.specs.declared.HolidayCalendar.{HolidayCalendar}
 use Rattle.werktag.specs.declared.HolidayCalendar.the-variants.{BdewMaKo}
-use Rattle.werktag.specs.Easter.{easterSunday, easterIndex}
+use Rattle.werktag.specs.Easter.{easterIndex}
 use Rattle.werktag.specs.Werktag.{any, eqZ, fixedDays, isFixed, isBussUndBettag, easterOffsets, isEasterFeast}
 use Rattle.werktag.specs.Werktag.{isWerktagIn, isWerktag}
 use Rattle.werktag.proofs.Easter.{dayIn, easterIn, easter-is, firstOf, weekday-in}

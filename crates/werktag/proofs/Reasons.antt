@@ -2,17 +2,18 @@
 --   reason-is      it is the first that holds of the tests of the day's index and date
 --   reason-zero    it is 0 exactly if the day is a Werktag
 --   weekend-shut   no Saturday and no Sunday is a Werktag
---   reason-most    it is never over 22
+--   saturday-given, saturday-gives, sunday-given, sunday-gives  it is 1 exactly on a Saturday, 2 exactly on a Sunday
 --   rule i k       = rule k of the list, from 0 on, asked of the day with index i
 --   ClosedBy i k   rule k holds, the day is no weekend, and no earlier rule holds
 --   holiday-given, holiday-gives  the reason is 3 + k exactly if this is so
 --   rule-fixed, rule-bettag, rule-feast  which rule it is
 --   never-pfingstsonntag  20 is never given: Pfingstsonntag is a Sunday
+--   reason-most    no reason is over 22
 -- Source: document 02, F-2.
 -- Assumes nothing.
-use Prim.Native.Nat.{ℕ, zero, suc, _+_, _%_, _≤_, _<_}
+use Prim.Native.Nat.{ℕ, zero, suc, _+_, _≤_, _<_}
 use mathlib.Core.Bool.{Bool, true, false, not, _&&_, _||_}
-use mathlib.Core.List.{List, [], _∷_, _++_, map}
+use mathlib.Core.List.{List, _∷_}
 use mathlib.Core.Path.{_≡_, refl, sym, ap, _∙_}
 use native.Mathlib.Omega.{arith}
 use native.Mathlib.Decide.{decLt}
@@ -32,7 +33,7 @@ use Rattle.werktag.specs.declared.HolidayCalendar.the-variants.{BdewMaKo
 use Rattle.werktag.specs.Easter.{easterIndex}
 use Rattle.werktag.specs.Werktag.{any, fixedDays, isDay, isFixed, isBussUndBettag, easterOffsets, isFeast}
 use Rattle.werktag.specs.Werktag.{isEasterFeast, isListed, isWerktagIn, isWerktag}
-use Rattle.werktag.specs.Reason.{placeFrom, fixedTests, feastTests, holidays, closures, reasonIn, reason}
+use Rattle.werktag.specs.Reason.{placeFrom, fixedTests, feastTests, holidayTests, dayTests, reasonIn, reason}
 use Rattle.werktag.proofs.Search.{any-append}
 use Rattle.werktag.proofs.Place.{place-zero, place-most, NoneBefore, place-given, place-gives, map-at}
 use Rattle.werktag.proofs.Easter.{easter-on-sunday}
@@ -41,11 +42,11 @@ use Rattle.werktag.proofs.Easter.{easter-on-sunday}
 parts : (i : ℕ) → yearStart (yearOf i .0) + yearOf i .1 ≡ i
 parts i = omega (arith, at-sum yearLen 903 0 i, start-none)
 
-pub reason-is : (i : ℕ) → reason BdewMaKo i ≡ placeFrom 1 (closures i (dateOf i))
+pub reason-is : (i : ℕ) → reason BdewMaKo i ≡ placeFrom 1 (dayTests i (dateOf i))
 unfolding reason dateOf
 reason-is i = rw (parts i)
 
-listed-is : (i : ℕ) (d : Date) → any (λ b. b) (holidays i d) ≡ isListed i d
+listed-is : (i : ℕ) (d : Date) → any (λ b. b) (holidayTests i d) ≡ isListed i d
 unfolding isFixed isEasterFeast any
 listed-is i d =
     any-append (λ b. b) (fixedTests (d .month) (d .day))
@@ -67,7 +68,7 @@ unfolding any
 zero-in BdewMaKo k r =
     let i = yearStart k + r in
     let d = dateIn k r in
-    place-zero 1 (closures i d) (omega arith)
+    place-zero 1 (dayTests i d) (omega arith)
     ∙ rw (listed-is i d) (late (weekday i) (isListed i d) (omega arith))
 
 pub reason-zero : (cal : HolidayCalendar) (i : ℕ) → eqb (reason cal i) 0 ≡ isWerktag cal i
@@ -78,9 +79,30 @@ pub weekend-shut : (cal : HolidayCalendar) (i : ℕ) → 5 ≤ weekday i → isW
 unfolding isWerktag
 weekend-shut BdewMaKo i h = rw (parts i, le-leb 5 (weekday i) h)
 
+module _ (i : ℕ) where
+  abbrev tests : List Bool
+  tests = dayTests i (dateOf i)
+
+  pub saturday-given : reason BdewMaKo i ≡ 1 → weekday i ≡ 5
+  saturday-given e = eqb-true (weekday i) 5 (place-given 1 0 tests (omega arith) (sym (reason-is i) ∙ e) .0)
+
+  pub saturday-gives : weekday i ≡ 5 → reason BdewMaKo i ≡ 1
+  saturday-gives h =
+      reason-is i ∙ place-gives 1 0 tests (eq-eqb (weekday i) 5 h) (λ j l. absurd (omega arith))
+
+  pub sunday-given : reason BdewMaKo i ≡ 2 → weekday i ≡ 6
+  sunday-given e = eqb-true (weekday i) 6 (place-given 1 1 tests (omega arith) (sym (reason-is i) ∙ e) .0)
+
+  pub sunday-gives : weekday i ≡ 6 → reason BdewMaKo i ≡ 2
+  sunday-gives h = reason-is i ∙ place-gives 1 1 tests (eq-eqb (weekday i) 6 h) before
+    where
+      before : NoneBefore tests 1
+      before zero l = ne-eqb (weekday i) 5 (λ q. omega arith)
+      before (suc j) l = absurd (omega arith)
+
 -- rule k of the list, from 0 on, asked of the day with index i
 abbrev pub rule : ℕ → ℕ → Bool
-rule i k = getD (holidays i (dateOf i)) k false
+rule i k = getD (holidayTests i (dateOf i)) k false
 
 -- 'its own rule holds, the day is no weekend and no earlier rule holds'
 pub record ClosedBy (i k : ℕ) : Type 0 where
@@ -88,25 +110,25 @@ pub record ClosedBy (i k : ℕ) : Type 0 where
   pub no-weekend : weekday i < 5
   pub no-earlier : (j : ℕ) → j < k → rule i j ≡ false
 
-pub holiday-given : (i k : ℕ) → reason BdewMaKo i ≡ 3 + k → ClosedBy i k
-holiday-given i k e =
-    let g = place-given 1 (suc (suc k)) (closures i (dateOf i)) (omega arith) (sym (reason-is i) ∙ e ∙ omega arith) in
-    let saturday = eqb-false (weekday i) 5 (g .1 0 (omega arith)) in
-    let sunday = eqb-false (weekday i) 6 (g .1 1 (omega arith)) in
-    record {
-      own = g .0;
-      no-weekend = omega (arith, saturday, sunday);
-      no-earlier = λ j l. g .1 (suc (suc j)) (omega arith);
-    }
+module _ (i k : ℕ) where
+  pub holiday-given : reason BdewMaKo i ≡ 3 + k → ClosedBy i k
+  holiday-given e =
+      let g = place-given 1 (suc (suc k)) (tests i) (omega arith) (sym (reason-is i) ∙ e ∙ omega arith) in
+      let saturday = eqb-false (weekday i) 5 (g .1 0 (omega arith)) in
+      let sunday = eqb-false (weekday i) 6 (g .1 1 (omega arith)) in
+      record {
+        own = g .0;
+        no-weekend = omega (arith, saturday, sunday);
+        no-earlier = λ j l. g .1 (suc (suc j)) (omega arith);
+      }
 
-pub holiday-gives : (i k : ℕ) → ClosedBy i k → reason BdewMaKo i ≡ 3 + k
-holiday-gives i k h =
-    reason-is i ∙ place-gives 1 (suc (suc k)) (closures i (dateOf i)) (h .own) before ∙ omega arith
-  where
-    before : NoneBefore (closures i (dateOf i)) (suc (suc k))
-    before zero l = ne-eqb (weekday i) 5 (λ q. omega (arith, h .no-weekend))
-    before (suc zero) l = ne-eqb (weekday i) 6 (λ q. omega (arith, h .no-weekend))
-    before (suc (suc j)) l = h .no-earlier j (omega arith)
+  pub holiday-gives : ClosedBy i k → reason BdewMaKo i ≡ 3 + k
+  holiday-gives h = reason-is i ∙ place-gives 1 (suc (suc k)) (tests i) (h .own) before ∙ omega arith
+    where
+      before : NoneBefore (tests i) (suc (suc k))
+      before zero l = ne-eqb (weekday i) 5 (λ q. omega (arith, h .no-weekend))
+      before (suc zero) l = ne-eqb (weekday i) 6 (λ q. omega (arith, h .no-weekend))
+      before (suc (suc j)) l = h .no-earlier j (omega arith)
 
 -- which rule it is: '3 to 15 the fixed days, 16 the Wednesday of November, 17 to 22 the Easter offsets'
 module _ (i : ℕ) where
@@ -139,4 +161,4 @@ module _ (i : ℕ) where
       omega (arith, q, c .no-weekend, easter-on-sunday (d .year) (v .from) (v .to))
 
 pub reason-most : (cal : HolidayCalendar) (i : ℕ) → reason cal i ≤ 22
-reason-most BdewMaKo i = rw (reason-is i) (omega (arith, place-most 1 (closures i (dateOf i)) (omega arith)))
+reason-most BdewMaKo i = rw (reason-is i) (omega (arith, place-most 1 (tests i) (omega arith)))

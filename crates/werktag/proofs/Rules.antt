@@ -2,8 +2,8 @@
 -- form in which they stand there.
 -- Assumes nothing.
 use Prim.Native.Nat.{ℕ, _+_, _-_, _≤_, _<_}
-use mathlib.Core.Bool.{Bool, true, false, not, _&&_}
-use mathlib.Core.List.{List, [], _∷_, _++_, map}
+use mathlib.Core.Bool.{Bool, true, false, _&&_}
+use mathlib.Core.List.{List, [], _∷_, map}
 use mathlib.Core.Path.{_≡_, refl, sym, ap, _∙_}
 use native.Mathlib.Omega.{arith}
 use lib.Dec.{eqb, leb}
@@ -15,32 +15,30 @@ use mir.Val.{SFits, toZ, ofZ}
 use mir.Facts.{toZ-ofZ}
 use Rattle.zaehlung.specs.Walk.{last}
 use Rattle.datum.specs.declared.Date.{Date}
-use Rattle.datum.specs.Calendar.{yearLen, yearStart, yearOf, dateOf, daysBefore, weekday}
-use Rattle.zaehlung.proofs.BlockLaws.{at-sum}
-use Rattle.datum.proofs.Years.{start-none}
+use Rattle.datum.specs.Calendar.{dateOf, daysBefore, weekday}
 use Rattle.zaehlung.proofs.Every.{run, run-at}
 use Rattle.datum.proofs.Dates.{and-left, and-right, and-no, index-date}
 use Rattle.datum.proofs.Signed.{back, pos-fits, neg-fits, back-pos, sub-fits, same-bits}
 use Rattle.werktag.specs.declared.HolidayCalendar.{HolidayCalendar}
 use Rattle.werktag.specs.declared.HolidayCalendar.the-variants.{BdewMaKo}
 use Rattle.werktag.specs.Easter.{easterSunday, easterIndex}
-use Rattle.werktag.specs.Werktag.{eqZ, fixedDays, isDay, isBussUndBettag, easterOffsets, isFeast, isWerktag}
-use Rattle.werktag.specs.Reason.{placeFrom, weekend, fixedTests, feastTests, holidays, reason}
+use Rattle.werktag.specs.Werktag.{eqZ, fixedDays, isDay, isBussUndBettag, easterOffsets, isWerktag}
+use Rattle.werktag.specs.Reason.{placeFrom, weekendTests, fixedTests, feastTests, holidayTests, reason}
 use Rattle.werktag.proofs.Place.{place-hit, place-miss, place-none, place-left, place-right, map-at}
 use Rattle.werktag.proofs.Reasons.{reason-is, reason-zero}
 use Rattle.werktag.proofs.Signed.{eq-eqZ, ne-eqZ, from-distance}
 
 -- weekend: w is what `datum::weekday` returned
 module _ (i w : ℕ) (e : w ≡ weekday i) where
-  pub no-weekend : w < 5 → 0 ≡ placeFrom 1 (weekend i)
+  pub no-weekend : w < 5 → 0 ≡ placeFrom 1 (weekendTests i)
   unfolding placeFrom
   no-weekend h = rw (← e, ne-eqb w 5 (λ q. omega arith), ne-eqb w 6 (λ q. omega arith))
 
-  pub on-saturday : w ≡ 5 → 1 ≡ placeFrom 1 (weekend i)
+  pub on-saturday : w ≡ 5 → 1 ≡ placeFrom 1 (weekendTests i)
   unfolding placeFrom
   on-saturday h = rw (← e, eq-eqb w 5 h)
 
-  pub on-sunday : 5 ≤ w → (w ≡ 5 → ⊥) → 2 ≡ placeFrom 1 (weekend i)
+  pub on-sunday : 5 ≤ w → (w ≡ 5 → ⊥) → 2 ≡ placeFrom 1 (weekendTests i)
   unfolding placeFrom
   on-sunday h n =
       let q : w ≡ 6 = omega (arith, n) in
@@ -87,7 +85,8 @@ module _ (m d i : ℕ) (e : placeFrom (3 + i) (drop i (fixedTests m d)) ≡ plac
       ∙ rw (ne-eqb (entry i .0) d (λ x. q (sym (k .0) ∙ x))))
 
   pub fixed-other-month :
-      i < 13 → (getD months i 0 ≡ m → ⊥) → placeFrom (3 + (i + 1)) (drop (i + 1) (fixedTests m d)) ≡ placeFrom 3 (fixedTests m d)
+      i < 13 → (getD months i 0 ≡ m → ⊥) →
+      placeFrom (3 + (i + 1)) (drop (i + 1) (fixedTests m d)) ≡ placeFrom 3 (fixedTests m d)
   fixed-other-month h q =
       let k = entry-is i h in
       place-miss (fixedTests m d) 3 i e h
@@ -178,24 +177,24 @@ module _ (i y s : ℕ) (d : Date) (h : i ≤ last) (e : d ≡ easterSunday y) (q
 
 -- bdew_mako_holiday: d is the date that `date_of` returned, a what `fixed_day` returned
 module _ (i a : ℕ) (d : Date) (e : d ≡ dateOf i) (p : a ≡ placeFrom 3 (fixedTests (d .month) (d .day))) where
-  pub by-table : (a ≡ 0 → ⊥) → a ≡ placeFrom 3 (holidays i (dateOf i))
+  pub by-table : (a ≡ 0 → ⊥) → a ≡ placeFrom 3 (holidayTests i (dateOf i))
   by-table n = rw (← e) (p ∙ sym (place-left 3 (fixedTests (d .month) (d .day)) _ (λ q. n (p ∙ q))))
 
   -- b is what `is_buss_und_bettag` returned: the Wednesday, then the feasts
   module _ (b : Bool) (w : ℕ) (t : a ≡ 0) (g : w ≡ weekday i) (q : b ≡ isBussUndBettag (d .month) (d .day) w) where
-    rest : (x : Bool) → b ≡ x → placeFrom 16 (x ∷ feastTests i (d .year)) ≡ placeFrom 3 (holidays i (dateOf i))
+    rest : (x : Bool) → b ≡ x → placeFrom 16 (x ∷ feastTests i (d .year)) ≡ placeFrom 3 (holidayTests i (dateOf i))
     rest x u =
         rw (← e, ← g, ← q, u)
         (sym (place-right 3 (fixedTests (d .month) (d .day)) (x ∷ feastTests i (d .year)) (omega arith)
         (sym p ∙ t)))
 
-    pub by-wednesday : b ≡ true → 16 ≡ placeFrom 3 (holidays i (dateOf i))
+    pub by-wednesday : b ≡ true → 16 ≡ placeFrom 3 (holidayTests i (dateOf i))
     unfolding placeFrom
     by-wednesday u = rest true u
 
     pub by-easter :
         (r : ℕ) → b ≡ false → r ≡ placeFrom 17 (feastTests i (d .year)) →
-        r ≡ placeFrom 3 (holidays i (dateOf i))
+        r ≡ placeFrom 3 (holidayTests i (dateOf i))
     unfolding placeFrom
     by-easter r u s = s ∙ rest false u
 
@@ -209,14 +208,14 @@ pub ruleset holiday-rules = (by-table, by-wednesday, by-easter, year-from, year-
 
 -- reason: a is what `weekend` returned
 pub weekend-first :
-    (cal : HolidayCalendar) (i a : ℕ) → a ≡ placeFrom 1 (weekend i) → (a ≡ 0 → ⊥) → a ≡ reason cal i
-weekend-first BdewMaKo i a p n = p ∙ sym (place-left 1 (weekend i) _ (λ q. n (p ∙ q))) ∙ sym (reason-is i)
+    (cal : HolidayCalendar) (i a : ℕ) → a ≡ placeFrom 1 (weekendTests i) → (a ≡ 0 → ⊥) → a ≡ reason cal i
+weekend-first BdewMaKo i a p n = p ∙ sym (place-left 1 (weekendTests i) _ (λ q. n (p ∙ q))) ∙ sym (reason-is i)
 
 pub holiday-then :
-    (cal : HolidayCalendar) (i a r : ℕ) → a ≡ placeFrom 1 (weekend i) → a ≡ 0 → r ≡ placeFrom 3 (holidays i (dateOf i)) →
-    r ≡ reason cal i
+    (cal : HolidayCalendar) (i a r : ℕ) →
+    a ≡ placeFrom 1 (weekendTests i) → a ≡ 0 → r ≡ placeFrom 3 (holidayTests i (dateOf i)) → r ≡ reason cal i
 holiday-then BdewMaKo i a r p t q =
-    q ∙ sym (place-right 1 (weekend i) _ (omega arith) (sym p ∙ t)) ∙ sym (reason-is i)
+    q ∙ sym (place-right 1 (weekendTests i) _ (omega arith) (sym p ∙ t)) ∙ sym (reason-is i)
 
 -- is_werktag: r is what `reason` returned
 pub zero-open : (cal : HolidayCalendar) (i r : ℕ) → r ≡ reason cal i → eqb r 0 ≡ isWerktag cal i

@@ -2,13 +2,13 @@
 //
 // Document 01, lib.rs (calendar); the reason of a closed day: document 02, F-2. The list is the same in every year.
 ghost use mathlib.Core.Path.{_≡_};
+ghost use mathlib.Core.List.{map};
 ghost use Prim.Native.Nat.{_≤_};
 ghost use Rattle.zaehlung.specs.Walk.{last};
-ghost use mathlib.Core.List.{map};
 ghost use Rattle.datum.specs.Calendar.{firstYear, lastYear, dateOf};
 ghost use Rattle.werktag.specs.Easter.{easterSunday};
 ghost use Rattle.werktag.specs.Werktag.{eqZ, isBussUndBettag, easterOffsets, isWerktag};
-ghost use Rattle.werktag.specs.Reason.{placeFrom, weekend, fixedTests, feastTests, holidays, reason};
+ghost use Rattle.werktag.specs.Reason.{placeFrom, weekendTests, fixedTests, feastTests, holidayTests, reason};
 use datum::Date;
 
 /// Weekdays, Monday being 0.
@@ -34,25 +34,25 @@ const EASTER_FEASTS: usize = 6;
 
 const EASTER_OFFSET: [i64; EASTER_FEASTS] = [-2, 1, 39, 49, 50, 60];
 
-/// The reasons in the order of the rules: the weekend, then the list. A Werktag has none.
-pub const WERKTAG: u8 = 0;
+/// The reasons, in the order of what closes a day: the weekend, then the list. A Werktag has 0.
+const WERKTAG: u8 = 0;
 
 const SAMSTAG: u8 = 1;
 
 const SONNTAG: u8 = 2;
 
-/// The first of the fixed days.
+/// The first of the fixed days; the others follow in the tables' order.
 const NEUJAHR: u8 = 3;
 
 const BUSS_UND_BETTAG: u8 = NEUJAHR + (FIXED_DAYS as u8);
 
-/// The first of the feasts that move with Easter Sunday.
+/// The first of the feasts that move with Easter Sunday; the others follow.
 const KARFREITAG: u8 = BUSS_UND_BETTAG + 1;
 
 /// The reason of a Saturday or a Sunday.
 fn weekend(day: u32) -> u8
     requires { ⌜ day ≤ last ⌝ }
-    ensures { λ r. ⌜ r ≡ placeFrom 1 (weekend day) ⌝ }
+    ensures { λ r. ⌜ r ≡ placeFrom 1 (weekendTests day) ⌝ }
 {
     let weekday = datum::weekday(day);
     if weekday < SATURDAY {
@@ -158,7 +158,7 @@ fn easter_feast(index: u32, year: u16) -> u8
 /// holidays on one date it is the lower: 1 May 2008, Tag der Arbeit and Christi Himmelfahrt, has 6.
 fn bdew_mako_holiday(index: u32) -> u8
     requires { ⌜ index ≤ last ⌝ }
-    ensures { λ r. ⌜ r ≡ placeFrom 3 (holidays index (dateOf index)) ⌝ }
+    ensures { λ r. ⌜ r ≡ placeFrom 3 (holidayTests index (dateOf index)) ⌝ }
 {
     let date = datum::date_of(index);
     let fixed = fixed_day(date.month, date.day);
@@ -179,9 +179,9 @@ pub fn reason(day: u32, cal: HolidayCalendar) -> u8
     requires { ⌜ day ≤ last ⌝ }
     ensures { λ r. ⌜ r ≡ reason cal day ⌝ }
 {
-    let weekend = weekend(day);
-    if weekend != WERKTAG {
-        return weekend;
+    let closed = weekend(day);
+    if closed != WERKTAG {
+        return closed;
     }
     match cal {
         HolidayCalendar::BdewMaKo => bdew_mako_holiday(day),

@@ -10,7 +10,8 @@ use Rattle.werktag.proofs.fixed_day.Statement.{statement}
 use Rattle.werktag.proofs.fixed_day.Tie as tie
 
 abbrev Inv-loop : tie.InvT-loop
-Inv-loop month day i₀ i = (i ≤ 13) × (placeFrom (3 + i) (drop i (fixedTests month day)) ≡ placeFrom 3 (fixedTests month day))
+Inv-loop month day i₀ i =
+    (i ≤ 13) × (placeFrom (3 + i) (drop i (fixedTests month day)) ≡ placeFrom 3 (fixedTests month day))
 
 abbrev μ-loop : tie.MeasureT-loop
 μ-loop month day i₀ i = 13 - i
