@@ -44,7 +44,7 @@ pub struct Answer {
 }
 
 /// An answer of all its fields, in the order of their bytes: what every named answer is made by. "Unused fields are
-/// zero": the day test of 2 April 2026, a Werktag, is `filled(0, 1, 0, 0, 0, 0, 0, 0)`.
+/// zero": the day test of 3 April 2026, Karfreitag, is `filled(0, 17, 0, 0, 0, 0, 0, 0)`.
 pub fn filled(
     refusal: u8,
     kind: u8,
