@@ -1,6 +1,7 @@
 //! Reads the original's files and writes them to OUT_DIR, changed only where they cannot compile
-//! here. A change that does not find its place exactly once stops the build: then the original is
-//! another than the one these changes were made for.
+//! here, and beside them the lists that stand inside of its holiday test. A change that does not find
+//! its place exactly once stops the build: then the original is another than the one these changes
+//! were made for.
 
 use std::path::{Path, PathBuf};
 use std::{env, fs};
@@ -21,6 +22,9 @@ fn main() {
             panic!("{}: {e}; set {FOLDER} to the original's folder", path.display())
         });
         fs::write(out.join(file), adapted(file, &text)).expect("OUT_DIR can be written");
+        if file == "lib.rs" {
+            fs::write(out.join("lists.rs"), lists(&text)).expect("OUT_DIR can be written");
+        }
     }
 }
 
@@ -62,4 +66,26 @@ fn without_head(text: &str) -> &str {
 fn replaced(text: &str, old: &str, new: &str) -> String {
     assert_eq!(text.matches(old).count(), 1, "the original changed: `{old}` stands there not once");
     text.replacen(old, new, 1)
+}
+
+/// The fixed days and the offsets from Easter, for a look at each entry. The holiday test has them as
+/// a pattern and a slice of its own, and tells only whether one of all fits.
+fn lists(text: &str) -> String {
+    let test = between(text, "fn is_bdew_mako_holiday(date: Date) -> bool {", "\n}\n");
+    let fixed = between(test, "if matches!(", "\n    ) {");
+    let offsets = between(test, "let offsets: &[i64] = &[", "];");
+    format!(
+        "pub fn is_fixed(m: u8, d: u8) -> bool {{\n    matches!({fixed}\n    )\n}}\n\n\
+         pub const OFFSETS: &[i64] = &[{offsets}];\n"
+    )
+}
+
+/// What stands from `start`, which is there once, up to the next `end`.
+fn between<'a>(text: &'a str, start: &str, end: &str) -> &'a str {
+    let parts: Vec<&str> = text.split(start).collect();
+    let [_, rest] = parts[..] else {
+        panic!("the original changed: `{start}` stands there not once");
+    };
+    let found = rest.split_once(end);
+    found.unwrap_or_else(|| panic!("the original changed: no `{end}` after `{start}`")).0
 }

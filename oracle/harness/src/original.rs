@@ -2,10 +2,12 @@
 //! answer is made.
 
 mod panics;
+mod reason;
 mod span;
 mod verdict;
 
 pub use panics::{caught, Panic};
+pub use reason::{ALIKE, ENDS};
 pub use span::expected_of_the_verdicts;
 
 use crate::records::{self, Record};
@@ -106,10 +108,7 @@ fn knows(question: &Question, parameter: Parameter) -> bool {
 fn werktage(question: &Question, cap: Cap) -> Result<Answer, Refusal> {
     let date = days::given(question.date)?;
     match question.call {
-        Call::IsWerktag => {
-            let werktag = mako_fristen::is_werktag(date, BdewMaKo);
-            Ok(Answer::default().with_kind(werktag.into()))
-        }
+        Call::IsWerktag => Ok(Answer::default().with_kind(reason::of_day(date))),
         Call::NextWerktag => dated(next_werktag(date)),
         Call::AddWerktage => dated(werktage_on(date, question.n, cap)),
         _ => dated(werktage_back(date, question.n, cap)),

@@ -2,8 +2,9 @@
 //! all rows of the comparison. A line is the question's 64 bytes, a space and the answer's 32, in
 //! hexadecimal. The same seed gives the same file. Options: `--seed N`, `--out PATH`.
 
+use harness::days;
 use harness::options::{self, DEFAULT_SEED};
-use harness::original;
+use harness::original::{self, ENDS};
 use harness::random::Random;
 use harness::rows::{self, Row};
 use harness::run::hex;
@@ -39,11 +40,12 @@ fn main() -> ExitCode {
     ExitCode::SUCCESS
 }
 
-/// Different questions of the call, taken from its rows in turn.
+/// Different questions of the call: those that it always has, then some from its rows in turn.
 fn sample(call: Call, rows: &[Row], seed: u64) -> Vec<Question> {
     let rows: Vec<&Row> = rows.iter().filter(|row| row.call == call).collect();
     let mut random = Random::at(seed, u64::from(call.number()), u64::MAX);
-    let (mut seen, mut questions) = (HashSet::new(), Vec::new());
+    let mut questions = always(call);
+    let mut seen: HashSet<Question> = questions.iter().copied().collect();
     let wanted = if call.number() <= Call::SubtractMonths.number() {
         PER_CALENDAR_CALL
     } else {
@@ -59,6 +61,17 @@ fn sample(call: Call, rows: &[Row], seed: u64) -> Vec<Question> {
         }
     }
     questions
+}
+
+/// For the day test, the ends of each set of days alike. So every reason is there, holidays on a
+/// weekend, two holidays on one date, and both edges of the calendar.
+fn always(call: Call) -> Vec<Question> {
+    match call {
+        Call::IsWerktag => {
+            ENDS.iter().map(|&index| Question::on(call, days::date(index))).collect()
+        }
+        _ => Vec::new(),
+    }
 }
 
 fn line(question: &Question) -> Result<String, String> {

@@ -5,7 +5,7 @@
 use super::{abmeldung, instants, kalender, uhr, vorlauf, Probe, Row, LONGEST};
 use crate::days::{self, DAYS};
 use crate::instants::{given, given_clock, moved, to_host, SWITCH_DAYS};
-use crate::original;
+use crate::original::{self, ALIKE, ENDS};
 use crate::random::Random;
 use mako_fristen_host::{Answer, Call, Clock, Date, Instant, Parameter, Question};
 use time::macros::time;
@@ -67,7 +67,7 @@ fn sound(call: Call, random: &mut Random) -> Question {
     if call.takes(Parameter::Instant) {
         return at_any_instant(call, random);
     }
-    let index = any_day(random);
+    let index = if call == Call::IsWerktag { day_to_test(random) } else { any_day(random) };
     let question = Question::on(call, days::date(index));
     match call {
         Call::AddWerktage => question.with_count(werktage(DAYS - 1 - index, random)),
@@ -103,6 +103,19 @@ fn at_any_instant(call: Call, random: &mut Random) -> Question {
         question.with_count(werktage(left.clamp(0, DAYS.into()) as u32, random))
     } else {
         question
+    }
+}
+
+/// The index of a day for the day test; two in four are of a set of days alike, each set as often as
+/// another, since some have few days in nine centuries, and one is an end of a set.
+fn day_to_test(random: &mut Random) -> u32 {
+    match random.below(4) {
+        0 => any_day(random),
+        1 => random.one_of(&ENDS),
+        _ => {
+            let set = random.below(ALIKE.len() as u32) as usize;
+            random.one_of(&ALIKE[set])
+        }
     }
 }
 
@@ -288,9 +301,11 @@ fn any_number(random: &mut Random) -> u32 {
 
 #[cfg(test)]
 mod tests {
-    use super::{rows, share};
-    use crate::original;
-    use mako_fristen_host::{Answer, Call, Parameter};
+    use super::{question, rows, share};
+    use crate::days;
+    use crate::original::{self, ALIKE, ENDS};
+    use crate::random::Random;
+    use mako_fristen_host::{Answer, Call, Date, Parameter};
     use std::collections::HashSet;
 
     /// How many questions each call has for a look at its arguments.
@@ -322,6 +337,20 @@ mod tests {
                 assert!(met.contains(&number), "{}: {number}", row.call.name());
             }
         }
+    }
+
+    /// Weekends and holidays, holidays on a weekend, two holidays on one date, and the ends of each: a
+    /// fuzzing has about as many questions.
+    #[test]
+    fn days_of_every_kind_are_tested() {
+        let asked = |place| question(Call::IsWerktag, &mut Random::at(1, 0, place)).date;
+        let dates: HashSet<Date> = (0..LOOK).map(asked).collect();
+        let met =
+            |days: &[u32]| days.iter().filter(|&&day| dates.contains(&days::date(day))).count();
+        for set in ALIKE.iter() {
+            assert!(met(set) > 2, "{}: {} of {}", days::date(set[0]), met(set), set.len());
+        }
+        assert!(met(&ENDS) * 10 > ENDS.len() * 9, "{} of {}", met(&ENDS), ENDS.len());
     }
 
     fn refusals(call: Call) -> Vec<u8> {

@@ -420,6 +420,7 @@ fn main() {
     println!(
         "Anchors are 1 to 20 days later. The original has no span: its steps to the same ends."
     );
+    println!("The day test: ours tells why a day is closed, the original only whether.");
     println!("Files have 2048 questions in all, as many of each operation, mixed: per question.");
     println!("{:36} {:16} {:>12} {:>12} {:>8}", "call", "", "ours", "original", "ratio");
     for case in cases() {
