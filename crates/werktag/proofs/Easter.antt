@@ -8,22 +8,23 @@
 --   easter-is          its index, by the year's start
 --   firstOf k          = the weekday of 1 January of the year 1996 + k, without a walk over the years
 --   weekday-in         the weekday of a day of the year, by that of its first
---   easter-on-sunday   Easter Sunday is a Sunday, computed for every year
+--   easter-on-sunday   Easter Sunday is a Sunday, and
+--   easter-between     day 80 to 116 of its year, from 0 on; both computed for every year
 -- omega takes the remainders one at a time, so each bound has a lemma of its own.
 -- Assumes nothing.
 use Prim.Native.Nat.{ℕ, zero, suc, _+_, _-_, _*_, _/_, _%_, _≤_, _<_}
-use mathlib.Core.Bool.{Bool, true}
-use mathlib.Core.Path.{_≡_, refl, ap}
+use mathlib.Core.Bool.{Bool, true, _&&_}
+use mathlib.Core.Path.{_≡_, refl, ap, subst}
 use native.Mathlib.Omega.{arith}
-use lib.Dec.{eqb}
-use borrow.Author.Tests.{eqb-true}
+use lib.Dec.{eqb, leb}
+use borrow.Author.Tests.{eqb-true, leb-true}
 use mir.Syntax.{w8}
 use mir.Val.{Fits}
 use Rattle.zaehlung.specs.Blocks.{start}
 use Rattle.zaehlung.proofs.Every.{run, run-at}
 use Rattle.datum.specs.declared.Date.{Date}
 use Rattle.datum.specs.Calendar.{isDate, isLeap, daysInMonth, monthStart, yearStart, weekday}
-use Rattle.datum.proofs.Dates.{Valid, is-valid}
+use Rattle.datum.proofs.Dates.{Valid, is-valid, and-left, and-right}
 use Rattle.datum.proofs.Rules.{start-is}
 use Rattle.werktag.specs.Easter.{easterSunday, easterIndex}
 
@@ -127,17 +128,40 @@ weekday-in k r = same (yearStart k) (firstOf k) r (ap (λ (s : ℕ). s % 7) (sta
     same : (s f r : ℕ) → f ≡ s % 7 → (s + r) % 7 ≡ (f + r) % 7
     same s f r e = omega arith
 
-on-sunday : ℕ → Bool
-on-sunday k = eqb ((firstOf k + easterIn (1996 + k)) % 7) 6
+placed : ℕ → Bool
+placed k =
+    let e = easterIn (1996 + k) in
+    eqb ((firstOf k + e) % 7) 6 && (leb 80 e && leb e 116)
 
-all-on-sunday : run on-sunday 904 0 ≡ true
-unfolding run on-sunday easterSunday start daysInMonth isLeap
-all-on-sunday = refl
+all-placed : run placed 904 0 ≡ true
+unfolding run placed easterSunday start daysInMonth isLeap
+all-placed = refl
+
+placed-is : (k : ℕ) → k < 904 → placed k ≡ true
+placed-is k h = run-at placed 904 0 all-placed k (omega arith) (omega arith)
+
+-- what holds of the years counted from 1996 holds of the calendar's years
+each-year : (P : ℕ → Type 0) → ((k : ℕ) → k < 904 → P (1996 + k)) → (y : ℕ) → 1996 ≤ y → y ≤ 2899 → P y
+each-year P f y a b = let q : 1996 + (y - 1996) ≡ y = omega arith in subst P q (f (y - 1996) (omega arith))
 
 pub easter-on-sunday : (y : ℕ) → 1996 ≤ y → y ≤ 2899 → weekday (easterIndex y) ≡ 6
-unfolding on-sunday
-easter-on-sunday y a b =
-    let k = y - 1996 in
-    let q : 1996 + k ≡ y = omega arith in
-    rw (← q, easter-is k, weekday-in k (easterIn (1996 + k)))
-    (eqb-true _ _ (run-at on-sunday 904 0 all-on-sunday k (omega arith) (omega arith)))
+unfolding placed
+easter-on-sunday =
+    each-year (λ y. weekday (easterIndex y) ≡ 6)
+    (λ k h. rw (easter-is k, weekday-in k (easterIn (1996 + k))) (eqb-true _ _ (and-left _ _ (placed-is k h))))
+
+abbrev Between : ℕ → Type 0
+Between y = (yearStart (y - 1996) + 80 ≤ easterIndex y) × (easterIndex y ≤ yearStart (y - 1996) + 116)
+
+pub easter-between : (y : ℕ) → 1996 ≤ y → y ≤ 2899 → Between y
+unfolding placed
+easter-between = each-year Between between
+  where
+    between : (k : ℕ) → k < 904 → Between (1996 + k)
+    between k h =
+        let e = easterIn (1996 + k) in
+        let t = and-right (eqb ((firstOf k + e) % 7) 6) _ (placed-is k h) in
+        let p = leb-true 80 e (and-left (leb 80 e) (leb e 116) t) in
+        let q = leb-true e 116 (and-right (leb 80 e) (leb e 116) t) in
+        let z : 1996 + k - 1996 ≡ k = omega arith in
+        rw (z, easter-is k) (omega arith, omega arith)

@@ -1,7 +1,7 @@
 -- What the proofs of this crate's functions cite: a lemma for each return and each turn of a loop, with premises in the
 -- form in which they stand there.
 -- Assumes nothing.
-use Prim.Native.Nat.{ℕ, _+_, _-_, _≤_, _<_}
+use Prim.Native.Nat.{ℕ, suc, _+_, _-_, _≤_, _<_}
 use mathlib.Core.Bool.{Bool, true, false, _&&_}
 use mathlib.Core.List.{List, [], _∷_, map}
 use mathlib.Core.Path.{_≡_, refl, sym, ap, _∙_}
@@ -14,17 +14,20 @@ use mir.Syntax.{w64}
 use mir.Val.{SFits, toZ, ofZ}
 use mir.Facts.{toZ-ofZ}
 use Rattle.zaehlung.specs.Walk.{last}
+use Rattle.zaehlung.specs.Blocks.{start}
 use Rattle.datum.specs.declared.Date.{Date}
-use Rattle.datum.specs.Calendar.{dateOf, daysBefore, weekday}
+use Rattle.datum.specs.Calendar.{isLeap, daysInMonth, monthStart, dateOf, daysBefore, weekday}
+use Rattle.zaehlung.proofs.BlockLaws.{start-suc, start-mono}
 use Rattle.zaehlung.proofs.Every.{run, run-at}
-use Rattle.datum.proofs.Dates.{and-left, and-right, and-no, index-date}
-use Rattle.datum.proofs.Signed.{back, pos-fits, neg-fits, back-pos, sub-fits, same-bits}
+use Rattle.datum.proofs.Dates.{Valid, and-left, and-right, and-no, index-date}
+use Rattle.datum.proofs.Signed.{back, pos-fits, neg-fits, back-pos, sub-pos, sub-neg, sub-fits, same-bits}
 use Rattle.werktag.specs.declared.HolidayCalendar.{HolidayCalendar}
 use Rattle.werktag.specs.declared.HolidayCalendar.the-variants.{BdewMaKo}
 use Rattle.werktag.specs.Easter.{easterSunday, easterIndex}
 use Rattle.werktag.specs.Werktag.{eqZ, fixedDays, isDay, isBussUndBettag, easterOffsets, isWerktag}
 use Rattle.werktag.specs.Reason.{placeFrom, weekendTests, fixedTests, feastTests, holidayTests, reason}
 use Rattle.werktag.proofs.Place.{place-hit, place-miss, place-none, place-left, place-right, map-at}
+use Rattle.werktag.proofs.Easter.{easter-between}
 use Rattle.werktag.proofs.Reasons.{reason-is, reason-zero}
 use Rattle.werktag.proofs.Signed.{eq-eqZ, ne-eqZ, from-distance}
 
@@ -161,19 +164,86 @@ module _ (z : ℤ) (i : ℕ) (f : SFits w64 z)
   pub offset-none : 6 ≤ i → 0 ≡ placeFrom 17 (feasts z)
   offset-none h = place-none (feasts (back z)) 17 i e h ∙ at-z
 
--- easter_feast: s is what `days_before` returned for Easter Sunday d
+-- easter_feast: the feasts by their distance from Easter, and where there is none
+by-distance : (i y : ℕ) → placeFrom 17 (feasts (pos i -ℤ pos (easterIndex y))) ≡ placeFrom 17 (feastTests i y)
+by-distance i y = simp (from-distance (pos i) (pos (easterIndex y)))
+
+no-feast-before : (i y : ℕ) → i + 2 < easterIndex y → 0 ≡ placeFrom 17 (feastTests i y)
+unfolding placeFrom
+no-feast-before i y h =
+    let e = easterIndex y in
+    sym (ap (λ (z : ℤ). placeFrom 17 (feasts z)) (sub-neg i e (omega arith)) ∙ far) ∙ by-distance i y
+  where
+    far : placeFrom 17 (feasts (negsuc (easterIndex y - suc i))) ≡ 0
+    far = rw (ne-eqb (easterIndex y - suc i) 1 (λ q. omega arith))
+
+no-feast-after : (i y : ℕ) → easterIndex y + 60 < i → 0 ≡ placeFrom 17 (feastTests i y)
+unfolding placeFrom
+no-feast-after i y h =
+    let e = easterIndex y in
+    sym (ap (λ (z : ℤ). placeFrom 17 (feasts z)) (sub-pos i e (omega arith)) ∙ far) ∙ by-distance i y
+  where
+    far : placeFrom 17 (feasts (pos (i - easterIndex y))) ≡ 0
+    far =
+        let z = i - easterIndex y in
+        rw (
+          ne-eqb z 1 (λ q. omega arith),
+          ne-eqb z 39 (λ q. omega arith),
+          ne-eqb z 49 (λ q. omega arith),
+          ne-eqb z 50 (λ q. omega arith),
+          ne-eqb z 60 (λ q. omega arith),
+        )
+
+-- the days of the year before March and before July
+starts : (l : Bool) → (monthStart l 3 ≤ 60) × (181 ≤ monthStart l 7)
+unfolding start daysInMonth
+starts true = (omega arith, omega arith)
+starts false = (omega arith, omega arith)
+
+-- d is the day's date
+module _ (i : ℕ) (d : Date) (h : i ≤ last) (e : d ≡ dateOf i) where
+  valid : Valid d
+  valid = rw e (index-date i h .0)
+
+  index : daysBefore d ≡ i
+  index = rw e (index-date i h .1)
+
+  abbrev l : Bool
+  l = isLeap (d .year)
+
+  pub year-from : 1996 ≤ d .year
+  year-from = valid .from
+
+  pub year-to : d .year ≤ 2899
+  year-to = valid .to
+
+  pub before-march : d .month < 3 → 0 ≡ placeFrom 17 (feastTests i (d .year))
+  before-march m =
+      let s = start-suc (daysInMonth l) (d .month) in
+      let t = start-mono (daysInMonth l) (suc (d .month)) 3 (omega arith) in
+      no-feast-before i (d .year)
+      (omega (arith, s, t, index, valid .day-to, starts l .0, easter-between (d .year) year-from year-to .0))
+
+  pub after-june : 6 < d .month → 0 ≡ placeFrom 17 (feastTests i (d .year))
+  after-june m =
+      let t = start-mono (daysInMonth l) 7 (d .month) (omega arith) in
+      no-feast-after i (d .year)
+      (omega (arith, t, index, starts l .1, easter-between (d .year) year-from year-to .1))
+
+-- s is what `days_before` returned for Easter Sunday d
 module _ (i y s : ℕ) (d : Date) (h : i ≤ last) (e : d ≡ easterSunday y) (q : s ≡ daysBefore d) (g : s ≤ last) where
   pub distance-fits : SFits w64 (toZ w64 i -ℤ toZ w64 s)
   distance-fits = rw (back-pos i (omega arith), back-pos s (omega arith)) (sub-fits i s (omega arith) (omega arith))
 
-  pub feast :
-      (r : ℕ) → r ≡ placeFrom 17 (feasts (back (toZ w64 i -ℤ toZ w64 s))) → r ≡ placeFrom 17 (feastTests i y)
+  pub feast : (r : ℕ) → r ≡ placeFrom 17 (feasts (back (toZ w64 i -ℤ toZ w64 s))) → r ≡ placeFrom 17 (feastTests i y)
   unfolding easterIndex
   feast r p =
       let k : s ≡ daysBefore (easterSunday y) = q ∙ ap daysBefore e in
       let t : back (toZ w64 i -ℤ toZ w64 s) ≡ pos i -ℤ pos (easterIndex y) =
       toZ-ofZ distance-fits ∙ (rw (back-pos i (omega arith), back-pos s (omega arith), k)) in
-      p ∙ ap (λ (x : ℤ). placeFrom 17 (feasts x)) t ∙ simp (from-distance (pos i) (pos (easterIndex y)))
+      p ∙ ap (λ (x : ℤ). placeFrom 17 (feasts x)) t ∙ by-distance i y
+
+pub ruleset feast-rules = (year-from, year-to, before-march, after-june, distance-fits, feast)
 
 -- bdew_mako_holiday: d is the date that `date_of` returned, a what `fixed_day` returned
 module _ (i a : ℕ) (d : Date) (e : d ≡ dateOf i) (p : a ≡ placeFrom 3 (fixedTests (d .month) (d .day))) where
@@ -198,13 +268,7 @@ module _ (i a : ℕ) (d : Date) (e : d ≡ dateOf i) (p : a ≡ placeFrom 3 (fix
     unfolding placeFrom
     by-easter r u s = s ∙ rest false u
 
-  pub year-from : i ≤ last → 1996 ≤ d .year
-  year-from h = rw e (index-date i h .0 .from)
-
-  pub year-to : i ≤ last → d .year ≤ 2899
-  year-to h = rw e (index-date i h .0 .to)
-
-pub ruleset holiday-rules = (by-table, by-wednesday, by-easter, year-from, year-to)
+pub ruleset holiday-rules = (by-table, by-wednesday, by-easter)
 
 -- reason: a is what `weekend` returned
 pub weekend-first :

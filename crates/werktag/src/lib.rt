@@ -16,6 +16,13 @@ const WEDNESDAY: u32 = 2;
 
 const SATURDAY: u32 = 5;
 
+/// Months, January being 1.
+const MARCH: u8 = 3;
+
+const JUNE: u8 = 6;
+
+const NOVEMBER: u8 = 11;
+
 /// Whose holidays count. A holiday of any one Land counts everywhere.
 pub enum HolidayCalendar {
     BdewMaKo,
@@ -87,7 +94,7 @@ fn fixed_day(month: u8, day: u8) -> u8
 fn is_buss_und_bettag(month: u8, day: u8, weekday: u32) -> bool
     ensures { λ r. ⌜ r ≡ isBussUndBettag month day weekday ⌝ }
 {
-    if month != 11 {
+    if month != NOVEMBER {
         return false;
     }
     if day < 16 {
@@ -145,12 +152,19 @@ fn feast_at(distance: i64) -> u8
     WERKTAG
 }
 
-/// The reason of a feast that moves with Easter Sunday of the day's year.
-fn easter_feast(index: u32, year: u16) -> u8
-    requires { ⌜ (index ≤ last) × (firstYear ≤ year) × (year ≤ lastYear) ⌝ }
-    ensures { λ r. ⌜ r ≡ placeFrom 17 (feastTests index year) ⌝ }
+/// The reason of a feast that moves with Easter Sunday of the day's year. The earliest is a Karfreitag of 20 March
+/// (2285), the latest a Fronleichnam of 24 June (2038): for eight months of the year Easter need not be known.
+fn easter_feast(index: u32, date: Date) -> u8
+    requires { ⌜ (index ≤ last) × (date ≡ dateOf index) ⌝ }
+    ensures { λ r. ⌜ r ≡ placeFrom 17 (feastTests index (date .year)) ⌝ }
 {
-    let easter = datum::days_before(easter_sunday(year));
+    if date.month < MARCH {
+        return WERKTAG;
+    }
+    if JUNE < date.month {
+        return WERKTAG;
+    }
+    let easter = datum::days_before(easter_sunday(date.year));
     feast_at((index as i64) - (easter as i64))
 }
 
@@ -168,7 +182,7 @@ fn bdew_mako_holiday(index: u32) -> u8
     if is_buss_und_bettag(date.month, date.day, datum::weekday(index)) {
         return BUSS_UND_BETTAG;
     }
-    easter_feast(index, date.year)
+    easter_feast(index, date)
 }
 
 /// Why a day, given by its index, is closed: '0 Werktag, 1 Saturday, 2 Sunday, 3 to 22 the holidays', in the list's
