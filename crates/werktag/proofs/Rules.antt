@@ -70,34 +70,34 @@ entry-is i h =
     let t = run-at same 13 0 all-same i (omega arith) (omega arith) in
     (eqb-true _ _ (and-left _ _ t), eqb-true _ _ (and-right (eqb (entry i .0) (getD days i 0)) _ t))
 
-module _ (m d i : ℕ) (e : placeFrom (3 + i) (drop i (fixedTests m d)) ≡ placeFrom 3 (fixedTests m d)) where
-  pub fixed-hit : i < 13 → getD months i 0 ≡ m → getD days i 0 ≡ d → 3 + i ≡ placeFrom 3 (fixedTests m d)
+module _ (n m d i : ℕ) (e : placeFrom (n + i) (drop i (fixedTests m d)) ≡ placeFrom n (fixedTests m d)) where
+  pub fixed-hit : i < 13 → getD months i 0 ≡ m → getD days i 0 ≡ d → n + i ≡ placeFrom n (fixedTests m d)
   fixed-hit h p q =
       let k = entry-is i h in
-      place-hit (fixedTests m d) 3 i e h
+      place-hit (fixedTests m d) n i e h
       (map-at (isDay m d) fixedDays i (0, 0) false h
       ∙ rw (eq-eqb (entry i .0) d (k .0 ∙ q)) (eq-eqb (entry i .1) m (k .1 ∙ p)))
 
   pub fixed-other-day :
       i < 13 → getD months i 0 ≡ m → (getD days i 0 ≡ d → ⊥) →
-      placeFrom (3 + (i + 1)) (drop (i + 1) (fixedTests m d)) ≡ placeFrom 3 (fixedTests m d)
+      placeFrom (n + (i + 1)) (drop (i + 1) (fixedTests m d)) ≡ placeFrom n (fixedTests m d)
   fixed-other-day h p q =
       let k = entry-is i h in
-      place-miss (fixedTests m d) 3 i e h
+      place-miss (fixedTests m d) n i e h
       (map-at (isDay m d) fixedDays i (0, 0) false h
       ∙ rw (ne-eqb (entry i .0) d (λ x. q (sym (k .0) ∙ x))))
 
   pub fixed-other-month :
       i < 13 → (getD months i 0 ≡ m → ⊥) →
-      placeFrom (3 + (i + 1)) (drop (i + 1) (fixedTests m d)) ≡ placeFrom 3 (fixedTests m d)
+      placeFrom (n + (i + 1)) (drop (i + 1) (fixedTests m d)) ≡ placeFrom n (fixedTests m d)
   fixed-other-month h q =
       let k = entry-is i h in
-      place-miss (fixedTests m d) 3 i e h
+      place-miss (fixedTests m d) n i e h
       (map-at (isDay m d) fixedDays i (0, 0) false h
       ∙ rw (ne-eqb (entry i .1) m (λ x. q (sym (k .1) ∙ x))) (and-no (eqb (entry i .0) d)))
 
-  pub fixed-none : 13 ≤ i → 0 ≡ placeFrom 3 (fixedTests m d)
-  fixed-none h = place-none (fixedTests m d) 3 i e h
+  pub fixed-none : 13 ≤ i → 0 ≡ placeFrom n (fixedTests m d)
+  fixed-none h = place-none (fixedTests m d) n i e h
 
 -- is_buss_und_bettag
 module _ (m d w : ℕ) where
@@ -142,57 +142,56 @@ offset-fits i h = fits-is (offset i) (run-at (λ i. fits (offset i)) 6 0 all-fit
 abbrev pub feasts : ℤ → List Bool
 feasts z = map (eqZ z) easterOffsets
 
-module _ (z : ℤ) (i : ℕ) (f : SFits w64 z)
-    (e : placeFrom (17 + i) (drop i (feasts (back z))) ≡ placeFrom 17 (feasts (back z))) where
-  at-z : placeFrom 17 (feasts (back z)) ≡ placeFrom 17 (feasts z)
-  at-z = ap (λ (x : ℤ). placeFrom 17 (feasts x)) (toZ-ofZ f)
+module _ (n : ℕ) (z : ℤ) (i : ℕ) (f : SFits w64 z)
+    (e : placeFrom (n + i) (drop i (feasts (back z))) ≡ placeFrom n (feasts (back z))) where
+  at-z : placeFrom n (feasts (back z)) ≡ placeFrom n (feasts z)
+  at-z = ap (λ (x : ℤ). placeFrom n (feasts x)) (toZ-ofZ f)
 
-  pub offset-hit : i < 6 → ofZ w64 (offset i) ≡ ofZ w64 z → 17 + i ≡ placeFrom 17 (feasts z)
+  pub offset-hit : i < 6 → ofZ w64 (offset i) ≡ ofZ w64 z → n + i ≡ placeFrom n (feasts z)
   offset-hit h p =
-      place-hit (feasts (back z)) 17 i e h
+      place-hit (feasts (back z)) n i e h
       (map-at (eqZ (back z)) easterOffsets i (pos 0) false h
       ∙ eq-eqZ (back z) (offset i) (toZ-ofZ f ∙ sym (same-bits (offset i) z (offset-fits i h) f p))) ∙ at-z
 
   pub offset-miss :
       i < 6 → (ofZ w64 (offset i) ≡ ofZ w64 z → ⊥) →
-      placeFrom (17 + (i + 1)) (drop (i + 1) (feasts (back z))) ≡ placeFrom 17 (feasts (back z))
-  offset-miss h n =
-      place-miss (feasts (back z)) 17 i e h
+      placeFrom (n + (i + 1)) (drop (i + 1) (feasts (back z))) ≡ placeFrom n (feasts (back z))
+  offset-miss h g =
+      place-miss (feasts (back z)) n i e h
       (map-at (eqZ (back z)) easterOffsets i (pos 0) false h
-      ∙ ne-eqZ (back z) (offset i) (λ q. n (ap (ofZ w64) (sym q ∙ toZ-ofZ f))))
+      ∙ ne-eqZ (back z) (offset i) (λ q. g (ap (ofZ w64) (sym q ∙ toZ-ofZ f))))
 
-  pub offset-none : 6 ≤ i → 0 ≡ placeFrom 17 (feasts z)
-  offset-none h = place-none (feasts (back z)) 17 i e h ∙ at-z
+  pub offset-none : 6 ≤ i → 0 ≡ placeFrom n (feasts z)
+  offset-none h = place-none (feasts (back z)) n i e h ∙ at-z
 
 -- easter_feast: the feasts by their distance from Easter, and where there is none
-by-distance : (i y : ℕ) → placeFrom 17 (feasts (pos i -ℤ pos (easterIndex y))) ≡ placeFrom 17 (feastTests i y)
+by-distance : (i y : ℕ) → feasts (pos i -ℤ pos (easterIndex y)) ≡ feastTests i y
 by-distance i y = simp (from-distance (pos i) (pos (easterIndex y)))
 
-no-feast-before : (i y : ℕ) → i + 2 < easterIndex y → 0 ≡ placeFrom 17 (feastTests i y)
-unfolding placeFrom
-no-feast-before i y h =
-    let e = easterIndex y in
-    sym (ap (λ (z : ℤ). placeFrom 17 (feasts z)) (sub-neg i e (omega arith)) ∙ far) ∙ by-distance i y
-  where
-    far : placeFrom 17 (feasts (negsuc (easterIndex y - suc i))) ≡ 0
-    far = rw (ne-eqb (easterIndex y - suc i) 1 (λ q. omega arith))
+module _ (n i y : ℕ) where
+  abbrev e : ℕ
+  e = easterIndex y
 
-no-feast-after : (i y : ℕ) → easterIndex y + 60 < i → 0 ≡ placeFrom 17 (feastTests i y)
-unfolding placeFrom
-no-feast-after i y h =
-    let e = easterIndex y in
-    sym (ap (λ (z : ℤ). placeFrom 17 (feasts z)) (sub-pos i e (omega arith)) ∙ far) ∙ by-distance i y
-  where
-    far : placeFrom 17 (feasts (pos (i - easterIndex y))) ≡ 0
-    far =
-        let z = i - easterIndex y in
-        rw (
-          ne-eqb z 1 (λ q. omega arith),
-          ne-eqb z 39 (λ q. omega arith),
-          ne-eqb z 49 (λ q. omega arith),
-          ne-eqb z 50 (λ q. omega arith),
-          ne-eqb z 60 (λ q. omega arith),
-        )
+  -- z is the distance
+  far : (z : ℤ) → pos i -ℤ pos e ≡ z → placeFrom n (feasts z) ≡ 0 → 0 ≡ placeFrom n (feastTests i y)
+  far z q none = sym none ∙ ap (λ (x : ℤ). placeFrom n (feasts x)) (sym q) ∙ ap (placeFrom n) (by-distance i y)
+
+  no-feast-before : i + 2 < e → 0 ≡ placeFrom n (feastTests i y)
+  unfolding placeFrom
+  no-feast-before h =
+      far (negsuc (e - suc i)) (sub-neg i e (omega arith)) (rw (ne-eqb (e - suc i) 1 (λ q. omega arith)))
+
+  no-feast-after : e + 60 < i → 0 ≡ placeFrom n (feastTests i y)
+  unfolding placeFrom
+  no-feast-after h =
+      far (pos (i - e)) (sub-pos i e (omega arith))
+      (rw (
+        ne-eqb (i - e) 1 (λ q. omega arith),
+        ne-eqb (i - e) 39 (λ q. omega arith),
+        ne-eqb (i - e) 49 (λ q. omega arith),
+        ne-eqb (i - e) 50 (λ q. omega arith),
+        ne-eqb (i - e) 60 (λ q. omega arith),
+      ))
 
 -- the days of the year before March and before July
 starts : (l : Bool) → (monthStart l 3 ≤ 60) × (181 ≤ monthStart l 7)
@@ -217,17 +216,17 @@ module _ (i : ℕ) (d : Date) (h : i ≤ last) (e : d ≡ dateOf i) where
   pub year-to : d .year ≤ 2899
   year-to = valid .to
 
-  pub before-march : d .month < 3 → 0 ≡ placeFrom 17 (feastTests i (d .year))
-  before-march m =
+  pub before-march : (n : ℕ) → d .month < 3 → 0 ≡ placeFrom n (feastTests i (d .year))
+  before-march n m =
       let s = start-suc (daysInMonth l) (d .month) in
       let t = start-mono (daysInMonth l) (suc (d .month)) 3 (omega arith) in
-      no-feast-before i (d .year)
+      no-feast-before n i (d .year)
       (omega (arith, s, t, index, valid .day-to, starts l .0, easter-between (d .year) year-from year-to .0))
 
-  pub after-june : 6 < d .month → 0 ≡ placeFrom 17 (feastTests i (d .year))
-  after-june m =
+  pub after-june : (n : ℕ) → 6 < d .month → 0 ≡ placeFrom n (feastTests i (d .year))
+  after-june n m =
       let t = start-mono (daysInMonth l) 7 (d .month) (omega arith) in
-      no-feast-after i (d .year)
+      no-feast-after n i (d .year)
       (omega (arith, t, index, starts l .1, easter-between (d .year) year-from year-to .1))
 
 -- s is what `days_before` returned for Easter Sunday d
@@ -235,13 +234,14 @@ module _ (i y s : ℕ) (d : Date) (h : i ≤ last) (e : d ≡ easterSunday y) (q
   pub distance-fits : SFits w64 (toZ w64 i -ℤ toZ w64 s)
   distance-fits = rw (back-pos i (omega arith), back-pos s (omega arith)) (sub-fits i s (omega arith) (omega arith))
 
-  pub feast : (r : ℕ) → r ≡ placeFrom 17 (feasts (back (toZ w64 i -ℤ toZ w64 s))) → r ≡ placeFrom 17 (feastTests i y)
+  pub feast :
+      (n r : ℕ) → r ≡ placeFrom n (feasts (back (toZ w64 i -ℤ toZ w64 s))) → r ≡ placeFrom n (feastTests i y)
   unfolding easterIndex
-  feast r p =
+  feast n r p =
       let k : s ≡ daysBefore (easterSunday y) = q ∙ ap daysBefore e in
       let t : back (toZ w64 i -ℤ toZ w64 s) ≡ pos i -ℤ pos (easterIndex y) =
       toZ-ofZ distance-fits ∙ (rw (back-pos i (omega arith), back-pos s (omega arith), k)) in
-      p ∙ ap (λ (x : ℤ). placeFrom 17 (feasts x)) t ∙ by-distance i y
+      p ∙ ap (λ (x : ℤ). placeFrom n (feasts x)) t ∙ ap (placeFrom n) (by-distance i y)
 
 pub ruleset feast-rules = (year-from, year-to, before-march, after-june, distance-fits, feast)
 

@@ -87,9 +87,10 @@ pub const COMMANDS: [Command; 8] = [
         summary: "die zwölf Monate eines Jahres mit allen Feiertagen",
         meaning: "Das Jahr auf einem Blatt. Tage, die keine Werktage sind, sind im Terminal rot,\n\
                   Feiertage darunter hinterlegt; sonst steht ein Stern dahinter. Ohne Farbe auch,\n\
-                  wenn NO_COLOR gesetzt ist. --bytes gibt es hier nicht. In --json hat jeder Feiertag\n\
-                  seine Nummer (number) und die, die tag für das Datum nennt (reason): an einem\n\
-                  Samstag 1, an einem Sonntag 2.",
+                  wenn NO_COLOR gesetzt ist. Von zwei Feiertagen an einem Tag steht der da, den tag\n\
+                  nennt. --bytes gibt es hier nicht. In --json hat jeder Feiertag seine Nummer\n\
+                  (number) und die, die tag für das Datum nennt (reason): an einem Samstag 1, an\n\
+                  einem Sonntag 2.",
         example: "kalender 2026",
         output: include_str!("kalender-2026.txt"),
     },
