@@ -2,10 +2,11 @@
 --   reason-is      it is the first that holds of the tests of the day's index and date
 --   reason-zero    it is 0 exactly if the day is a Werktag
 --   weekend-shut   no Saturday and no Sunday is a Werktag
---   saturday-given, saturday-gives, sunday-given, sunday-gives  it is 1 exactly on a Saturday, 2 exactly on a Sunday
+--   reason-given, reason-gives  it is 1 + k exactly if the k-th of these tests holds and none before it does
+--   saturday-given, saturday-gives, sunday-given, sunday-gives  so it is 1 exactly on a Saturday, 2 exactly on a Sunday
 --   rule i k       = rule k of the list, from 0 on, asked of the day with index i
 --   ClosedBy i k   rule k holds, the day is no weekend, and no earlier rule holds
---   holiday-given, holiday-gives  the reason is 3 + k exactly if this is so
+--   holiday-given, holiday-gives  and 3 + k exactly if this is so
 --   rule-fixed, rule-bettag, rule-feast  which rule it is
 --   never-pfingstsonntag  20 is never given: Pfingstsonntag is a Sunday
 --   reason-most    no reason is over 22
@@ -79,22 +80,28 @@ pub weekend-shut : (cal : HolidayCalendar) (i : ℕ) → 5 ≤ weekday i → isW
 unfolding isWerktag
 weekend-shut BdewMaKo i h = rw (parts i, le-leb 5 (weekday i) h)
 
+-- the number 1 + k, by the k-th test of the day
 module _ (i : ℕ) where
   abbrev tests : List Bool
   tests = dayTests i (dateOf i)
 
+  pub reason-given : (k : ℕ) → reason BdewMaKo i ≡ 1 + k → (getD tests k false ≡ true) × NoneBefore tests k
+  reason-given k e = place-given 1 k tests (omega arith) (sym (reason-is i) ∙ e)
+
+  pub reason-gives : (k : ℕ) → getD tests k false ≡ true → NoneBefore tests k → reason BdewMaKo i ≡ 1 + k
+  reason-gives k t f = reason-is i ∙ place-gives 1 k tests t f
+
   pub saturday-given : reason BdewMaKo i ≡ 1 → weekday i ≡ 5
-  saturday-given e = eqb-true (weekday i) 5 (place-given 1 0 tests (omega arith) (sym (reason-is i) ∙ e) .0)
+  saturday-given e = eqb-true (weekday i) 5 (reason-given 0 e .0)
 
   pub saturday-gives : weekday i ≡ 5 → reason BdewMaKo i ≡ 1
-  saturday-gives h =
-      reason-is i ∙ place-gives 1 0 tests (eq-eqb (weekday i) 5 h) (λ j l. absurd (omega arith))
+  saturday-gives h = reason-gives 0 (eq-eqb (weekday i) 5 h) (λ j l. absurd (omega arith))
 
   pub sunday-given : reason BdewMaKo i ≡ 2 → weekday i ≡ 6
-  sunday-given e = eqb-true (weekday i) 6 (place-given 1 1 tests (omega arith) (sym (reason-is i) ∙ e) .0)
+  sunday-given e = eqb-true (weekday i) 6 (reason-given 1 e .0)
 
   pub sunday-gives : weekday i ≡ 6 → reason BdewMaKo i ≡ 2
-  sunday-gives h = reason-is i ∙ place-gives 1 1 tests (eq-eqb (weekday i) 6 h) before
+  sunday-gives h = reason-gives 1 (eq-eqb (weekday i) 6 h) before
     where
       before : NoneBefore tests 1
       before zero l = ne-eqb (weekday i) 5 (λ q. omega arith)
@@ -113,7 +120,7 @@ pub record ClosedBy (i k : ℕ) : Type 0 where
 module _ (i k : ℕ) where
   pub holiday-given : reason BdewMaKo i ≡ 3 + k → ClosedBy i k
   holiday-given e =
-      let g = place-given 1 (suc (suc k)) (tests i) (omega arith) (sym (reason-is i) ∙ e ∙ omega arith) in
+      let g = reason-given i (suc (suc k)) (e ∙ omega arith) in
       let saturday = eqb-false (weekday i) 5 (g .1 0 (omega arith)) in
       let sunday = eqb-false (weekday i) 6 (g .1 1 (omega arith)) in
       record {
@@ -123,7 +130,7 @@ module _ (i k : ℕ) where
       }
 
   pub holiday-gives : ClosedBy i k → reason BdewMaKo i ≡ 3 + k
-  holiday-gives h = reason-is i ∙ place-gives 1 (suc (suc k)) (tests i) (h .own) before ∙ omega arith
+  holiday-gives h = reason-gives i (suc (suc k)) (h .own) before ∙ omega arith
     where
       before : NoneBefore (tests i) (suc (suc k))
       before zero l = ne-eqb (weekday i) 5 (λ q. omega (arith, h .no-weekend))
