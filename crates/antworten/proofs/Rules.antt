@@ -3,7 +3,7 @@
 -- Assumes nothing.
 use Prim.Native.Nat.{ℕ, _≤_}
 use mathlib.Core.Bool.{Bool, true, false, not}
-use mathlib.Core.Path.{_≡_, refl, sym, ap, _∙_}
+use mathlib.Core.Path.{_≡_, refl, sym, ap, ap₂, _∙_}
 use native.Mathlib.Omega.{arith}
 use borrow.Author.Tests.{not-true, not-false}
 use lib.IntN.{ℤ, pos}
@@ -101,8 +101,8 @@ step-made s t r e p = p ∙ ap stepAnswer e
 pub shift-made : (s t : Shifted) (r : Answer) → s ≡ t → r ≡ shiftAnswer s → r ≡ shiftAnswer t
 shift-made s t r e p = p ∙ ap shiftAnswer e
 
-pub count-made : (n m : ℕ) (r : Answer) → n ≡ m → r ≡ counted n → r ≡ counted m
-count-made n m r e p = p ∙ ap counted e
+pub count-made : (n m s t : ℕ) (r : Answer) → n ≡ m → s ≡ t → r ≡ counted n s → r ≡ counted m t
+count-made n m s t r e f p = p ∙ ap₂ counted e f
 
 -- step_answer, shift_answer
 pub day-reached : (s : Step) (i : ℕ) → inside s → s ≡ Day i → i ≤ last

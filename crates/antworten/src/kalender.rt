@@ -81,7 +81,7 @@ pub fn sub_werktage_answer(date: Date, n: u32, cal: HolidayCalendar) -> Answer
 }
 
 /// "Werktage after `from` up to and including `to`; 0 if `to` isn't later": from 2 to 8 April 2026 there are 2, and
-/// from 8 to 2 April none. Refusal 3 if either is no date.
+/// from 8 to 2 April none. With the days tested: 92 + 98, and none. Refusal 3 if either is no date.
 pub fn werktage_between_answer(first: Date, second: Date, cal: HolidayCalendar) -> Answer
     ensures { λ r. ⌜ r ≡ werktageBetweenAnswer (isWerktag cal) first second ⌝ }
 {
@@ -91,7 +91,8 @@ pub fn werktage_between_answer(first: Date, second: Date, cal: HolidayCalendar) 
     let Index::Day(to) = datum::index_of(second) else {
         return antwortsatz::refused(NO_DATE);
     };
-    antwortsatz::counted(schritte::werktage_between(from, to, cal))
+    let count = schritte::tested::count_werktage(from, to, cal);
+    antwortsatz::counted(count.werktage, count.tested)
 }
 
 /// A date n months later; "a day the target month lacks becomes its last": 31 January 2026 plus 1 is 28 February.

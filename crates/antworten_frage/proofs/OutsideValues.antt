@@ -12,7 +12,8 @@ use Rattle.datum.specs.Monate.{monthsLater, monthsEarlier, M}
 use Rattle.datum.specs.Floor.{floorDiv, floorMod}
 use Rattle.werktag.specs.declared.HolidayCalendar.the-variants.{BdewMaKo}
 use Rattle.werktag.specs.Easter.{easterSunday, easterIndex}
-use Rattle.werktag.specs.Werktag.{any, isFixed, isBussUndBettag, isEasterFeast, isWerktag}
+use Rattle.zaehlung.specs.Lists.{any}
+use Rattle.werktag.specs.Werktag.{isFixed, isBussUndBettag, isEasterFeast, isWerktag}
 use Rattle.berlin.specs.Berlin.{isBefore, inLimits, readInstant, lastSunday, yearAt, offsetAt, berlinAt}
 use Rattle.berlin.specs.Berlin.{berlinMidnight}
 use Rattle.fristen.specs.Fristen.{instantLater, contrlSeconds, inWindow, toleranzIn, formatumstellungToleranz}

@@ -5,7 +5,8 @@
 --   dateWord d        = the date d as a word: year, month, day from the lowest byte up
 --   refused x         = refusal x, all else zero: 'A refusal leaves bytes 1 to 31 zero'
 --   ofKind k          = kind k alone: 'a deregistration reason [has] the code of its case'
---   counted n         = count n alone: 'a count [fills] the count'
+--   counted n t       = count n, and t, the days tested: 'a count [fills] the count'; document 02, F-3: 'how many days it
+--       tested, in bytes 24 to 27'
 --   dated d           = date d alone: 'A step fills the date'
 --   atInstant k s x = seconds s and nanoseconds x beside kind k: 'a Gas due instant [has] kind 1 for the initial
 --       process, else 0'
@@ -35,8 +36,8 @@ refused x = filled x 0 0 (pos 0) 0 0 0 0
 unfoldable pub ofKind : ℕ → Answer
 ofKind k = filled 0 k 0 (pos 0) 0 0 0 0
 
-unfoldable pub counted : ℕ → Answer
-counted n = filled 0 0 n (pos 0) 0 0 0 0
+unfoldable pub counted : ℕ → ℕ → Answer
+counted n t = filled 0 0 n (pos 0) 0 0 t 0
 
 unfoldable pub dated : Date → Answer
 dated d = filled 0 0 0 (pos 0) 0 (dateWord d) 0 0

@@ -105,12 +105,12 @@ pub fn of_kind(kind: u8) -> Answer
     filled(0, kind, 0, 0, 0, 0, 0, 0)
 }
 
-/// A count alone: "a count [fills] the count". The Werktage from 2 to 8 April 2026 are `counted(2)`. `counted(0)` is
-/// all zero, and an answer.
-pub fn counted(count: u32) -> Answer
-    ensures { λ r. ⌜ r ≡ counted count ⌝ }
+/// A count, and the days that were tested for it: "a count [fills] the count", "how many days it tested, in bytes 24 to
+/// 27". The Werktage from 2 to 8 April 2026 are `counted(2, 190)`. `counted(0, 0)` is all zero, and an answer.
+pub fn counted(count: u32, tested: u32) -> Answer
+    ensures { λ r. ⌜ r ≡ counted count tested ⌝ }
 {
-    filled(0, 0, count, 0, 0, 0, 0, 0)
+    filled(0, 0, count, 0, 0, 0, tested, 0)
 }
 
 /// A date alone: "A step fills the date". 2 April 2026 plus 1 Werktag is `dated` of 7 April.

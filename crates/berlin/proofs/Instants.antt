@@ -20,7 +20,7 @@ use mir.Val.{Fits, SFits, toZ}
 use mir.Facts.{toZ-ofZ}
 use mir.ValLaws.{sfits-le}
 use Rattle.datum.specs.Floor.{floorDiv, floorMod}
-use Rattle.datum.proofs.Dates.{and-left, and-right}
+use Rattle.zaehlung.proofs.Tests.{and-left, and-right}
 use Rattle.datum.proofs.Signed.{back, clash, back-pos}
 use Rattle.datum.proofs.FloorLaws.{Steps, mag-floor}
 use Rattle.berlin.specs.declared.Moment.{Moment}

@@ -13,7 +13,7 @@ use lib.Dec.{leb, eqb}
 use lib.IntN.{ℤ, pos, negsuc}
 use borrow.Author.Tests.{leb-true, eqb-true}
 use Rattle.zaehlung.specs.Walk.{last}
-use Rattle.datum.proofs.Dates.{and-left, and-right}
+use Rattle.zaehlung.proofs.Tests.{and-left, and-right}
 use Rattle.berlin.specs.declared.Moment.{Moment}
 use Rattle.berlin.specs.declared.Clock.{Clock}
 use Rattle.berlin.specs.declared.Reading.{Reading}

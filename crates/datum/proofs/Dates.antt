@@ -1,5 +1,4 @@
 -- A date of the range and its index: what the definitions of Calendar give, field by field.
---   and-left and-right and-no   what a conjunction tells of its parts, and one with a false part
 --   Valid d         d is a date of the range, as a record of its bounds
 --   valid-is        the test says so; is-valid is the converse
 --   all-le b xs     = whether each number of xs is at most b; at-most says so of each place
@@ -22,6 +21,7 @@ use lib.Dec.{T, leb}
 use lib.ListN.{getD}
 use borrow.Author.Tests.{leb-true, le-leb}
 use Rattle.zaehlung.specs.Walk.{bit, last}
+use Rattle.zaehlung.proofs.Tests.{and-left, and-right}
 use Rattle.zaehlung.proofs.Every.{run, run-at}
 use Rattle.zaehlung.specs.Blocks.{start, at}
 use Rattle.zaehlung.proofs.BlockLaws.{start-suc, start-mono, at-is, at-sum, at-below}
@@ -29,18 +29,6 @@ use Rattle.datum.specs.declared.Date.{Date}
 use Rattle.datum.specs.Calendar.{isLeap, yearLen, yearStart, yearOf, months, daysInMonth, monthStart, monthOf}
 use Rattle.datum.specs.Calendar.{dateIn, dateOf, daysBefore, isDate}
 use Rattle.datum.proofs.Years.{start-all, start-none}
-
-pub and-left : (a b : Bool) → (a && b) ≡ true → a ≡ true
-and-left true b t = refl
-and-left false b t = t
-
-pub and-right : (a b : Bool) → (a && b) ≡ true → b ≡ true
-and-right true b t = t
-and-right false b t = absurd (subst T (sym t) tt)
-
-pub and-no : (a : Bool) → (a && false) ≡ false
-and-no true = refl
-and-no false = refl
 
 pub record Valid (d : Date) : Type 0 where
   pub from : 1996 ≤ d .year

@@ -9,6 +9,7 @@
 --   daysBefore d     = the days from 1 January 1996 to a date of the range: its index
 --   indexOf d        = the index of a date, or NoDate
 --   yearOf i         = the year of the day with index i, counted from 1996, and the day in it, counted from 0
+--   dayOfYear i      = the days from 1 January of its year up to and including it
 --   monthOf l r      = the month of day r of a year, and the day in it, counted from 0
 --   dateIn k r       = the date of day r of the year 1996 + k
 --   dateOf i         = the date of the day with index i
@@ -66,6 +67,9 @@ indexOf d = cond (isDate d) (Day (daysBefore d)) NoDate
 
 abbrev pub yearOf : ℕ → ℕ × ℕ
 yearOf i = at yearLen 903 0 i
+
+abbrev pub dayOfYear : ℕ → ℕ
+dayOfYear i = yearOf i .1 + 1
 
 abbrev pub monthOf : Bool → ℕ → ℕ × ℕ
 monthOf l r = at (daysInMonth l) 11 1 r

@@ -137,7 +137,9 @@ const YEAR_BEFORE: u32 = FIRST_YEAR_32 - 1;
 const LEAP_DAYS_BEFORE: u32 = YEAR_BEFORE / 4 + YEAR_BEFORE / 400 - YEAR_BEFORE / 100;
 
 /// The index of 1 January of the year 1996 + k, without a loop.
-fn year_start(k: u32) -> u32
+///
+/// 0 for 1996, 10,958 for 2026; 2900, past the calendar, has 330,180.
+pub fn year_start(k: u32) -> u32
     requires { ⌜ k ≤ 904 ⌝ }
     ensures { λ r. ⌜ (r ≡ yearStart k) × (r ≤ 331000) ⌝ }
 {
@@ -146,13 +148,15 @@ fn year_start(k: u32) -> u32
 }
 
 /// A year, counted from 1996, and a day of it, counted from 0.
-struct YearDay {
-    year: u32,
-    day: u32,
+pub struct YearDay {
+    pub year: u32,
+    pub day: u32,
 }
 
 /// The year of a day. The guess, 146,097 days in 400 years, is never proved to be good: the two loops set it right.
-fn year_of(index: u32) -> YearDay
+///
+/// Day 59, 29 February 1996, is day 59 of year 0; day 366, 1 January 1997, is day 0 of year 1.
+pub fn year_of(index: u32) -> YearDay
     requires { ⌜ index ≤ last ⌝ }
     ensures { λ r. ⌜ (r .year ≡ yearOf index .0) × (r .day ≡ yearOf index .1) × (r .year ≤ 903) ⌝ }
 {

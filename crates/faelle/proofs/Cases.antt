@@ -15,7 +15,8 @@ use Rattle.datum.specs.MonthShift.{inMonth, onMonth, addMonths, subtractMonths}
 use Rattle.datum.specs.Monate.{monthsLater, monthsEarlier, M}
 use Rattle.werktag.specs.declared.HolidayCalendar.the-variants.{BdewMaKo}
 use Rattle.werktag.specs.Easter.{easterSunday, easterIndex}
-use Rattle.werktag.specs.Werktag.{any, isFixed, isBussUndBettag, isEasterFeast, isWerktag}
+use Rattle.zaehlung.specs.Lists.{any}
+use Rattle.werktag.specs.Werktag.{isFixed, isBussUndBettag, isEasterFeast, isWerktag}
 use Rattle.werktag.specs.Reason.{placeFrom, reason}
 use Rattle.berlin.specs.Berlin.{isBefore, inLimits, readInstant, readClock, lastSunday, yearAt, offsetAt, berlinAt}
 use Rattle.berlin.specs.Berlin.{berlinMidnight, endOfDayBerlin, tagesbeginnUtc}

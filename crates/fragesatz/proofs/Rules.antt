@@ -15,7 +15,7 @@ use lib.Dec.{eqb, leb}
 use lib.IntN.{ℤ}
 use lib.ListN.{getD}
 use Rattle.datum.specs.declared.Date.{Date}
-use Rattle.datum.proofs.Dates.{and-left, and-right}
+use Rattle.zaehlung.proofs.Tests.{and-left, and-right}
 use Rattle.datum.proofs.Signed.{back}
 use Rattle.zahlen.specs.Places.{u32At, i64At}
 use Rattle.fragesatz.specs.declared.Question.{Question}

@@ -10,7 +10,8 @@ use Rattle.zaehlung.specs.Walk.{dayAfter, up, add}
 use Rattle.datum.specs.Calendar.{isLeap, yearLen, daysInMonth, dateIn, dateOf}
 use Rattle.werktag.specs.declared.HolidayCalendar.the-variants.{BdewMaKo}
 use Rattle.werktag.specs.Easter.{easterSunday, easterIndex}
-use Rattle.werktag.specs.Werktag.{any, isFixed, isBussUndBettag, isEasterFeast, isWerktag}
+use Rattle.zaehlung.specs.Lists.{any}
+use Rattle.werktag.specs.Werktag.{isFixed, isBussUndBettag, isEasterFeast, isWerktag}
 use Rattle.berlin.specs.declared.Moment.{Moment}
 use Rattle.berlin.specs.Berlin.{oClock, momentOf, isBefore, inLimits, lastSunday, yearAt, offsetAt, berlinAt}
 use Rattle.berlin.specs.Berlin.{berlinMidnight, endOfDayBerlin}

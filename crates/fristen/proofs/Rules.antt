@@ -24,8 +24,8 @@ use Rattle.zaehlung.proofs.Laws.{add-inside}
 use Rattle.datum.specs.declared.Date.{Date}
 use Rattle.datum.specs.Calendar.{daysInMonth, isDate, dateOf, weekday}
 use Rattle.datum.proofs.Dates.{index-date}
-use Rattle.werktag.specs.Werktag.{any}
-use Rattle.werktag.proofs.Search.{search-hit, search-miss, search-none}
+use Rattle.zaehlung.specs.Lists.{any}
+use Rattle.zaehlung.proofs.Search.{search-hit, search-miss, search-none}
 use Rattle.berlin.specs.declared.Moment.{Moment}
 use Rattle.berlin.specs.declared.Clock.{Clock}
 use Rattle.berlin.specs.declared.Resolved.{Resolved}

@@ -35,7 +35,7 @@ use mathlib.Core.List.{List, [], _∷_}
 use lib.Dec.{eqb}
 use Rattle.zaehlung.specs.Walk.{onStep, dayAfter, add}
 use Rattle.datum.specs.Calendar.{daysBefore, dateOf, weekday}
-use Rattle.werktag.specs.Werktag.{any}
+use Rattle.zaehlung.specs.Lists.{any}
 use Rattle.berlin.specs.declared.Moment.{Moment}
 use Rattle.berlin.specs.declared.Clock.{Clock}
 use Rattle.berlin.specs.Berlin.{hours, minutes, oClock, momentOf, secondsOf, isBefore, inLimits, berlinDate, berlinAt}

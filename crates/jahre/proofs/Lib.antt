@@ -1,2 +1,3 @@
-pub mod Computed
-pub mod OutsideValues
+pub mod Days
+pub mod Counts
+pub mod Rules

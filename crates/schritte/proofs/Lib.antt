@@ -1,1 +1,3 @@
 pub mod Rules
+pub mod IndexRules
+pub mod TestedRules

@@ -1,10 +1,16 @@
-// Steps over Werktage and the count of Werktage, day by day, as in the Rust. A day is its index from 1 January 1996, 0
-// to LAST. What a step or a count is, is defined in zaehlung for any test of a day; here the test is the holiday
-// list's.
+// Steps over Werktage and the count of Werktage. A day is its index from 1 January 1996, 0 to LAST. What a step or a
+// count is, is defined in zaehlung for any test of a day, day by day; here the test is the holiday list's. Few Werktage
+// are walked, many are counted through the year index.
 ghost use mathlib.Core.Path.{_≡_};
 ghost use Prim.Native.Nat.{_≤_};
 ghost use Rattle.zaehlung.specs.Walk.{last, dayAfter, dayBefore, add, sub, next, W, between};
 ghost use Rattle.werktag.specs.Werktag.{isWerktag};
+
+pub mod index;
+pub mod tested;
+pub mod walk;
+
+use jahresindex::WERKTAGE;
 use werktag::HolidayCalendar;
 use zaehlung::FIRST;
 use zaehlung::LAST;
@@ -34,6 +40,11 @@ pub fn day_before(day: u32) -> Step
     Step::Day(day - 1)
 }
 
+/// Up to so many Werktage a step is walked, and up to so many days a count: there a walk is faster than the index.
+const FEW_WERKTAGE: u32 = 20;
+
+const FEW_DAYS: u32 = 20;
+
 /// The `n`-th Werktag after `from`, or `Outside` where that would be past the calendar's last day.
 ///
 /// GPKE (BK6-24-174) Teil 1: a Werktag is any day that is not a Saturday, a Sunday or a public holiday.
@@ -46,18 +57,14 @@ pub fn add_werktage(from: u32, n: u32, cal: HolidayCalendar) -> Step
     requires { ⌜ from ≤ last ⌝ }
     ensures { λ r. ⌜ r ≡ add (isWerktag cal) from n ⌝ }
 {
-    let mut current = from;
-    let mut remaining = n;
-    while 0 < remaining {
-        if LAST <= current {
-            return Step::Outside;
-        }
-        current += 1;
-        if werktag::is_werktag(current, cal) {
-            remaining -= 1;
-        }
+    if n <= FEW_WERKTAGE {
+        return walk::add_werktage(from, n, cal);
     }
-    Step::Day(current)
+    let through = index::werktage_through(from, cal);
+    if WERKTAGE - through < n {
+        return Step::Outside;
+    }
+    index::nth_werktag(through + n, cal)
 }
 
 /// The `n`-th Werktag before `from`, or `Outside` where that would be before the calendar's first day: the mirror of
@@ -72,18 +79,14 @@ pub fn sub_werktage(from: u32, n: u32, cal: HolidayCalendar) -> Step
     requires { ⌜ from ≤ last ⌝ }
     ensures { λ r. ⌜ r ≡ sub (isWerktag cal) from n ⌝ }
 {
-    let mut current = from;
-    let mut remaining = n;
-    while 0 < remaining {
-        if current <= FIRST {
-            return Step::Outside;
-        }
-        current -= 1;
-        if werktag::is_werktag(current, cal) {
-            remaining -= 1;
-        }
+    if n <= FEW_WERKTAGE {
+        return walk::sub_werktage(from, n, cal);
     }
-    Step::Day(current)
+    let before = index::werktage_before(from, cal);
+    if before < n {
+        return Step::Outside;
+    }
+    index::nth_werktag(before - n + 1, cal)
 }
 
 /// The Werktage after `from` up to and including `to`: the inverse of `add_werktage`, since from `from` to its `n`-th
@@ -96,15 +99,13 @@ pub fn werktage_between(from: u32, to: u32, cal: HolidayCalendar) -> u32
     requires { ⌜ (from ≤ last) × (to ≤ last) ⌝ }
     ensures { λ r. ⌜ r ≡ between (isWerktag cal) from to ⌝ }
 {
-    let mut day = from;
-    let mut count: u32 = 0;
-    while day < to {
-        day += 1;
-        if werktag::is_werktag(day, cal) {
-            count += 1;
-        }
+    if to <= from {
+        return 0;
     }
-    count
+    if to - from <= FEW_DAYS {
+        return walk::werktage_between(from, to, cal);
+    }
+    index::werktage_through(to, cal) - index::werktage_through(from, cal)
 }
 
 /// The first Werktag on or after `from`, or `Outside` where no day up to the calendar's last is one.
@@ -127,7 +128,7 @@ pub fn next_werktag(from: u32, cal: HolidayCalendar) -> Step
 }
 
 /// W(n) of document 01: 't for n = 0, else the day after the n-th Werktag on or after t', or `Outside` where that would
-/// be past the calendar's last day. Each day that is left behind is tested.
+/// be past the calendar's last day.
 ///
 /// With `n = 0`: `t` unchanged, Werktag or not.
 ///
@@ -137,17 +138,15 @@ pub fn day_after_werktage(t: u32, n: u32, cal: HolidayCalendar) -> Step
     requires { ⌜ t ≤ last ⌝ }
     ensures { λ r. ⌜ r ≡ W (isWerktag cal) t n ⌝ }
 {
-    let mut current = t;
-    let mut remaining = n;
-    while 0 < remaining {
-        if LAST <= current {
-            return Step::Outside;
-        }
-        let left = current;
-        current += 1;
-        if werktag::is_werktag(left, cal) {
-            remaining -= 1;
-        }
+    if n <= FEW_WERKTAGE {
+        return walk::day_after_werktage(t, n, cal);
     }
-    Step::Day(current)
+    let before = index::werktage_before(t, cal);
+    if WERKTAGE - before < n {
+        return Step::Outside;
+    }
+    let Step::Day(werktag) = index::nth_werktag(before + n, cal) else {
+        return Step::Outside;
+    };
+    day_after(werktag)
 }

@@ -21,7 +21,8 @@ use Rattle.zaehlung.specs.Blocks.{start, at}
 use Rattle.datum.specs.Calendar.{isLeap, yearLen, daysInMonth, daysBefore, dateIn}
 use Rattle.werktag.specs.declared.HolidayCalendar.the-variants.{BdewMaKo}
 use Rattle.werktag.specs.Easter.{easterSunday, easterIndex}
-use Rattle.werktag.specs.Werktag.{any, isFixed, isBussUndBettag, isEasterFeast, isWerktag}
+use Rattle.zaehlung.specs.Lists.{any}
+use Rattle.werktag.specs.Werktag.{isFixed, isBussUndBettag, isEasterFeast, isWerktag}
 use Rattle.vorlauf.specs.declared.VorlaufShape.the-variants.{WindowWerktageBefore, Korridor}
 use Rattle.vorlauf.specs.declared.VorlaufVerdict.the-variants.{Ok, TooLate, Outside as Refused}
 use Rattle.vorlauf.specs.declared.Span.the-variants.{Both, Outside as Leaves}

@@ -24,7 +24,8 @@ use Rattle.zaehlung.specs.Blocks.{start}
 use Rattle.zaehlung.proofs.Every.{run, run-at}
 use Rattle.datum.specs.declared.Date.{Date}
 use Rattle.datum.specs.Calendar.{isDate, isLeap, daysInMonth, monthStart, yearStart, weekday}
-use Rattle.datum.proofs.Dates.{Valid, is-valid, and-left, and-right}
+use Rattle.zaehlung.proofs.Tests.{and-left, and-right}
+use Rattle.datum.proofs.Dates.{Valid, is-valid}
 use Rattle.datum.proofs.Rules.{start-is}
 use Rattle.werktag.specs.Easter.{easterSunday, easterIndex}
 

@@ -1,4 +1,3 @@
-pub mod Search
 pub mod Place
 pub mod Signed
 pub mod Easter

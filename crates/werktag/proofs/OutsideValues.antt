@@ -11,7 +11,8 @@ use Rattle.datum.specs.declared.Date.{Date}
 use Rattle.datum.specs.Calendar.{isLeap, yearLen, daysInMonth, dateIn, daysBefore}
 use Rattle.werktag.specs.declared.HolidayCalendar.the-variants.{BdewMaKo}
 use Rattle.werktag.specs.Easter.{easterSunday, easterIndex}
-use Rattle.werktag.specs.Werktag.{any, isFixed, isBussUndBettag, isEasterFeast, isWerktagIn, isWerktag}
+use Rattle.zaehlung.specs.Lists.{any}
+use Rattle.werktag.specs.Werktag.{isFixed, isBussUndBettag, isEasterFeast, isWerktagIn, isWerktag}
 use Rattle.werktag.specs.Reason.{placeFrom, reason}
 
 abbrev on : ℕ → ℕ → ℕ → Date

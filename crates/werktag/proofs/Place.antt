@@ -18,7 +18,7 @@ use lib.Dec.{T, eqb}
 use lib.ListN.{length, getD, drop, drop-of-length-le}
 use lib.Seq.{drop-cons}
 use borrow.Author.Tests.{ne-eqb}
-use Rattle.werktag.specs.Werktag.{any}
+use Rattle.zaehlung.specs.Lists.{any}
 use Rattle.werktag.specs.Reason.{placeFrom}
 
 module _ (bs : List Bool) (n i : ℕ) (e : placeFrom (n + i) (drop i bs) ≡ placeFrom n bs) where

@@ -32,10 +32,11 @@ use Rattle.datum.proofs.Dates.{index-date}
 use Rattle.werktag.specs.declared.HolidayCalendar.{HolidayCalendar}
 use Rattle.werktag.specs.declared.HolidayCalendar.the-variants.{BdewMaKo}
 use Rattle.werktag.specs.Easter.{easterIndex}
-use Rattle.werktag.specs.Werktag.{any, fixedDays, isDay, isFixed, isBussUndBettag, easterOffsets, isFeast}
+use Rattle.zaehlung.specs.Lists.{any}
+use Rattle.werktag.specs.Werktag.{fixedDays, isDay, isFixed, isBussUndBettag, easterOffsets, isFeast}
 use Rattle.werktag.specs.Werktag.{isEasterFeast, isListed, isWerktagIn, isWerktag}
 use Rattle.werktag.specs.Reason.{placeFrom, fixedTests, feastTests, holidayTests, dayTests, reasonIn, reason}
-use Rattle.werktag.proofs.Search.{any-append}
+use Rattle.zaehlung.proofs.Search.{any-append}
 use Rattle.werktag.proofs.Place.{place-zero, place-most, NoneBefore, place-given, place-gives, map-at}
 use Rattle.werktag.proofs.Easter.{easter-on-sunday}
 

@@ -19,7 +19,8 @@ use Rattle.datum.specs.declared.Date.{Date}
 use Rattle.datum.specs.Calendar.{isLeap, daysInMonth, monthStart, dateOf, daysBefore, weekday}
 use Rattle.zaehlung.proofs.BlockLaws.{start-suc, start-mono}
 use Rattle.zaehlung.proofs.Every.{run, run-at}
-use Rattle.datum.proofs.Dates.{Valid, and-left, and-right, and-no, index-date}
+use Rattle.zaehlung.proofs.Tests.{and-left, and-right, and-no}
+use Rattle.datum.proofs.Dates.{Valid, index-date}
 use Rattle.datum.proofs.Signed.{back, pos-fits, neg-fits, back-pos, sub-pos, sub-neg, sub-fits, same-bits}
 use Rattle.werktag.specs.declared.HolidayCalendar.{HolidayCalendar}
 use Rattle.werktag.specs.declared.HolidayCalendar.the-variants.{BdewMaKo}

@@ -18,16 +18,12 @@ use mathlib.Core.Bool.{Bool, false, not, _&&_, _||_}
 use mathlib.Core.List.{List, [], _∷_}
 use lib.Dec.{eqb, leb}
 use lib.IntN.{ℤ, pos, negsuc, negℤ, _+ℤ_}
+use Rattle.zaehlung.specs.Lists.{any}
 use Rattle.datum.specs.declared.Date.{Date}
 use Rattle.datum.specs.Calendar.{yearStart, yearOf, dateIn, weekday}
 use Rattle.werktag.specs.declared.HolidayCalendar.{HolidayCalendar}
 use Rattle.werktag.specs.declared.HolidayCalendar.the-variants.{BdewMaKo}
 use Rattle.werktag.specs.Easter.{easterIndex}
-
--- whether p holds of some element of a list
-unfoldable pub any : {A : Type 0} → (A → Bool) → List A → Bool
-any p [] = false
-any p (x ∷ xs) = p x || any p xs
 
 -- whether two signed numbers are equal
 abbrev pub eqZ : ℤ → ℤ → Bool

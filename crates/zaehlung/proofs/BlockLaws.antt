@@ -6,15 +6,23 @@
 --   at-is          the block of a day is the one in which it lies
 --   at-sum         no day is lost, and the block is one of those allowed
 --   at-below       the day lies in the block, if the blocks allowed hold it
+--   starts len k v xs  = whether the list holds v, and then, each time, the number before it and what the next block
+--                  from k on adds: one test of a whole table
+--   starts-at      so each place of the table is the start of its block
 -- Source: the definitions of Blocks.
 -- Assumes nothing.
 use Prim.Native.Nat.{ℕ, zero, suc, _+_, _-_, _≤_, _<_}
-use mathlib.Core.Path.{_≡_, refl, ap, _∙_}
+use mathlib.Core.Path.{_≡_, refl, sym, ap, _∙_}
 use native.Mathlib.Omega.{arith}
 use native.Mathlib.Nat.{add-zero, add-suc}
 use native.Mathlib.Decide.{decLt}
-use borrow.Author.Tests.{lt-ltb, le-ltb}
+use mathlib.Core.Bool.{Bool, true, _&&_}
+use mathlib.Core.List.{List, [], _∷_}
+use lib.Dec.{eqb}
+use lib.ListN.{length, getD}
+use borrow.Author.Tests.{eqb-true, lt-ltb, le-ltb}
 use Rattle.zaehlung.specs.Blocks.{start, at}
+use Rattle.zaehlung.proofs.Tests.{and-left, and-right}
 
 module _ (len : ℕ → ℕ) where
   pub start-suc : (k : ℕ) → start len (suc k) ≡ start len k + len k
@@ -80,3 +88,18 @@ module _ (len : ℕ → ℕ) where
             let e′ = ap (λ (x : ℕ). start len (suc x)) q in
             rw (at-next f j r (omega arith)) (at-below f (suc j) (r - len j) (omega (arith, start-suc j)))
       ]
+
+unfoldable pub starts : (ℕ → ℕ) → ℕ → ℕ → List ℕ → Bool
+starts len k v [] = true
+starts len k v (x ∷ xs) = eqb v x && starts len (suc k) (x + len k) xs
+
+pub starts-at :
+    (len : ℕ → ℕ) (xs : List ℕ) (k v : ℕ) → starts len k v xs ≡ true → v ≡ start len k →
+    (i : ℕ) → i < length xs → getD xs i 0 ≡ start len (k + i)
+unfolding starts
+starts-at len [] k v t e i h = absurd (omega arith)
+starts-at len (x ∷ xs) k v t e zero h = rw add-zero (sym (eqb-true v x (and-left (eqb v x) _ t)) ∙ e)
+starts-at len (x ∷ xs) k v t e (suc i) h =
+    let p : k + suc i ≡ suc k + i = omega arith in
+    let s : x + len k ≡ start len (suc k) = omega (arith, eqb-true v x (and-left (eqb v x) _ t), start-suc len k) in
+    rw p (starts-at len xs (suc k) (x + len k) (and-right (eqb v x) _ t) s i (omega arith))

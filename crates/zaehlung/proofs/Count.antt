@@ -4,6 +4,7 @@
 --   count-open     an open day adds one
 --   count-shut     any other adds none
 --   count-step     a day adds none or one
+--   count-le       no more before a day than days
 --   count-mono     no fewer before a later day
 --   count-back     fewer before it: an earlier day
 --   count-at       an open day with no fewer before it than before b is b or later
@@ -42,6 +43,10 @@ module _ (w : ℕ → Bool) where
 
   pub count-step : (d : ℕ) → (count w d ≤ count w (suc d)) × (count w (suc d) ≤ count w d + 1)
   count-step d = omega (arith, count-suc d, bit-small (w d))
+
+  pub count-le : (d : ℕ) → count w d ≤ d
+  count-le zero = omega (arith, count-none)
+  count-le (suc d) = omega (arith, count-le d, count-step d)
 
   count-add : (d k : ℕ) → count w d ≤ count w (d + k)
   count-add d zero = rw add-zero (omega arith)

@@ -9,6 +9,9 @@
 --   sub-out-iff    sub w d n ≡ Outside exactly if  fewer than n come before d
 --   next-out-iff   next w d ≡ Outside  exactly if  none comes on d or after it
 --   W-out-iff      W w t n ≡ Outside   exactly if  fewer than n lie from t to the last day but one
+--   add-add        add w d n ≡ add w e m, if as many open days lie up to their ends: 1 ≤ n, 1 ≤ m
+--   sub-add        sub w d n ≡ add w e m, the same
+--   W-add          W w t n is the day after add w e m, the same
 --   add-none sub-none W-none                       for n = 0 the day itself, open or not
 --   between-count  between w a b + count w (suc a) ≡ count w (suc b), if a ≤ b
 --   between-later  between w a b ≡ 0, if b is not later than a
@@ -23,7 +26,7 @@
 use Prim.Native.Nat.{ℕ, zero, suc, _+_, _-_, _≤_, _<_}
 use mathlib.Core.Bool.{Bool, true}
 use mathlib.Core.Logic.{_↔_}
-use mathlib.Core.Path.{_≡_, refl}
+use mathlib.Core.Path.{_≡_, refl, sym, ap, _∙_}
 use native.Mathlib.Omega.{arith}
 use native.Mathlib.Decide.{decLt}
 use borrow.Author.Tests.{lt-ltb, le-ltb}
@@ -31,7 +34,7 @@ use Rattle.zaehlung.specs.declared.Step.{Step}
 use Rattle.zaehlung.specs.declared.Step.the-variants.{Day, Outside}
 use Rattle.zaehlung.specs.Walk.{last, onStep, dayAfter, dayBefore, add, sub, next, W, between, among, count}
 use Rattle.zaehlung.proofs.Turns.{up-none, past-none, down-none}
-use Rattle.zaehlung.proofs.Count.{count-back, count-among}
+use Rattle.zaehlung.proofs.Count.{count-open, count-step, count-back, count-among}
 use Rattle.zaehlung.proofs.Reach.{up-out, past-out, first-day, first-out, down-out, add-day, sub-day, W-day}
 
 module _ (w : ℕ → Bool) where
@@ -110,6 +113,60 @@ module _ (w : ℕ → Bool) where
   unfolding W
   W-none t = past-none w (last - t) t
 
+  pub add-inside : (d n e : ℕ) → d ≤ last → add w d n ≡ Day e → e ≤ last
+  add-inside d n e h p = add-day w d n e h .0 p .within
+
+  pub sub-inside : (d n e : ℕ) → d ≤ last → sub w d n ≡ Day e → e ≤ last
+  sub-inside d n e h p = omega (arith, sub-day w d n e .0 p .before)
+
+  pub next-inside : (d e : ℕ) → d ≤ last → next w d ≡ Day e → e ≤ last
+  next-inside d e h p = next-iff d e h .0 p .2
+
+  pub W-inside : (t n e : ℕ) → t ≤ last → W w t n ≡ Day e → e ≤ last
+  W-inside t n e h p = W-day w t n e h .0 p .within
+
+  -- steps that end at the same open day, wherever they start
+  module _ (e m : ℕ) (g : e ≤ last) (q : 1 ≤ m) where
+    pub add-add : (d n : ℕ) → d ≤ last → 1 ≤ n → count w (suc d) + n ≡ count w (suc e) + m → add w d n ≡ add w e m
+    add-add d n h p c = go (add w d n) refl
+      where
+        go : (s : Step) → add w d n ≡ s → add w d n ≡ add w e m
+        go (Day x) r =
+            let i = add-iff d n x h p .0 r in
+            r ∙ sym (add-iff e m x g q .1 (i .0, omega arith, i .2))
+        go Outside r = r ∙ sym (add-out-iff e m g .1 (omega (arith, add-out-iff d n h .0 r)))
+
+    pub sub-add : (d n : ℕ) → d ≤ last → 1 ≤ n → count w (suc e) + m + n ≡ count w d + 1 → sub w d n ≡ add w e m
+    sub-add d n h p c = go (sub w d n) refl
+      where
+        go : (s : Step) → sub w d n ≡ s → sub w d n ≡ add w e m
+        go (Day x) r =
+            let i = sub-iff d n x p .0 r in
+            let k = count-open w x (i .0) in
+            r ∙ sym (add-iff e m x g q .1 (i .0, omega arith, sub-inside d n x h r))
+        go Outside r = absurd (omega (arith, sub-out-iff d n .0 r))
+
+    pub W-add :
+        (t n : ℕ) → t ≤ last → 1 ≤ n → count w t + n ≡ count w (suc e) + m →
+        W w t n ≡ onStep Outside (add w e m) dayAfter
+    unfolding dayAfter
+    W-add t n h p c = go (add w e m) refl
+      where
+        go : (s : Step) → add w e m ≡ s → W w t n ≡ onStep Outside (add w e m) dayAfter
+        go (Day x) r =
+            let i = add-iff e m x g q .0 r in
+            let k = count-open w x (i .0) in
+            rw r
+            (elim (decLt x last) [
+              | yes l ↦ rw (lt-ltb x last l) (W-iff t n (suc x) h p .1 (x, refl, i .0, omega arith, l))
+              | no l ↦
+                  let z : x ≡ last = omega arith in
+                  let y = ap (count w) z in
+                  rw (le-ltb x last (omega arith)) (W-out-iff t n h .1 (omega arith))
+            ])
+        go Outside r =
+            rw r (W-out-iff t n h .1 (omega (arith, add-out-iff e m g .0 r, count-step w last)))
+
   pub between-count : (a b : ℕ) → a ≤ b → between w a b + count w (suc a) ≡ count w (suc b)
   unfolding between
   between-count a b h = let q : suc a + (b - a) ≡ suc b = omega arith in rw q at (count-among w (suc a) (b - a))
@@ -122,18 +179,6 @@ module _ (w : ℕ → Bool) where
   add-between d n e h p =
       let r = add-day w d n e h .0 p in
       omega (arith, between-count d e (r .after))
-
-  pub add-inside : (d n e : ℕ) → d ≤ last → add w d n ≡ Day e → e ≤ last
-  add-inside d n e h p = add-day w d n e h .0 p .within
-
-  pub sub-inside : (d n e : ℕ) → d ≤ last → sub w d n ≡ Day e → e ≤ last
-  sub-inside d n e h p = omega (arith, sub-day w d n e .0 p .before)
-
-  pub next-inside : (d e : ℕ) → d ≤ last → next w d ≡ Day e → e ≤ last
-  next-inside d e h p = next-iff d e h .0 p .2
-
-  pub W-inside : (t n e : ℕ) → t ≤ last → W w t n ≡ Day e → e ≤ last
-  W-inside t n e h p = W-day w t n e h .0 p .within
 
 pub dayAfter-is : (d e : ℕ) → dayAfter d ≡ Day e → (e ≡ suc d) × (e ≤ last)
 unfolding dayAfter

@@ -1,6 +1,9 @@
+pub mod Tests
 pub mod Every
 pub mod Turns
 pub mod Count
 pub mod Reach
 pub mod Laws
 pub mod BlockLaws
+pub mod Search
+pub mod Striking

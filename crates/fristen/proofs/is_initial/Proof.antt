@@ -4,7 +4,7 @@ use Prim.Native.Nat.{_≤_, _-_}
 use mathlib.Core.Path.{_≡_}
 use lib.Dec.{eqb}
 use lib.ListN.{drop}
-use Rattle.werktag.specs.Werktag.{any}
+use Rattle.zaehlung.specs.Lists.{any}
 use Rattle.fristen.specs.Fristen.{gasInitialprozessPids, isInitial}
 use Rattle.fristen.proofs.Rules.{pid-start, pid-hit, pid-miss, pid-none}
 use borrow.Author.Needs.{needs}

@@ -1,66 +1,44 @@
--- `schritte::add_werktage` meets its contract. The invariant: from here the walk reaches what it reaches from the
--- start. Each turn and each return is then a rule of Rules, which goes by the clauses of `add`; the days that are left
--- grow fewer.
+-- `schritte::add_werktage` meets its contract: a step through the index ends where the walk does, by the counts of
+-- both.
 -- Assumes nothing.
-use Prim.Native.Nat.{_-_}
-use mathlib.Core.Path.{_≡_}
 use borrow.Author.Needs.{needs}
-use Rattle.zaehlung.specs.Walk.{last, add}
-use Rattle.werktag.specs.Werktag.{isWerktag}
-use Rattle.schritte.proofs.Rules.{rules}
+use Rattle.schritte.proofs.IndexRules.{step-rules}
 use Rattle.schritte.proofs.add_werktage.Statement.{statement}
 use Rattle.schritte.proofs.add_werktage.Tie as tie
 
-abbrev Inv-loop : tie.InvT-loop
-Inv-loop from n cal current₀ remaining₀ current remaining =
-    add (isWerktag cal) from n ≡ add (isWerktag cal) current remaining
+add-werktage-requires : tie.Need-add-werktage-requires
+add-werktage-requires c κs = search needs
 
-abbrev μ-loop : tie.MeasureT-loop
-μ-loop from n cal current₀ remaining₀ current remaining = last - current
+returns : tie.Need-returns
+returns c = search needs
 
-loop-holds : tie.Need-loop-holds Inv-loop μ-loop
-loop-holds c = search needs
+werktage-through-requires : tie.Need-werktage-through-requires
+werktage-through-requires c κs = search needs
 
-returns : tie.Need-returns Inv-loop μ-loop
-returns c = search (needs, rules)
+sub-if2 : tie.Need-sub-if2
+sub-if2 c = search needs
 
-add-current : tie.Need-add-current Inv-loop μ-loop
-add-current c = search needs
+returns-2 : tie.Need-returns-2
+returns-2 c = search (needs, step-rules)
 
-is-werktag-requires : tie.Need-is-werktag-requires Inv-loop μ-loop
-is-werktag-requires c κs = search needs
+add-nth-werktag : tie.Need-add-nth-werktag
+add-nth-werktag c = search needs
 
-sub-remaining : tie.Need-sub-remaining Inv-loop μ-loop
-sub-remaining c = search needs
+nth-werktag-requires : tie.Need-nth-werktag-requires
+nth-werktag-requires c κs = search needs
 
-loop-less : tie.Need-loop-less Inv-loop μ-loop
-loop-less c = search needs
-
-loop-again : tie.Need-loop-again Inv-loop μ-loop
-loop-again c = search (needs, rules)
-
-loop-less-2 : tie.Need-loop-less-2 Inv-loop μ-loop
-loop-less-2 c = search needs
-
-loop-again-2 : tie.Need-loop-again-2 Inv-loop μ-loop
-loop-again-2 c = search (needs, rules)
-
-returns-2 : tie.Need-returns-2 Inv-loop μ-loop
-returns-2 c = search (needs, rules)
+returns-3 : tie.Need-returns-3
+returns-3 c = search (needs, step-rules)
 
 pub add-werktage-spec : {M : Type 1} → statement M
 add-werktage-spec =
     tie.close
     (tie.spec
-    Inv-loop
-    μ-loop
-    loop-holds
+    add-werktage-requires
     returns
-    add-current
-    is-werktag-requires
-    sub-remaining
-    loop-less
-    loop-again
-    loop-less-2
-    loop-again-2
-    returns-2)
+    werktage-through-requires
+    sub-if2
+    returns-2
+    add-nth-werktag
+    nth-werktag-requires
+    returns-3)

@@ -1,65 +1,60 @@
--- `schritte::day_after_werktage` meets its contract. The invariant: from here the walk reaches what it reaches from the
--- start. Each turn and each return is then a rule of Rules, which goes by the clauses of `W`; the days that are left
--- grow fewer.
+-- `schritte::day_after_werktage` meets its contract: W through the index is the day after the Werktag that the walk
+-- reaches, by the counts of both.
 -- Assumes nothing.
-use Prim.Native.Nat.{_-_}
-use mathlib.Core.Path.{_≡_}
 use borrow.Author.Needs.{needs}
-use Rattle.zaehlung.specs.Walk.{last, W}
-use Rattle.werktag.specs.Werktag.{isWerktag}
-use Rattle.schritte.proofs.Rules.{rules}
+use Rattle.schritte.proofs.IndexRules.{step-rules}
 use Rattle.schritte.proofs.day_after_werktage.Statement.{statement}
 use Rattle.schritte.proofs.day_after_werktage.Tie as tie
 
-abbrev Inv-loop : tie.InvT-loop
-Inv-loop t n cal current₀ remaining₀ current remaining = W (isWerktag cal) t n ≡ W (isWerktag cal) current remaining
+day-after-werktage-requires : tie.Need-day-after-werktage-requires
+day-after-werktage-requires c κs = search needs
 
-abbrev μ-loop : tie.MeasureT-loop
-μ-loop t n cal current₀ remaining₀ current remaining = last - current
+returns : tie.Need-returns
+returns c = search needs
 
-loop-holds : tie.Need-loop-holds Inv-loop μ-loop
-loop-holds c = search needs
+werktage-before-requires : tie.Need-werktage-before-requires
+werktage-before-requires c κs = search needs
 
-returns : tie.Need-returns Inv-loop μ-loop
-returns c = search (needs, rules)
+sub-if2 : tie.Need-sub-if2
+sub-if2 c = search needs
 
-add-current : tie.Need-add-current Inv-loop μ-loop
-add-current c = search needs
+returns-2 : tie.Need-returns-2
+returns-2 c = search (needs, step-rules)
 
-is-werktag-requires : tie.Need-is-werktag-requires Inv-loop μ-loop
-is-werktag-requires c κs = search needs
+add-nth-werktag : tie.Need-add-nth-werktag
+add-nth-werktag c = search needs
 
-sub-remaining : tie.Need-sub-remaining Inv-loop μ-loop
-sub-remaining c = search needs
+nth-werktag-requires : tie.Need-nth-werktag-requires
+nth-werktag-requires c κs = search needs
 
-loop-less : tie.Need-loop-less Inv-loop μ-loop
-loop-less c = search needs
+enum-known-werktag : tie.Need-enum-known-werktag
+enum-known-werktag c = search needs
 
-loop-again : tie.Need-loop-again Inv-loop μ-loop
-loop-again c = search (needs, rules)
+enum-told : tie.Need-enum-told
+enum-told c = search needs
 
-loop-less-2 : tie.Need-loop-less-2 Inv-loop μ-loop
-loop-less-2 c = search needs
+returns-3 : tie.Need-returns-3
+returns-3 c = search (needs, step-rules)
 
-loop-again-2 : tie.Need-loop-again-2 Inv-loop μ-loop
-loop-again-2 c = search (needs, rules)
+day-after-requires : tie.Need-day-after-requires
+day-after-requires c κs = search needs
 
-returns-2 : tie.Need-returns-2 Inv-loop μ-loop
-returns-2 c = search (needs, rules)
+returns-4 : tie.Need-returns-4
+returns-4 c = search (needs, step-rules)
 
 pub day-after-werktage-spec : {M : Type 1} → statement M
 day-after-werktage-spec =
     tie.close
     (tie.spec
-    Inv-loop
-    μ-loop
-    loop-holds
+    day-after-werktage-requires
     returns
-    add-current
-    is-werktag-requires
-    sub-remaining
-    loop-less
-    loop-again
-    loop-less-2
-    loop-again-2
-    returns-2)
+    werktage-before-requires
+    sub-if2
+    returns-2
+    add-nth-werktag
+    nth-werktag-requires
+    enum-known-werktag
+    enum-told
+    returns-3
+    day-after-requires
+    returns-4)

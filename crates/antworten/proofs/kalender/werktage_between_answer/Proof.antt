@@ -39,8 +39,8 @@ returns-2 : tie.Need-returns-2
 unfolding werktageBetweenAnswer
 returns-2 c = search (needs, answer-rules)
 
-werktage-between-requires : tie.Need-werktage-between-requires
-werktage-between-requires c κs = search (needs, answer-rules)
+count-werktage-requires : tie.Need-count-werktage-requires
+count-werktage-requires c κs = search (needs, answer-rules)
 
 counted-requires : tie.Need-counted-requires
 counted-requires c κs = search needs
@@ -63,6 +63,6 @@ werktage-between-answer-spec =
     enum-told-2
     refused-requires-2
     returns-2
-    werktage-between-requires
+    count-werktage-requires
     counted-requires
     returns-3)

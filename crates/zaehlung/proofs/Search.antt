@@ -13,7 +13,7 @@ use mathlib.Core.Path.{_≡_, refl, sym, ap, _∙_}
 use native.Mathlib.Numerals.{add-one}
 use lib.ListN.{length, getD, drop, drop-of-length-le}
 use lib.Seq.{drop-cons}
-use Rattle.werktag.specs.Werktag.{any}
+use Rattle.zaehlung.specs.Lists.{any}
 
 module _ {A : Type 0} (p : A → Bool) (l : List A) (z : A) (i : ℕ) where
   pub any-more : i < length l → any p (drop i l) ≡ (p (getD l i z) || any p (drop (i + 1) l))

@@ -1,0 +1,188 @@
+-- Counts and steps through the year index are those of the walk. What the proofs of `index` and of the steps cite, with
+-- premises in the form in which they stand there; w is the day test of the list.
+--   day-rules     `werktage_before`, `werktage_through`: k and r are the year of a day and the day in it, b the entry of
+--                 the year, m the Werktage of its first days
+--   nth-rules     `nth_werktag`: b is the entry of the year k, m the Werktage of its first days that are skipped
+--   step-rules    the steps: b is a count of Werktage, s what `nth_werktag` gave
+--   between-rules the count: x and y are the Werktage up to its two days
+-- Source: the laws of zaehlung, by which a step is said by counts.
+-- Assumes nothing.
+use Prim.Native.Nat.{ℕ, zero, suc, _+_, _-_, _*_, _/_, _≤_, _<_}
+use mathlib.Core.Bool.{Bool, true}
+use mathlib.Core.Path.{_≡_, refl, sym, ap, _∙_}
+use native.Mathlib.Omega.{arith}
+use native.Mathlib.Numerals.{add-one}
+use mir.Syntax.{w32}
+use mir.Val.{Fits}
+use Rattle.zaehlung.specs.declared.Step.{Step}
+use Rattle.zaehlung.specs.declared.Step.the-variants.{Day, Outside}
+use Rattle.zaehlung.specs.Walk.{last, among, count, onStep, dayAfter, add, sub, W, between}
+use Rattle.zaehlung.proofs.Count.{count-none, count-mono, count-among}
+use Rattle.zaehlung.proofs.BlockLaws.{start-suc, start-mono, at-sum}
+use Rattle.zaehlung.proofs.Laws.{add-add, sub-add, W-add, add-out-iff, sub-out-iff, W-out-iff}
+use Rattle.zaehlung.proofs.Laws.{between-count, between-later}
+use Rattle.datum.specs.Calendar.{yearLen, yearStart, yearOf}
+use Rattle.datum.proofs.Years.{start-none, start-all, yearLen-bounds}
+use Rattle.datum.proofs.Dates.{year-below, yearLen-at}
+use Rattle.werktag.specs.declared.HolidayCalendar.{HolidayCalendar}
+use Rattle.werktag.specs.Werktag.{isWerktag}
+use Rattle.jahre.proofs.Counts.{weeks-few, year-few}
+use Rattle.jahresindex.proofs.Table.{all-is}
+
+-- the year of a day
+pub year-at :
+    (day : ℕ) → day ≤ last →
+    (yearStart (yearOf day .0) + yearOf day .1 ≡ day) × (yearOf day .0 < 904) × (yearOf day .1 < yearLen (yearOf day .0))
+year-at day h =
+    let a = at-sum yearLen 903 0 day in
+    let b = year-below day h in
+    (omega (arith, start-none), omega arith, omega (arith, yearLen-at (1996 + yearOf day .0) (yearOf day .0) refl))
+
+module _ (cal : HolidayCalendar) where
+  abbrev w : ℕ → Bool
+  w = isWerktag cal
+
+  pub at-most-all : (d : ℕ) → d ≤ suc last → count w d ≤ 222031
+  at-most-all d h = omega (arith, all-is cal, count-mono w d (suc last) h)
+
+  pub all-of : (n : ℕ) → n ≤ 222031 → n ≤ count w (suc last)
+  all-of n h = omega (arith, all-is cal)
+
+  -- 1 January 1996 is none
+  first-closed : count w 1 ≡ 0
+  first-closed =
+      let a = ap (λ (d : ℕ). among w d 1) start-none in
+      let l = yearLen-bounds 0 in
+      omega (arith, weeks-few cal 0 0 (omega arith) (omega arith), count-among w 0 1, count-none w)
+
+  module _ (day k r : ℕ) (h : day ≤ last) (p : k ≡ yearOf day .0) (q : r ≡ yearOf day .1) where
+    at-year : (yearStart k + r ≡ day) × (k < 904) × (r < yearLen k)
+    at-year = rw (p, q) (year-at day h)
+
+    pub in-year : r ≤ yearLen k
+    in-year = omega (arith, at-year)
+
+    pub next-in-year : r + 1 ≤ yearLen k
+    next-in-year = omega (arith, at-year)
+
+    pub next-fits : Fits w32 (r + 1)
+    next-fits = record { fits = omega (arith, at-year, yearLen-bounds k) }
+
+    module _ (b m : ℕ) (e : b ≡ count w (yearStart k)) where
+      pub before-day : m ≡ among w (yearStart k) r → b + m ≡ count w day
+      before-day u =
+          let x = ap (count w) (at-year .0) in
+          omega (arith, count-among w (yearStart k) r)
+
+      pub before-most : m ≡ among w (yearStart k) r → b + m ≤ 222031
+      before-most u = omega (arith, before-day u, at-most-all day (omega arith))
+
+      pub with-day : m ≡ among w (yearStart k) (r + 1) → b + m ≡ count w (suc day)
+      with-day u =
+          let o : yearStart k + (r + 1) ≡ suc day = omega (arith, at-year) in
+          let x = ap (count w) o in
+          omega (arith, count-among w (yearStart k) (r + 1))
+
+      pub with-most : m ≡ among w (yearStart k) (r + 1) → b + m ≤ 222031
+      with-most u = omega (arith, with-day u, at-most-all (suc day) (omega arith))
+
+      pub before-fits : m ≡ among w (yearStart k) r → Fits w32 (b + m)
+      before-fits u = record { fits = omega (arith, before-most u) }
+
+      pub with-fits : m ≡ among w (yearStart k) (r + 1) → Fits w32 (b + m)
+      with-fits u = record { fits = omega (arith, with-most u) }
+
+  module _
+      (n k b : ℕ) (h : k ≤ 903) (e : b ≡ count w (yearStart k)) (l : b < n)
+      (g : n ≤ count w (yearStart (k + 1))) where
+    -- the weeks that are skipped
+    abbrev q : ℕ
+    q = (n - b - 1) / 5
+
+    abbrev days : ℕ
+    days = q * 7
+
+    pub rest-few : n - b ≤ 262
+    rest-few =
+        let s = ap yearStart (add-one k) in
+        let c = ap (count w) (s ∙ start-suc yearLen k) in
+        omega (arith, count-among w (yearStart k) (yearLen k), year-few cal k (omega arith))
+
+    weeks-by : (q ≤ 52) × (5 * q < n - b)
+    weeks-by = (omega (arith, rest-few), omega arith)
+
+    pub days-few : days ≤ 364
+    days-few = omega (arith, weeks-by)
+
+    pub days-in : days + 1 ≤ yearLen k
+    days-in = omega (arith, days-few, yearLen-bounds k)
+
+    module _ (m : ℕ) (u : m ≡ among w (yearStart k) (days + 1)) where
+      pub fewer : m < n - b
+      fewer =
+          let t : days + 1 ≡ 7 * q + 1 = omega arith in
+          let x = ap (among w (yearStart k)) t in
+          omega (arith, weeks-few cal k q (omega arith) (omega (arith, days-in)), weeks-by)
+
+      pub fewer-by : m ≤ n - b
+      fewer-by = omega (arith, fewer)
+
+      module _ (s : ℕ) (v : s ≡ yearStart k) where
+        pub guess-in : s + days ≤ last
+        guess-in =
+            let o = ap yearStart (add-one k) in
+            omega (arith, days-in, start-suc yearLen k, start-mono yearLen (k + 1) 904 (omega arith), start-all)
+
+        pub nth-is : (x : Step) → x ≡ add w (s + days) (n - b - m) → x ≡ add w 0 n
+        nth-is x i =
+            let o : yearStart k + (days + 1) ≡ suc (s + days) = omega arith in
+            let c = ap (count w) o in
+            i
+            ∙ add-add w 0 n (omega arith) (omega arith) (s + days) (n - b - m) guess-in (omega (arith, fewer))
+              (omega (arith, first-closed, count-among w (yearStart k) (days + 1), fewer))
+
+  module _ (d n b : ℕ) (h : d ≤ last) where
+    pub add-outside : b ≡ count w (suc d) → 222031 - b < n → Outside ≡ add w d n
+    add-outside e l = sym (add-out-iff w d n h .1 (omega (arith, all-is cal)))
+
+    pub add-is : (f : ℕ) (s : Step) → b ≡ count w (suc d) → f < n → s ≡ add w 0 (b + n) → s ≡ add w d n
+    add-is f s e l i =
+        i ∙ sym (add-add w 0 (b + n) (omega arith) (omega arith) d n h (omega arith) (omega (arith, first-closed)))
+
+    pub sub-outside : b ≡ count w d → b < n → Outside ≡ sub w d n
+    sub-outside e l = sym (sub-out-iff w d n .1 (omega arith))
+
+    pub sub-is : (f : ℕ) (s : Step) → b ≡ count w d → f < n → n ≤ b → s ≡ add w 0 (b - n + 1) → s ≡ sub w d n
+    sub-is f s e l m i =
+        i ∙ sym (sub-add w 0 (b - n + 1) (omega arith) (omega arith) d n h (omega arith) (omega (arith, first-closed)))
+
+    pub W-outside : b ≡ count w d → 222031 - b < n → Outside ≡ W w d n
+    W-outside e l = sym (W-out-iff w d n h .1 (omega (arith, all-is cal, count-mono w last (suc last) (omega arith))))
+
+    module _ (f : ℕ) (s : Step) (e : b ≡ count w d) (l : f < n) (i : s ≡ add w 0 (b + n)) where
+      W-by : onStep Outside s dayAfter ≡ W w d n
+      W-by =
+          ap (λ (x : Step). onStep Outside x dayAfter) i
+          ∙ sym (W-add w 0 (b + n) (omega arith) (omega arith) d n h (omega arith) (omega (arith, first-closed)))
+
+      pub W-gone : s ≡ Outside → Outside ≡ W w d n
+      W-gone z = ap (λ (x : Step). onStep Outside x dayAfter) (sym z) ∙ W-by
+
+      pub W-is : (day : ℕ) (x : Step) → s ≡ Day day → x ≡ dayAfter day → x ≡ W w d n
+      W-is day x z t = t ∙ ap (λ (x : Step). onStep Outside x dayAfter) (sym z) ∙ W-by
+
+  pub not-later : (a b : ℕ) → b ≤ a → 0 ≡ between w a b
+  not-later a b h = sym (between-later w a b h)
+
+  module _ (a b x y : ℕ) (h : a < b) (p : x ≡ count w (suc a)) (q : y ≡ count w (suc b)) where
+    pub difference : y - x ≡ between w a b
+    difference = omega (arith, between-count w a b (omega arith))
+
+    pub no-less : x ≤ y
+    no-less = omega (arith, between-count w a b (omega arith))
+
+pub ruleset day-rules =
+    (in-year, next-in-year, next-fits, before-day, before-most, before-fits, with-day, with-most, with-fits)
+pub ruleset nth-rules = (all-of, rest-few, days-few, days-in, fewer, fewer-by, guess-in, nth-is)
+pub ruleset step-rules = (add-outside, add-is, sub-outside, sub-is, W-outside, W-gone, W-is)
+pub ruleset between-rules = (not-later, difference, no-less)
