@@ -6,7 +6,7 @@ use crate::labels;
 use crate::sentences::also;
 use mako_fristen_host::{
     AbmeldungVorlauf, Answer, BerlinTime, Clock, Content, Date, DayReason, Error, GasDue,
-    GasProzess, Instant, Parameter, Refusal, Span, VorlaufVerdict,
+    GasProzess, Instant, Parameter, Refusal, Span, VorlaufVerdict, WerktageBetween,
 };
 use std::ffi::OsString;
 
@@ -58,7 +58,10 @@ fn content(inquiry: &Inquiry, answer: &Answer) -> Result<Members, Error> {
             joined([kind(reason.name()), added])
         }
         Content::Date => vec![("date", Json::text(answer.read::<Date>(call)?))],
-        Content::Count => vec![("count", Json::number(answer.read::<u32>(call)?))],
+        Content::Count => {
+            let WerktageBetween { werktage, days_tested } = answer.read(call)?;
+            vec![("count", Json::number(werktage)), ("days_tested", Json::number(days_tested))]
+        }
         Content::Instant => {
             joined([vec![("instant", instant(answer.read(call)?)?)], label(labels::of(call))])
         }
