@@ -3,7 +3,7 @@ use crate::content::FromAnswer;
 use crate::fields::Fields;
 use crate::{
     AbmeldungVorlauf, Call, Content, Date, DayReason, Error, GasDue, Instant, Refusal, Span,
-    Unreadable, VorlaufVerdict,
+    Unreadable, VorlaufVerdict, WerktageBetween,
 };
 use std::fmt;
 
@@ -13,12 +13,13 @@ const COUNT: usize = 4;
 const INSTANT: usize = 8;
 const DATE: usize = 20;
 const LAST_DATE: usize = 24;
+const DAYS_TESTED: usize = LAST_DATE;
 
 /// What is lent to a call: no answer, should the call leave it as it is.
 pub(crate) const UNTOUCHED: Answer = Answer::from_bytes([u8::MAX; Answer::LEN]);
 
-/// The 32 bytes of an answer, little-endian, laid out as document 01 says. What a call does not
-/// fill is zero. The fields are given as they stand there; what they mean is for
+/// The 32 bytes of an answer, little-endian, laid out as documents 01 and 02 say. What a call does
+/// not fill is zero. The fields are given as they stand there; what they mean is for
 /// [`read`](Answer::read) to say.
 ///
 /// ```
@@ -84,16 +85,31 @@ impl Answer {
         bytes::date(&self.bytes, DATE)
     }
 
-    /// The span's last date.
+    /// The span's last date. A count has its days tested in the same bytes, 24 to 27.
     #[must_use]
     pub fn last_date(&self) -> Date {
         bytes::date(&self.bytes, LAST_DATE)
     }
 
+    /// How many days a count tested. A span has its last date in the same bytes, 24 to 27.
+    ///
+    /// ```
+    /// use mako_fristen_host::{Call, Date, Question};
+    ///
+    /// let question = Question::on(Call::WerktageBetween, Date::new(2026, 4, 2));
+    /// let answer = question.with_second(Date::new(2026, 4, 7)).answer()?;
+    /// assert_eq!((answer.count(), answer.days_tested()), (1, 92 + 97));
+    /// # Ok::<(), mako_fristen_host::Error>(())
+    /// ```
+    #[must_use]
+    pub fn days_tested(&self) -> u32 {
+        bytes::count(&self.bytes, DAYS_TESTED)
+    }
+
     /// What an answer of `call` says. Every byte of it counts: a kind that the documents do not have
     /// for the call is an error, and so is a field that is not zero although the kind does not fill
-    /// it, or a date or an instant outside the calendar. The type is the one that
-    /// [`Call::content`] names; as any other, no answer can be read.
+    /// it, a date or an instant outside the calendar, or a number of days tested that no two dates
+    /// have. The type is the one that [`Call::content`] names; as any other, no answer can be read.
     ///
     /// ```
     /// use mako_fristen_host::{Answer, Call, Date, Error, Refusal, Span};
@@ -163,7 +179,7 @@ impl Answer {
         match call.content() {
             Content::Werktag => self.is_read_as::<DayReason>(number, call),
             Content::Date => self.is_read_as::<Date>(number, call),
-            Content::Count => self.is_read_as::<u32>(number, call),
+            Content::Count => self.is_read_as::<WerktageBetween>(number, call),
             Content::Instant => self.is_read_as::<Instant>(number, call),
             Content::GasDue => self.is_read_as::<GasDue>(number, call),
             Content::Verdict => self.is_read_as::<VorlaufVerdict>(number, call),
@@ -251,6 +267,12 @@ impl Answer {
     #[must_use]
     pub fn with_last_date(self, date: Date) -> Answer {
         self.with(LAST_DATE, &date.to_bytes())
+    }
+
+    /// With this many days tested by a count.
+    #[must_use]
+    pub fn with_days_tested(self, days: u32) -> Answer {
+        self.with(DAYS_TESTED, &days.to_le_bytes())
     }
 
     pub(crate) fn field<const N: usize>(&self, at: usize) -> [u8; N] {

@@ -8,9 +8,10 @@ use crate::{
 /// For the start of a service: asks for an answer of every kind, and compares the 32 bytes with those
 /// that documents 01 and 02 give; for those of a file too, with a question of every operation.
 ///
-/// That an answer can be read does not say that it still means the same. An older archive, whose day
-/// test gives 1 for a Werktag and 0 for every other day, would be read the wrong way round; here it
-/// is found. It takes some microseconds.
+/// That an answer can be read does not say that it still means the same. An archive from before F-2
+/// of document 02, whose day test gives 1 for a Werktag and 0 for every other day, would be read the
+/// wrong way round; here it is found, and so is one from before F-3, whose counts do not say how
+/// many days they tested. It takes some microseconds.
 ///
 /// ```
 /// assert_eq!(mako_fristen_host::check_archive(), Ok(()));
@@ -100,13 +101,15 @@ fn day_tests() -> [Row; 23] {
     rows.map(|(date, number)| (Question::on(Call::IsWerktag, date), kind(number)))
 }
 
-/// 2 April is the Thursday before Karfreitag, and the first Werktag after it is the 7th.
+/// 2 April is the Thursday before Karfreitag, and the first Werktag after it is the 7th. They are the
+/// 92nd and the 97th day of the year.
 fn days() -> [Row; 3] {
     let on = |call| Question::on(call, date(4, 2));
     let midnight = Instant::new(1_775_080_800, 0);
+    let counted = kind(0).with_count(1).with_days_tested(92 + 97);
     [
         (on(Call::AddWerktage).with_count(1), kind(0).with_date(date(4, 7))),
-        (on(Call::WerktageBetween).with_second(date(4, 7)), kind(0).with_count(1)),
+        (on(Call::WerktageBetween).with_second(date(4, 7)), counted),
         (on(Call::BerlinMidnight), kind(0).with_instant(midnight)),
     ]
 }
@@ -252,6 +255,15 @@ mod tests {
             let found = Err(Unreadable { call: Call::IsWerktag, number: 0, answer: reason });
             assert_eq!(turned, found, "{question}");
         }
+    }
+
+    /// What an archive gives that walks from one date to the other.
+    #[test]
+    fn a_count_without_its_days_tested_is_found() {
+        let [_, (question, counted), _] = days();
+        let untold = checked(&[(question, counted.with_days_tested(0))]);
+        let found = Unreadable { call: Call::WerktageBetween, number: 0, answer: counted };
+        assert_eq!(untold, Err(found));
     }
 
     #[test]

@@ -1,11 +1,11 @@
 //! What the 32 bytes of an answer say, in the words of document 01, and of document 02 for the day
-//! test: which kinds there are, and which fields each fills. Unused fields are zero.
+//! test and the count: which kinds there are, and which fields each fills. Unused fields are zero.
 //!
 //! | content | kind | fills |
 //! |---|---|---|
 //! | day test | 0 Werktag, 1 Saturday, 2 Sunday, 3 to 22 the holiday | |
 //! | step, day of an instant | 0 | date |
-//! | count | 0 | count |
+//! | count | 0 | count, days tested |
 //! | instant | 0 | instant |
 //! | Gas due instant | 0 follow-up, 1 initial process; its own in the call of either | instant |
 //! | verdict | 0 Ok | |
@@ -18,7 +18,8 @@
 //! | deregistration | 0 to 3, the case | |
 //! | announcement | 0 no, 1 yes, 2 neither | |
 //!
-//! A refused call has kind 0 too, which is a Werktag's: the refusal number is read first.
+//! A refused call has kind 0 too, which is a Werktag's: the refusal number is read first. The days
+//! tested and the last date have the same bytes, 24 to 27.
 //!
 //! A content is read by the kind, and then written again: where that does not give the very fields
 //! that came, they say something that this version does not know
@@ -27,6 +28,7 @@
 use crate::fields::Fields;
 use crate::{
     AbmeldungVorlauf, Call, Date, DayReason, GasDue, GasProzess, Instant, Span, VorlaufVerdict,
+    WerktageBetween,
 };
 
 /// What the answers of a call hold.
@@ -36,7 +38,7 @@ pub enum Content {
     Werktag,
     /// A [`Date`]: of a step, or the day of an instant.
     Date,
-    /// A count: a `u32`.
+    /// A count, and how many days it tested: a [`WerktageBetween`].
     Count,
     /// An [`Instant`]: of a clock on a date, or a due instant.
     Instant,
@@ -60,7 +62,8 @@ pub trait FromAnswer: Sized {
     const CONTENT: Content;
 
     /// By the kind and the fields that it fills; the others are not looked at. None for a kind that
-    /// the documents do not have for the call, and for a date or an instant outside the calendar.
+    /// the documents do not have for the call, for a date or an instant outside the calendar, and for
+    /// days tested that no two dates have.
     fn read(fields: &Fields, call: Call) -> Option<Self>;
 
     /// The fields that the documents have for it.
@@ -105,15 +108,22 @@ impl FromAnswer for Date {
     }
 }
 
-impl FromAnswer for u32 {
+impl FromAnswer for WerktageBetween {
     const CONTENT: Content = Content::Count;
 
-    fn read(fields: &Fields, _: Call) -> Option<u32> {
-        Some(fields.count)
+    fn read(fields: &Fields, _: Call) -> Option<WerktageBetween> {
+        let (werktage, days_tested) = (fields.count, u32::from_le_bytes(fields.word24));
+        let tested = WerktageBetween::FEWEST_DAYS_TESTED..=WerktageBetween::MOST_DAYS_TESTED;
+        let given = match days_tested {
+            0 => werktage == 0,
+            _ => tested.contains(&days_tested),
+        };
+        given.then_some(WerktageBetween { werktage, days_tested })
     }
 
     fn written(&self) -> Fields {
-        Fields { count: *self, ..of_kind(0) }
+        let WerktageBetween { werktage: count, days_tested } = *self;
+        Fields { count, word24: days_tested.to_le_bytes(), ..of_kind(0) }
     }
 }
 
@@ -206,7 +216,8 @@ impl FromAnswer for Span {
         match fields.kind {
             0 => Some(Span::From(in_calendar(fields.date)?)),
             1 => {
-                let (first, last) = (in_calendar(fields.date)?, in_calendar(fields.last_date)?);
+                let last = Date::from_bytes(fields.word24);
+                let (first, last) = (in_calendar(fields.date)?, in_calendar(last)?);
                 (first <= last).then_some(Span::Between(first, last))
             }
             2 => Some(Span::Empty),
@@ -217,7 +228,7 @@ impl FromAnswer for Span {
     fn written(&self) -> Fields {
         match *self {
             Span::From(date) => Fields { date, ..of_kind(0) },
-            Span::Between(date, last_date) => Fields { date, last_date, ..of_kind(1) },
+            Span::Between(date, last) => Fields { date, word24: last.to_bytes(), ..of_kind(1) },
             Span::Empty => of_kind(2),
         }
     }

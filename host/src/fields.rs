@@ -12,7 +12,8 @@ pub struct Fields {
     pub count: u32,
     pub instant: Instant,
     pub date: Date,
-    pub last_date: Date,
+    /// Bytes 24 to 27: a span's last date, or the days that a count tested.
+    pub word24: [u8; 4],
     /// Bytes 28 to 31, which nothing fills.
     pub rest: [u8; 4],
 }
@@ -27,7 +28,7 @@ impl Fields {
             count: answer.count(),
             instant: answer.instant(),
             date: answer.date(),
-            last_date: answer.last_date(),
+            word24: answer.field(24),
             rest: answer.field(28),
         }
     }

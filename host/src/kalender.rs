@@ -2,7 +2,7 @@
 //! 1 January 1996 to 31 December 2899 ([`Refusal::NoDate`]), and every step one that would leave
 //! that range ([`Refusal::LeavesCalendar`]).
 
-use crate::{Call, Date, DayReason, Error, Question};
+use crate::{Call, Date, DayReason, Error, Question, WerktageBetween};
 #[cfg(doc)]
 use crate::{Feiertag, Refusal};
 
@@ -97,21 +97,25 @@ pub fn sub_werktage(from: Date, n: u32) -> Result<Date, Error> {
     step(Call::SubWerktage, from, n)
 }
 
-/// The Werktage after `from` up to and including `to`; 0 if `to` is not later. Over Christmas and
-/// New Year 15 days have five.
+/// The Werktage after `from` up to and including `to`, 0 if `to` is not later; and how many days were
+/// tested for it. Over Christmas and New Year 15 days have five.
 ///
 /// ```
 /// use mako_fristen_host::{werktage_between, Date};
 ///
 /// let (before, after) = (Date::new(2025, 12, 23), Date::new(2026, 1, 7));
-/// assert_eq!(werktage_between(before, after), Ok(5));
-/// assert_eq!(werktage_between(after, before), Ok(0));
+/// assert_eq!(werktage_between(before, after)?.werktage, 5);
+/// assert_eq!(werktage_between(after, before)?.werktage, 0);
+/// // The years between are read from a table: 357 days of 2025, and 7 of 2899.
+/// let contract = werktage_between(before, Date::new(2899, 1, 7))?;
+/// assert_eq!(contract.days_tested, 357 + 7);
+/// # Ok::<(), mako_fristen_host::Error>(())
 /// ```
 ///
 /// # Errors
 ///
 /// [`Refusal::NoDate`], for either date.
-pub fn werktage_between(from: Date, to: Date) -> Result<u32, Error> {
+pub fn werktage_between(from: Date, to: Date) -> Result<WerktageBetween, Error> {
     Question::on(Call::WerktageBetween, from).with_second(to).content()
 }
 

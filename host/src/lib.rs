@@ -5,7 +5,7 @@
 //! | *Is this date a Werktag? Why not?* | [`is_werktag`], [`day_reason`] |
 //! | *Which is the first Werktag on or after it?* | [`next_werktag`] |
 //! | *Which day is n Werktage later, or earlier?* | [`add_werktage`], [`sub_werktage`] |
-//! | *How many Werktage lie between two dates?* | [`werktage_between`] |
+//! | *How many Werktage lie between two dates? How many days were tested?* | [`werktage_between`] |
 //! | *Which day is n months later, or earlier?* | [`add_months`], [`subtract_months`] |
 //! | *At which instant does Berlin's clock show a time?* | [`berlin_at`] |
 //! | *At which instant does a day in Berlin begin and end?* | [`berlin_midnight`], [`end_of_day_berlin`] |
@@ -75,18 +75,19 @@
 //! # Answers that cannot be read
 //!
 //! Every byte of an answer is looked at. A number or a kind that the documents do not have for the
-//! call, something in a field that the kind does not fill, a date or an instant outside the calendar:
-//! each is an [`Error::Unreadable`], from any function, and never taken for the answer next to it.
-//! It comes only from an archive of another version than this crate. A kind that means something else
-//! in another version is still a kind: [`check_archive`], at the start of a service, finds that too.
+//! call, something in a field that the kind does not fill, a date or an instant outside the calendar,
+//! a number of days tested that no two dates have: each is an [`Error::Unreadable`], from any
+//! function, and never taken for the answer next to it. It comes only from an archive of another
+//! version than this crate. A kind that means something else in another version is still a kind:
+//! [`check_archive`], at the start of a service, finds that too.
 //!
 //! # Threads, memory, time
 //!
 //! The calls have no state, and read neither a clock nor a file: any number of threads may ask at
 //! the same time, without a lock, and the same question always has the same answer. They take no
 //! memory from the heap; [`fragen`], [`answers`] and [`answer_records`] do, for the questions and
-//! answers of a day. A step or a count walks day by day, at most to the calendar's edge:
-//! docs/BENCHMARKS.md has the times.
+//! answers of a day. Steps and counts read whole years from a table; docs/BENCHMARKS.md has the
+//! times.
 
 #![deny(missing_docs)]
 #![deny(unsafe_code)]
@@ -129,6 +130,7 @@ mod unreadable;
 mod verdict;
 mod vorlauf_shape;
 mod weekday;
+mod werktage_between;
 
 pub use abmeldung::AbmeldungVorlauf;
 pub use ankuendigung::eog_ankuendigung_fristgerecht;
@@ -174,6 +176,7 @@ pub use unreadable::Unreadable;
 pub use verdict::VorlaufVerdict;
 pub use vorlauf_shape::VorlaufShape;
 pub use weekday::Weekday;
+pub use werktage_between::WerktageBetween;
 
 /// The examples of README.md are tests as well.
 #[cfg(doctest)]

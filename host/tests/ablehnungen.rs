@@ -306,12 +306,9 @@ fn what_a_verdict_does_not_use_is_not_checked() {
     }
 }
 
-/// A good question, one at the upper edge with the largest count, and one where all is refused. A
-/// verdict is not asked for over centuries, which takes it long.
+/// A good question, one at the upper edge with the largest count, and one where all is refused.
 fn three_questions(call: Call) -> [Question; 3] {
-    let verdict = call.takes(Parameter::VorlaufShape);
-    let n = if verdict { 3 } else { u32::MAX };
-    let (date, date2, instant) = (Date::LAST, Date::LAST, Instant::LAST);
+    let (date, date2, instant, n) = (Date::LAST, Date::LAST, Instant::LAST, u32::MAX);
     let instant2 = Instant::new(Instant::LAST.seconds - 86_399, 0);
     let edge = Question { date, date2, instant, instant2, n, ..ordinary(call) };
     let spoil = |question, &parameter| spoiled(question, parameter);

@@ -35,16 +35,43 @@ fn a_step() {
     assert_eq!(bytes_of(|a| ffi::mf_subtract_months(2026, 5, 7, 1, a)), seventh_of_april);
 }
 
-/// The Werktage of the whole calendar, 222,031, are 0x00_03_63_4f.
+/// The Werktage of the whole calendar, 222,031, are 0x00_03_63_4f; 1 and 365 days are tested for them,
+/// which are 0x01_6e.
 #[test]
 fn a_count() {
     #[rustfmt::skip]
     let all_werktage = [
         0, 0, 0, 0,  0x4f, 0x63, 0x03, 0x00,  0, 0, 0, 0, 0, 0, 0, 0,
-        0, 0, 0, 0,  0, 0, 0, 0,  0, 0, 0, 0,  0, 0, 0, 0,
+        0, 0, 0, 0,  0, 0, 0, 0,  0x6e, 0x01, 0, 0,  0, 0, 0, 0,
     ];
     let whole = |a: &mut [u8]| ffi::mf_werktage_between(1996, 1, 1, 2899, 12, 31, a);
     assert_eq!(bytes_of(whole), all_werktage);
+}
+
+/// 31 December 2024 is the 366th day of its year, 2 April 2026 the 92nd.
+#[test]
+fn the_days_that_a_count_tested() {
+    let counted = |werktage: u16, days_tested: u16| {
+        let mut bytes = [0; 32];
+        bytes[4..6].copy_from_slice(&werktage.to_le_bytes());
+        bytes[24..26].copy_from_slice(&days_tested.to_le_bytes());
+        bytes
+    };
+    let from_leap_year = |year: u16, month: u8, day: u8| {
+        bytes_of(|a| ffi::mf_werktage_between(2024, 12, 31, year, month, day, a))
+    };
+    assert_eq!(from_leap_year(2024, 12, 30), [0; 32]);
+    assert_eq!(from_leap_year(2024, 12, 31), [0; 32]);
+    assert_eq!(from_leap_year(2025, 1, 1), counted(0, 367));
+    assert_eq!(from_leap_year(2025, 1, 2), counted(1, 368));
+    assert_eq!(from_leap_year(2027, 12, 31), counted(742, 731));
+    assert_eq!(from_leap_year(2028, 12, 31), counted(986, 732));
+    let from_thursday =
+        |day: u8| bytes_of(|a| ffi::mf_werktage_between(2026, 4, 2, 2026, 4, day, a));
+    assert_eq!(from_thursday(1), [0; 32]);
+    assert_eq!(from_thursday(2), [0; 32]);
+    assert_eq!(from_thursday(3), counted(0, 185));
+    assert_eq!(from_thursday(7), counted(1, 189));
 }
 
 /// 2026-04-01T22:00:00Z is 1,775,080,800 seconds, 0x69cd_9560.
@@ -166,8 +193,12 @@ fn a_refusal_leaves_the_rest_zero() {
     let mut refused = [0; 32];
     refused[0] = 3;
     assert_eq!(bytes_of(|a| ffi::mf_is_werktag(2026, 2, 29, a)), refused);
+    assert_eq!(bytes_of(|a| ffi::mf_werktage_between(2026, 2, 29, 2026, 4, 7, a)), refused);
+    assert_eq!(bytes_of(|a| ffi::mf_werktage_between(2026, 4, 2, 2900, 1, 1, a)), refused);
     refused[0] = 8;
     assert_eq!(bytes_of(|a| ffi::mf_add_werktage(2899, 12, 31, 1, a)), refused);
+    assert_eq!(bytes_of(|a| ffi::mf_add_werktage(2026, 4, 2, u32::MAX, a)), refused);
+    assert_eq!(bytes_of(|a| ffi::mf_sub_werktage(2026, 4, 2, u32::MAX, a)), refused);
 }
 
 /// Bytes that count up tell each field and its byte order apart.
@@ -180,6 +211,7 @@ fn the_fields_of_an_answer() {
     assert_eq!(answer.instant(), Instant::new(0x0f0e_0d0c_0b0a_0908, 0x1312_1110));
     assert_eq!(answer.date(), Date::new(0x1514, 0x16, 0x17));
     assert_eq!(answer.last_date(), Date::new(0x1918, 0x1a, 0x1b));
+    assert_eq!(answer.days_tested(), 0x1b1a_1918);
     assert_eq!(answer.as_bytes()[28..], [28, 29, 30, 31]);
 }
 
@@ -202,6 +234,8 @@ fn what_is_put_into_an_answer_is_read_from_it() {
         .with_last_date(last);
     assert_eq!((answer.kind(), answer.count()), (2, u32::MAX));
     assert_eq!((answer.instant(), answer.date(), answer.last_date()), (instant, date, last));
+    assert_eq!(answer.with_days_tested(732).days_tested(), 732);
+    assert_eq!(answer.with_days_tested(732).with_last_date(last), answer, "the same bytes");
     assert_eq!(Answer::refused(Refusal::LeavesCalendar).number(), 8);
 }
 

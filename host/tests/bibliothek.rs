@@ -65,6 +65,10 @@ fn judged(verdict: VorlaufVerdict) -> Answer {
     }
 }
 
+fn counted(WerktageBetween { werktage, days_tested }: WerktageBetween) -> Answer {
+    Answer::default().with_count(werktage).with_days_tested(days_tested)
+}
+
 fn spanned(span: Span) -> Answer {
     match span {
         Span::From(first) => dated(first),
@@ -113,9 +117,7 @@ fn by_date(q: &Question) -> Option<Given> {
         Call::NextWerktag => next_werktag(q.date).map(dated),
         Call::AddWerktage => add_werktage(q.date, q.n).map(dated),
         Call::SubWerktage => sub_werktage(q.date, q.n).map(dated),
-        Call::WerktageBetween => {
-            werktage_between(q.date, q.date2).map(|count| Answer::default().with_count(count))
-        }
+        Call::WerktageBetween => werktage_between(q.date, q.date2).map(counted),
         Call::AddMonths => add_months(q.date, q.n).map(dated),
         Call::SubtractMonths => subtract_months(q.date, q.n).map(dated),
         Call::BerlinAt => berlin_at(q.date, q.clock).map(timed),
@@ -254,6 +256,7 @@ fn every_answer_is_read() {
             .with_last_date(answer.last_date());
         // The refusal number, two bytes and the last four are no field of these.
         assert_eq!(again.as_bytes()[4..28], bytes[4..28]);
+        assert_eq!(again.with_days_tested(answer.days_tested()), again);
         assert_eq!((again.as_bytes()[1], answer.number()), (bytes[1], bytes[0]));
     }
 }
@@ -314,7 +317,7 @@ fn threads_ask_at_the_same_time() {
     is_plain::<(Question, Answer, Date, Clock, Instant, Reason)>();
     is_plain::<(Error, Refusal, Unreadable, Content)>();
     is_plain::<(Call, Parameter, ContrlAnlass, Sparte, Eeg, GasDue, FristShape)>();
-    is_plain::<(VorlaufShape, VorlaufVerdict, Span, AbmeldungVorlauf)>();
+    is_plain::<(VorlaufShape, VorlaufVerdict, Span, AbmeldungVorlauf, WerktageBetween)>();
     is_plain::<(Frage, Fragesatz, Antwort, DayReason, Feiertag)>();
     let mut random = Random(0x6661_6465);
     let questions: Vec<Question> = Call::ALL.map(|call| random.question(call)).to_vec();

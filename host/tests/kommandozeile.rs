@@ -212,6 +212,8 @@ fn refusals_with_their_number() {
         (7, "tag-des-beginns 2026-03-29T05:00:00Z Gas"),
         (7, "check-at Korridor 1 2026-01-12T00:00:00Z 2026-01-12T00:00:00Z Strom"),
         (8, "add-werktage 2899-12-31 1"),
+        (8, "add-werktage 2026-04-02 4294967295"),
+        (8, "sub-werktage 2026-04-02 4294967295"),
         (8, "sub-werktage 1996-01-01 4294967295"),
         (8, "add-hours 2899-12-31T22:00:00Z 1"),
         (8, "span LatestMonateBefore 4294967295 2026-01-01"),
@@ -256,6 +258,22 @@ fn the_help_of_tag_has_the_reasons() {
     );
     assert!(help.contains(&format!("\n{rows}\n")), "{help}");
     assert!(help.contains("\nEin abgelehnter Aufruf ist keine Antwort"), "{help}");
+}
+
+/// In the bytes, in JSON and in the help, but not in the sentence, which is read out.
+#[test]
+fn a_count_with_the_days_that_it_tested() {
+    let count = ["werktage-between", "2026-04-02", "2026-04-07"];
+    let sentence = printed(&count, 0);
+    assert!(sentence.ends_with(", liegt 1 Werktag.\n") && !sentence.contains("189"), "{sentence}");
+    let bytes = printed(&[&count[..], &["--bytes"]].concat(), 0);
+    let (werktage, days_tested) = ("01000000", "bd000000");
+    let fields = ["00000000", werktage, &"00".repeat(16), days_tested, "00000000\n"];
+    assert_eq!(bytes, fields.concat());
+    let help = printed(&["help", "werktage-between"], 0);
+    assert!(help.contains("\n„days_tested“ in --json: die geprüften Tage, "), "{help}");
+    let refused = printed(&["werktage-between", "2026-04-02", "2026-02-29", "--json"], 2);
+    assert!(!refused.contains("count") && !refused.contains("days_tested"), "{refused}");
 }
 
 const WRONG: &[(&str, &str)] = &[

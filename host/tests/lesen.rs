@@ -3,7 +3,7 @@
 
 use mako_fristen_host::{
     AbmeldungVorlauf, Answer, Call, Date, DayReason, Error, Feiertag, GasDue, GasProzess, Instant,
-    Refusal, Span, Unreadable, VorlaufVerdict,
+    Refusal, Span, Unreadable, VorlaufVerdict, WerktageBetween,
 };
 use std::ops::Range;
 
@@ -11,8 +11,10 @@ const DAY: Date = Date::new(2026, 4, 7);
 const LAST_DAY: Date = Date::new(2026, 5, 12);
 const INSTANT: Instant = Instant::new(1_775_080_799, 999_999_999);
 const COUNT: u32 = 249;
+/// From 31 December 2025 to 31 December 2026.
+const DAYS_TESTED: u32 = 730;
 
-/// The fields of document 01 behind the kind.
+/// The fields of document 01 behind the kind; the days that a count tested stand in the last.
 const FIELDS: [Range<usize>; 4] = [4..8, 8..20, 20..24, 24..28];
 
 fn kind(kind: u8) -> Answer {
@@ -43,7 +45,7 @@ fn answers(call: Call) -> Vec<Answer> {
         | Call::SubtractMonths
         | Call::BerlinDate
         | Call::TagDesBeginns => vec![dated()],
-        Call::WerktageBetween => vec![counted()],
+        Call::WerktageBetween => vec![counted().with_days_tested(DAYS_TESTED)],
         Call::BerlinAt
         | Call::BerlinMidnight
         | Call::EndOfDayBerlin
@@ -208,6 +210,24 @@ fn a_span_does_not_end_before_it_begins() {
     assert_unreadable(Call::VorlaufSpan, between(LAST_DAY, DAY));
 }
 
+/// At least those of two 1 January, at most two leap years, and none only where nothing is counted.
+#[test]
+fn the_days_tested_are_those_of_two_dates() {
+    let counted = |werktage, days| Answer::default().with_count(werktage).with_days_tested(days);
+    let readable = [(0, 0), (0, 2), (0, 3), (COUNT, 2), (COUNT, 189), (0, 731), (COUNT, 732)];
+    for (werktage, days_tested) in readable {
+        let between = counted(werktage, days_tested).read(Call::WerktageBetween);
+        assert_eq!(between, Ok(WerktageBetween { werktage, days_tested }));
+    }
+    for days in [1, 733, 734, 1_000, 1 << 16, 1 << 24, u32::MAX] {
+        assert_unreadable(Call::WerktageBetween, counted(0, days));
+        assert_unreadable(Call::WerktageBetween, counted(COUNT, days));
+    }
+    for werktage in [1, COUNT, u32::MAX] {
+        assert_unreadable(Call::WerktageBetween, counted(werktage, 0));
+    }
+}
+
 /// 2 to 8 with nothing behind them. A 1 and a 9 leave the slice as it was, so that they never stand
 /// there.
 #[test]
@@ -279,7 +299,8 @@ fn each_content_as_its_type() {
         assert_eq!(kind(number).read(Call::IsWerktag), Ok(DayReason::Feiertag(holiday)));
     }
     assert_eq!(dated().read(Call::AddWerktage), Ok(DAY));
-    assert_eq!(counted().read(Call::WerktageBetween), Ok(COUNT));
+    let between = WerktageBetween { werktage: COUNT, days_tested: DAYS_TESTED };
+    assert_eq!(counted().with_days_tested(DAYS_TESTED).read(Call::WerktageBetween), Ok(between));
     assert_eq!(timed().read(Call::ContrlDueAt), Ok(INSTANT));
     assert_eq!(timed().with_kind(1).read(Call::AperakGasDueAt), Ok(initial));
     assert_eq!(kind(0).read(Call::VorlaufCheck), Ok(VorlaufVerdict::Ok));

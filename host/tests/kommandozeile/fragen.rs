@@ -540,8 +540,7 @@ fn a_hundred_thousand_lines() {
 /// A line of words that a line may have.
 fn any_words(random: &mut Random) -> String {
     let mut pick = |from: &[&'static str]| from[random.below(from.len())];
-    // The largest counts walk to the calendar's edge.
-    let (date, date2, n) = (pick(&DATES), pick(&DATES), pick(&COUNTS[..3]));
+    let (date, date2, n) = (pick(&DATES), pick(&DATES), pick(&COUNTS));
     let (shape, at) = (pick(&SHAPES), pick(&INSTANTS));
     let others = "contrl frist check span mf_vorlauf_span tag # -- --json - @0 Regelfall SameDay \
                   SameDayAt 24:00 02:30 12:00:00.5 TagVorDemLetztenWerktagVor \u{202e} \u{a0}";

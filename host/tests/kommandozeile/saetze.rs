@@ -317,7 +317,24 @@ pub const JSON: &[(&str, &str)] = &[
     ),
     (
         "werktage-between 2026-04-02 2026-04-07 --json",
-        r#"{"call":"mf_werktage_between","arguments":["2026-04-02","2026-04-07"],"refusal":null,"count":1}"#,
+        concat!(
+            r#"{"call":"mf_werktage_between","arguments":["2026-04-02","2026-04-07"],"#,
+            r#""refusal":null,"count":1,"days_tested":189}"#,
+        ),
+    ),
+    (
+        "werktage-between 2024-12-31 2028-12-31 --json",
+        concat!(
+            r#"{"call":"mf_werktage_between","arguments":["2024-12-31","2028-12-31"],"#,
+            r#""refusal":null,"count":986,"days_tested":732}"#,
+        ),
+    ),
+    (
+        "werktage-between 2026-04-07 2026-04-02 --json",
+        concat!(
+            r#"{"call":"mf_werktage_between","arguments":["2026-04-07","2026-04-02"],"#,
+            r#""refusal":null,"count":0,"days_tested":0}"#,
+        ),
     ),
     (
         "span Korridor 2 2026-04-07 --json",

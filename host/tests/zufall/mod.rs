@@ -36,18 +36,19 @@ impl Random {
         }
     }
 
-    /// Mostly a day within three years, since a count over centuries takes its time.
+    /// Mostly a day within three years, as an anchor is.
     pub fn date_near(&mut self, date: Date) -> Date {
-        match self.below(64) {
+        match self.below(4) {
             0 => self.date(),
             _ => Date { year: date.year.saturating_add(self.below(3) as u16), ..self.date() },
         }
     }
 
-    /// Few: a large count walks to the calendar's edge.
+    /// Mostly few, as a Frist has; sometimes up to the Werktage of the calendar, or any number.
     pub fn count(&mut self) -> u32 {
-        match self.below(64) {
+        match self.below(32) {
             0 => self.number() as u32,
+            1 => self.below(222_100) as u32,
             _ => self.below(45) as u32,
         }
     }

@@ -19,8 +19,7 @@ use mako_fristen_host::{answer_records, answers, Answer, Error, Frage, Fragesatz
 use progress::Progress;
 use std::io::{self, BufWriter, Read, StdoutLock, Write};
 
-/// The most questions that are answered before something is shown of it. The hardest take some 20
-/// milliseconds each, so that this is less than three seconds.
+/// The most questions that are answered before something is shown of it.
 const BATCH: usize = 128;
 
 /// Answers each line as it comes, in the form.

@@ -16,6 +16,10 @@ impl Json {
         Json::Text(text.to_string())
     }
 
+    pub fn number(number: impl Into<i64>) -> Json {
+        Json::Number(number.into())
+    }
+
     pub fn list(members: impl IntoIterator<Item = Json>) -> Json {
         Json::List(members.into_iter().collect())
     }

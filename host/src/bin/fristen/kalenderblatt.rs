@@ -50,13 +50,12 @@ impl Holiday {
 
     fn json(&self) -> Json {
         let Holiday { date, holiday, reason } = self;
-        let number = |number: u8| Json::Number(i64::from(number));
         Json::Object(vec![
             ("date", Json::text(date)),
             ("weekday", date.weekday().map_or(Json::Null, Json::text)),
-            ("number", number(holiday.number())),
+            ("number", Json::number(holiday.number())),
             ("name", Json::text(holiday)),
-            ("reason", number(reason.number())),
+            ("reason", Json::number(reason.number())),
         ])
     }
 }
@@ -153,7 +152,7 @@ impl Year {
     }
 
     pub fn json(&self, given: &[OsString]) -> Json {
-        let months = self.months.iter().map(|month| Json::Number(i64::from(month.werktage())));
+        let months = self.months.iter().map(|month| Json::number(month.werktage()));
         let days = self.months.iter().flat_map(|month| &month.days);
         let closed =
             days.filter(|(_, reason)| !reason.is_werktag()).map(|(date, _)| Json::text(date));
@@ -162,8 +161,8 @@ impl Year {
             ("call", Json::text("kalender")),
             ("arguments", arguments(given)),
             ("refusal", Json::Null),
-            ("year", Json::Number(i64::from(self.number))),
-            ("werktage", Json::Number(i64::from(self.werktage()))),
+            ("year", Json::number(self.number)),
+            ("werktage", Json::number(self.werktage())),
             ("werktage_by_month", Json::list(months)),
             ("closed", Json::list(closed)),
             ("holidays", Json::list(holidays)),

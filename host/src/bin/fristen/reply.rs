@@ -49,7 +49,7 @@ impl Reply<'_> {
     fn json(&self, json: Json) -> String {
         let line = self.line.map(|line| i64::try_from(line).unwrap_or(i64::MAX));
         match line {
-            Some(line) => json.after("line", Json::Number(line)).to_string(),
+            Some(line) => json.after("line", Json::number(line)).to_string(),
             None => json.to_string(),
         }
     }

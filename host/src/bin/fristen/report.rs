@@ -6,7 +6,7 @@ use crate::labels;
 use crate::sentences::also;
 use mako_fristen_host::{
     AbmeldungVorlauf, Answer, BerlinTime, Clock, Content, Date, DayReason, Error, GasDue,
-    GasProzess, Instant, Parameter, Refusal, Span, VorlaufVerdict,
+    GasProzess, Instant, Parameter, Refusal, Span, VorlaufVerdict, WerktageBetween,
 };
 use std::ffi::OsString;
 
@@ -42,8 +42,8 @@ pub fn arguments(given: &[OsString]) -> Json {
 }
 
 pub fn refusal_json(refusal: Refusal) -> Json {
-    let number = Json::Number(i64::from(refusal.number()));
-    Json::Object(vec![("number", number), ("text", Json::text(refusal.beschreibung()))])
+    let (number, text) = (Json::number(refusal.number()), Json::text(refusal.beschreibung()));
+    Json::Object(vec![("number", number), ("text", text)])
 }
 
 /// The fields, with the kinds by name, and what goes with them.
@@ -58,7 +58,10 @@ fn content(inquiry: &Inquiry, answer: &Answer) -> Result<Members, Error> {
             joined([kind(reason.name()), added])
         }
         Content::Date => vec![("date", Json::text(answer.read::<Date>(call)?))],
-        Content::Count => vec![("count", Json::Number(i64::from(answer.read::<u32>(call)?)))],
+        Content::Count => {
+            let WerktageBetween { werktage, days_tested } = answer.read(call)?;
+            vec![("count", Json::number(werktage)), ("days_tested", Json::number(days_tested))]
+        }
         Content::Instant => {
             joined([vec![("instant", instant(answer.read(call)?)?)], label(labels::of(call))])
         }
@@ -84,7 +87,7 @@ fn joined<const N: usize>(members: [Members; N]) -> Members {
 }
 
 fn kind(answer: &Answer, name: &str) -> Members {
-    vec![("kind", Json::Number(i64::from(answer.kind()))), ("kind_name", Json::text(name))]
+    vec![("kind", Json::number(answer.kind())), ("kind_name", Json::text(name))]
 }
 
 fn label(label: Option<&str>) -> Members {
@@ -98,7 +101,7 @@ fn verdict(
     verdict: Option<VorlaufVerdict>,
 ) -> Result<Members, Error> {
     let fields = |name, count: u32, date| {
-        let filled = vec![("count", Json::Number(i64::from(count))), ("date", date)];
+        let filled = vec![("count", Json::number(count)), ("date", date)];
         joined([kind(answer, name), filled])
     };
     Ok(match verdict {
@@ -163,8 +166,8 @@ fn instant(instant: Instant) -> Result<Json, Error> {
     let BerlinTime { date, clock, summer, .. } = BerlinTime::of(instant)?;
     let berlin = stamp(date, clock, if summer { "+02:00" } else { "+01:00" });
     Ok(Json::Object(vec![
-        ("seconds", Json::Number(instant.seconds)),
-        ("nanos", Json::Number(i64::from(instant.nanos))),
+        ("seconds", Json::number(instant.seconds)),
+        ("nanos", Json::number(instant.nanos)),
         ("utc", utc.map_or(Json::Null, Json::Text)),
         ("berlin", Json::Text(berlin)),
     ]))

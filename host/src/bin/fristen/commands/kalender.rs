@@ -55,7 +55,9 @@ pub const COMMANDS: [Command; 8] = [
         summary: "wie viele Werktage nach dem ersten Tag bis zum zweiten einschließlich liegen",
         meaning:
             "Die Werktage nach dem ersten Tag bis zum zweiten, diesen eingeschlossen. 0, wenn\n\
-                  der zweite nicht später ist.",
+                  der zweite nicht später ist.\n\
+                  „days_tested“ in --json: die geprüften Tage, für beide vom 1. Januar bis zum Tag selbst;\n\
+                  in --bytes das 25. bis 28. Byte, das niederwertigste zuerst.",
         example: "werktage-between 2026-04-02 2026-04-07",
         output:
             "Nach Donnerstag, dem 2. April 2026, bis einschließlich Dienstag, den 7. April 2026, \

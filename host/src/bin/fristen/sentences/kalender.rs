@@ -1,6 +1,6 @@
 use crate::deutsch::{dem, den, der, monat, monate, werktage};
 use crate::inquiry::Inquiry;
-use mako_fristen_host::{Date, DayReason, Error, Feiertag};
+use mako_fristen_host::{Date, DayReason, Error, Feiertag, WerktageBetween};
 
 pub fn day(inquiry: &Inquiry, reason: DayReason) -> Result<String, Error> {
     let day = der(inquiry.question.date);
@@ -35,8 +35,8 @@ pub fn step(inquiry: &Inquiry, to: Date, side: &str) -> String {
     }
 }
 
-pub fn between(inquiry: &Inquiry, n: u32) -> String {
-    let (from, to) = (inquiry.question.date, inquiry.question.date2);
+pub fn between(inquiry: &Inquiry, between: WerktageBetween) -> String {
+    let (from, to, n) = (inquiry.question.date, inquiry.question.date2, between.werktage);
     let verb = if n == 1 { "liegt" } else { "liegen" };
     let later = if to > from { "" } else { " Der zweite Tag ist nicht später als der erste." };
     let (from, to, n) = (dem(from), den(to), werktage(n));
