@@ -112,9 +112,15 @@ weeks f q =
 most : (f n : ℕ) → n ≤ 366 → weekdays (f + n) ≤ weekdays f + 262
 most f n h =
     let p = onWeekday f in
-    omega
-    (arith, count-weekdays f n, count-mono p n 366 h, count-step p 365, count-step p 364, count-weekdays f 364,
-    weeks f 52)
+    omega (
+      arith,
+      count-weekdays f n,
+      count-mono p n 366 h,
+      count-step p 365,
+      count-step p 364,
+      count-weekdays f 364,
+      weeks f 52,
+    )
 
 -- 1 January is a holiday, so it adds nothing
 weeks-in : (y : Year) (q : ℕ) → inYear y (7 * q + 1) ≤ 5 * q

@@ -1,20 +1,21 @@
 -- What the proofs of this crate's functions cite, with premises in the form in which they stand there.
 --   entry-rules   `werktage_before_year`: entry k of the table, and that it is no large number
---   year-rules    `year_of_werktag`: b is the entry of a year
+--   year-rules    `year_of_werktag`: xs is the table, k a year
 -- Source: document 02, F-3.
 -- Assumes nothing.
-use Prim.Native.Nat.{ℕ, suc, _+_, _-_, _*_, _/_, _≤_, _<_}
-use mathlib.Core.Path.{_≡_, ap}
+use Prim.Native.Nat.{ℕ, zero, suc, _+_, _-_, _*_, _/_, _≤_, _<_}
+use mathlib.Core.List.{List}
+use mathlib.Core.Path.{_≡_, refl}
 use native.Mathlib.Omega.{arith}
 use native.Mathlib.Decide.{decLe}
 use lib.ListN.{getD}
 use mir.Syntax.{w32}
 use mir.Val.{Fits}
 use Rattle.zaehlung.specs.Walk.{last, count}
-use Rattle.zaehlung.proofs.Count.{count-none, count-le}
+use Rattle.zaehlung.proofs.Count.{count-le}
 use Rattle.zaehlung.proofs.BlockLaws.{start-mono}
 use Rattle.datum.specs.Calendar.{yearLen, yearStart}
-use Rattle.datum.proofs.Years.{start-none, start-all}
+use Rattle.datum.proofs.Years.{start-all}
 use Rattle.werktag.specs.declared.HolidayCalendar.{HolidayCalendar}
 use Rattle.werktag.specs.declared.HolidayCalendar.the-variants.{BdewMaKo}
 use Rattle.werktag.specs.Werktag.{isWerktag}
@@ -39,32 +40,31 @@ module _ (cal : HolidayCalendar) (n : ℕ) (g : n ≤ count (isWerktag cal) (suc
   guess-small = omega (arith, few)
 
   -- before 1996 there are none, and before 2900 there are all
-  pub later : (k b : ℕ) → b ≡ count (isWerktag cal) (yearStart k) → 1 ≤ n → n ≤ b → 1 ≤ k
-  later k b e h l =
-      elim (decLe 1 k) [
-        | yes y ↦ y
-        | no y ↦
-            let z : k ≡ 0 = omega arith in
-            let c = ap (λ (j : ℕ). count (isWerktag cal) (yearStart j)) z in
-            let d = ap (count (isWerktag cal)) start-none in
-            absurd (omega (arith, count-none (isWerktag cal)))
-      ]
+  module _ (xs : List ℕ) (t : xs ≡ entries) (k : ℕ) (h : k ≤ 903) where
+    pub later : 1 ≤ n → n ≤ getD xs k 0 → 1 ≤ k
+    later m l = go k (rw t at l)
+      where
+        go : (k : ℕ) → n ≤ getD entries k 0 → 1 ≤ k
+        go zero i = absurd (omega arith)
+        go (suc j) i = omega arith
 
-  pub later-less : (k b : ℕ) → b ≡ count (isWerktag cal) (yearStart k) → 1 ≤ n → n ≤ b → k - 1 < k
-  later-less k b e h l = omega (arith, later k b e h l)
+    pub later-less : 1 ≤ n → n ≤ getD xs k 0 → k - 1 < k
+    later-less m l = omega (arith, later m l)
 
-  pub earlier : (k b : ℕ) → k ≤ 903 → b ≡ count (isWerktag cal) (yearStart (k + 1)) → b < n → k + 1 ≤ 903
-  earlier k b h e l =
-      elim (decLe (k + 1) 903) [
-        | yes y ↦ y
-        | no y ↦
-            let z : k + 1 ≡ 904 = omega arith in
-            let c = ap (λ (j : ℕ). count (isWerktag cal) (yearStart j)) z in
-            let d = ap (count (isWerktag cal)) start-all in
-            absurd (omega arith)
-      ]
+    pub earlier : getD xs (k + 1) 0 < n → k + 1 ≤ 903
+    earlier l =
+        elim (decLe (k + 1) 903) [
+          | yes y ↦ y
+          | no y ↦
+              let z : k + 1 ≡ 904 = omega arith in
+              let c : getD xs (k + 1) 0 ≡ 222031 = rw (t, z) in
+              absurd (omega (arith, few))
+        ]
 
-  pub before : (k b : ℕ) → b ≡ count (isWerktag cal) (yearStart k) → b < n → count (isWerktag cal) (yearStart k) < n
-  before k b e l = omega arith
+    pub is-entry : getD xs k 0 ≡ count (isWerktag cal) (yearStart k)
+    is-entry = rw t (entry-is cal k (omega arith))
 
-pub ruleset year-rules = (guess-fits, guess-small, later, later-less, earlier, before)
+    pub up-to : n ≤ getD xs (k + 1) 0 → n ≤ count (isWerktag cal) (yearStart (k + 1))
+    up-to l = rw (entry-is cal (k + 1) (omega arith)) at (rw t at l)
+
+pub ruleset year-rules = (guess-fits, guess-small, later, later-less, earlier, is-entry, up-to)

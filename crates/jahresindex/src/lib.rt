@@ -945,7 +945,7 @@ pub fn werktage_before_year(k: u32, cal: HolidayCalendar) -> u32
 }
 
 /// The year in which the `n`-th Werktag of the calendar lies, with its entry. The guess is never proved to be good: the
-/// two loops set it right.
+/// two loops set it right. A read of the table builds it anew, so here it is built once.
 ///
 /// The 7,367th is the last of 2025, the 7,368th the first of 2026.
 pub fn year_of_werktag(n: u32, cal: HolidayCalendar) -> Entry
@@ -953,15 +953,20 @@ pub fn year_of_werktag(n: u32, cal: HolidayCalendar) -> Entry
     ensures { λ r. ⌜ (r .year ≤ 903) × (r .before ≡ count (isWerktag cal) (yearStart (r .year)))
         × (r .before < n) × (n ≤ count (isWerktag cal) (yearStart (r .year + 1))) ⌝ }
 {
-    let mut k = n * YEARS / (WERKTAGE + 1);
-    while n <= werktage_before_year(k, cal) {
-        k -= 1;
-    }
-    while werktage_before_year(k + 1, cal) < n {
-        k += 1;
-    }
-    Entry {
-        year: k,
-        before: werktage_before_year(k, cal),
+    match cal {
+        HolidayCalendar::BdewMaKo => {
+            let table = WERKTAGE_BEFORE;
+            let mut k = (n * YEARS / (WERKTAGE + 1)) as usize;
+            while n <= table[k] {
+                k -= 1;
+            }
+            while table[k + 1] < n {
+                k += 1;
+            }
+            Entry {
+                year: k as u32,
+                before: table[k],
+            }
+        }
     }
 }

@@ -4,6 +4,8 @@
 --                 the year, m the Werktage of its first days
 --   nth-rules     `nth_werktag`: b is the entry of the year k, m the Werktage of its first days that are skipped
 --   step-rules    the steps: b is a count of Werktage, s what `nth_werktag` gave
+--   kind-rules    `step`: r is what the function of its kind gave
+--   same-rules    the steps themselves: s is what `step` gave
 --   between-rules the count: x and y are the Werktage up to its two days
 -- Source: the laws of zaehlung, by which a step is said by counts.
 -- Assumes nothing.
@@ -26,6 +28,9 @@ use Rattle.datum.proofs.Years.{start-none, start-all, yearLen-bounds}
 use Rattle.datum.proofs.Dates.{year-below, yearLen-at}
 use Rattle.werktag.specs.declared.HolidayCalendar.{HolidayCalendar}
 use Rattle.werktag.specs.Werktag.{isWerktag}
+use Rattle.schritte.specs.declared.index.StepKind.{StepKind}
+use Rattle.schritte.specs.declared.index.StepKind.the-variants.{Add, Sub, DayAfter}
+use Rattle.schritte.specs.StepOf.{stepOf}
 use Rattle.jahre.proofs.Counts.{weeks-few, year-few}
 use Rattle.jahresindex.proofs.Table.{all-is}
 
@@ -139,27 +144,27 @@ module _ (cal : HolidayCalendar) where
             let c = ap (count w) o in
             i
             ∙ add-add w 0 n (omega arith) (omega arith) (s + days) (n - b - m) guess-in (omega (arith, fewer))
-              (omega (arith, first-closed, count-among w (yearStart k) (days + 1), fewer))
+            (omega (arith, first-closed, count-among w (yearStart k) (days + 1), fewer))
 
   module _ (d n b : ℕ) (h : d ≤ last) where
     pub add-outside : b ≡ count w (suc d) → 222031 - b < n → Outside ≡ add w d n
     add-outside e l = sym (add-out-iff w d n h .1 (omega (arith, all-is cal)))
 
-    pub add-is : (f : ℕ) (s : Step) → b ≡ count w (suc d) → f < n → s ≡ add w 0 (b + n) → s ≡ add w d n
-    add-is f s e l i =
+    pub add-is : (s : Step) → b ≡ count w (suc d) → 1 ≤ n → s ≡ add w 0 (b + n) → s ≡ add w d n
+    add-is s e l i =
         i ∙ sym (add-add w 0 (b + n) (omega arith) (omega arith) d n h (omega arith) (omega (arith, first-closed)))
 
     pub sub-outside : b ≡ count w d → b < n → Outside ≡ sub w d n
     sub-outside e l = sym (sub-out-iff w d n .1 (omega arith))
 
-    pub sub-is : (f : ℕ) (s : Step) → b ≡ count w d → f < n → n ≤ b → s ≡ add w 0 (b - n + 1) → s ≡ sub w d n
-    sub-is f s e l m i =
+    pub sub-is : (s : Step) → b ≡ count w d → 1 ≤ n → n ≤ b → s ≡ add w 0 (b - n + 1) → s ≡ sub w d n
+    sub-is s e l m i =
         i ∙ sym (sub-add w 0 (b - n + 1) (omega arith) (omega arith) d n h (omega arith) (omega (arith, first-closed)))
 
     pub W-outside : b ≡ count w d → 222031 - b < n → Outside ≡ W w d n
     W-outside e l = sym (W-out-iff w d n h .1 (omega (arith, all-is cal, count-mono w last (suc last) (omega arith))))
 
-    module _ (f : ℕ) (s : Step) (e : b ≡ count w d) (l : f < n) (i : s ≡ add w 0 (b + n)) where
+    module _ (s : Step) (e : b ≡ count w d) (l : 1 ≤ n) (i : s ≡ add w 0 (b + n)) where
       W-by : onStep Outside s dayAfter ≡ W w d n
       W-by =
           ap (λ (x : Step). onStep Outside x dayAfter) i
@@ -181,8 +186,33 @@ module _ (cal : HolidayCalendar) where
     pub no-less : x ≤ y
     no-less = omega (arith, between-count w a b (omega arith))
 
+module _ (k : StepKind) (w : ℕ → Bool) (d n : ℕ) (r : Step) where
+  pub kind-add : k ≡ Add → r ≡ add w d n → r ≡ stepOf k w d n
+  kind-add e p = rw e p
+
+  pub kind-sub : k ≡ Sub → r ≡ sub w d n → r ≡ stepOf k w d n
+  kind-sub e p = rw e p
+
+  pub kind-after : k ≡ DayAfter → r ≡ W w d n → r ≡ stepOf k w d n
+  kind-after e p = rw e p
+
+pub ruleset kind-rules = (kind-add, kind-sub, kind-after)
+
+-- what a step gave, taken apart and put together again
+module _ (x s : Step) (p : s ≡ x) where
+  pub same-day : (d : ℕ) → s ≡ Day d → Day d ≡ x
+  same-day d e = sym e ∙ p
+
+  pub same-outside : s ≡ Outside → Outside ≡ x
+  same-outside e = sym e ∙ p
+
+pub ruleset same-rules = (same-day, same-outside)
+
 pub ruleset day-rules =
     (in-year, next-in-year, next-fits, before-day, before-most, before-fits, with-day, with-most, with-fits)
+
 pub ruleset nth-rules = (all-of, rest-few, days-few, days-in, fewer, fewer-by, guess-in, nth-is)
+
 pub ruleset step-rules = (add-outside, add-is, sub-outside, sub-is, W-outside, W-gone, W-is)
+
 pub ruleset between-rules = (not-later, difference, no-less)

@@ -1,3 +1,5 @@
 pub mod Rules
 pub mod IndexRules
 pub mod TestedRules
+pub mod DaysTested
+pub mod OutsideValues

@@ -4,22 +4,16 @@
 --   through-rules   `count_through`: k and r are the year of a day and the day in it, b the entry of the year, c and t
 --                   what `test_days` returned
 --   count-rules     `count_werktage`
---   tested-most     a count tests at most 732 days
---   tested-none     and none exactly if the second day is not later
--- Source: document 02, F-3: 'That is never over 732. Where the second date isn't later, it is 0.'
+-- Source: the definition of Tested.
 -- Assumes nothing.
 use Prim.Native.Nat.{ℕ, suc, _+_, _-_, _≤_, _<_}
 use mathlib.Core.Bool.{Bool, true, false}
-use mathlib.Core.Logic.{_↔_}
 use mathlib.Core.Path.{_≡_, refl, sym, ap, _∙_}
 use native.Mathlib.Omega.{arith}
-use native.Mathlib.Numerals.{add-one}
-use native.Mathlib.Nat.{add-suc}
-use native.Mathlib.Decide.{decLt}
 use borrow.Author.Tests.{lt-ltb, le-ltb}
 use mir.Syntax.{w32}
 use mir.Val.{Fits}
-use Rattle.zaehlung.specs.Walk.{last, bit, among, count}
+use Rattle.zaehlung.specs.Walk.{last, among, count}
 use Rattle.zaehlung.proofs.Count.{count-open, count-shut, count-among}
 use Rattle.datum.specs.Calendar.{yearLen, yearStart, yearOf, dayOfYear}
 use Rattle.datum.proofs.Years.{yearLen-bounds}
@@ -82,12 +76,10 @@ pub ruleset through-rules = (year-by, first-by, tested-is, through-is, through-f
 pub day-most : (day : ℕ) → day ≤ last → dayOfYear day ≤ 366
 day-most day h = omega (arith, year-at day h, yearLen-bounds (yearOf day .0))
 
-pub both-fit :
-    (a b s t : ℕ) → a ≤ last → b ≤ last → s ≡ dayOfYear a → t ≡ dayOfYear b → Fits w32 (s + t)
+pub both-fit : (a b s t : ℕ) → a ≤ last → b ≤ last → s ≡ dayOfYear a → t ≡ dayOfYear b → Fits w32 (s + t)
 both-fit a b s t h g p q = record { fits = omega (arith, day-most a h, day-most b g) }
 
-pub tested-both :
-    (a b s t : ℕ) → a < b → s ≡ dayOfYear a → t ≡ dayOfYear b → s + t ≡ daysTested a b
+pub tested-both : (a b s t : ℕ) → a < b → s ≡ dayOfYear a → t ≡ dayOfYear b → s + t ≡ daysTested a b
 unfolding daysTested
 tested-both a b s t h p q = rw (lt-ltb a b h) (omega arith)
 
@@ -96,20 +88,3 @@ unfolding daysTested
 tested-not a b h = rw (le-ltb a b h)
 
 pub ruleset count-rules = (both-fit, tested-both, tested-not)
-
-pub tested-most : (a b : ℕ) → a ≤ last → b ≤ last → daysTested a b ≤ 732
-tested-most a b h g =
-    elim (decLt a b) [
-      | yes l ↦ omega (arith, tested-both a b (dayOfYear a) (dayOfYear b) l refl refl, day-most a h, day-most b g)
-      | no l ↦ omega (arith, tested-not a b (omega arith))
-    ]
-
-pub tested-none : (a b : ℕ) → (daysTested a b ≡ 0) ↔ (b ≤ a)
-tested-none a b = (
-  λ e.
-      elim (decLt a b) [
-        | yes l ↦ absurd (omega (arith, tested-both a b (dayOfYear a) (dayOfYear b) l refl refl))
-        | no l ↦ omega arith
-      ],
-  λ l. sym (tested-not a b l),
-)

@@ -1,11 +1,20 @@
 // Counts and steps through the year index: the Werktage before a year, those of its first days, and back from a number
 // of Werktage to the day.
 ghost use mathlib.Core.Path.{_≡_};
-ghost use Prim.Native.Nat.{suc, _≤_};
-ghost use Rattle.zaehlung.specs.Walk.{last, count, add};
+ghost use Prim.Native.Nat.{suc, _≤_, _<_};
+ghost use Rattle.zaehlung.specs.Walk.{last, count, add, sub, W, between};
 ghost use Rattle.werktag.specs.Werktag.{isWerktag};
+ghost use Rattle.schritte.specs.StepOf.{stepOf};
+use jahresindex::WERKTAGE;
 use werktag::HolidayCalendar;
 use zaehlung::Step;
+
+/// The three steps: the n-th Werktag after a day, the n-th before it, and W(n).
+pub enum StepKind {
+    Add,
+    Sub,
+    DayAfter,
+}
 
 /// The days of a week, and those of them that may be Werktage.
 const WEEK: u32 = 7;
@@ -15,7 +24,7 @@ const WEEKDAYS: u32 = 5;
 /// The Werktage of the calendar before a day.
 ///
 /// 7,431 before 7 April 2026.
-pub fn werktage_before(day: u32, cal: HolidayCalendar) -> u32
+fn werktage_before(day: u32, cal: HolidayCalendar) -> u32
     requires { ⌜ day ≤ last ⌝ }
     ensures { λ r. ⌜ (r ≡ count (isWerktag cal) day) × (r ≤ 222031) ⌝ }
 {
@@ -26,7 +35,7 @@ pub fn werktage_before(day: u32, cal: HolidayCalendar) -> u32
 /// The Werktage of the calendar up to and with a day.
 ///
 /// 7,432 up to 7 April 2026, a Werktag.
-pub fn werktage_through(day: u32, cal: HolidayCalendar) -> u32
+fn werktage_through(day: u32, cal: HolidayCalendar) -> u32
     requires { ⌜ day ≤ last ⌝ }
     ensures { λ r. ⌜ (r ≡ count (isWerktag cal) (suc day)) × (r ≤ 222031) ⌝ }
 {
@@ -41,7 +50,7 @@ pub fn werktage_through(day: u32, cal: HolidayCalendar) -> u32
 /// day that is not past it, and only the days from there on are walked: those that holidays put off.
 ///
 /// The first is 2 January 1996, the 7,432nd 7 April 2026.
-pub fn nth_werktag(n: u32, cal: HolidayCalendar) -> Step
+fn nth_werktag(n: u32, cal: HolidayCalendar) -> Step
     requires { ⌜ (1 ≤ n) × (n ≤ 222031) ⌝ }
     ensures { λ r. ⌜ r ≡ add (isWerktag cal) 0 n ⌝ }
 {
@@ -50,4 +59,64 @@ pub fn nth_werktag(n: u32, cal: HolidayCalendar) -> Step
     let days = (rest - 1) / WEEKDAYS * WEEK;
     let passed = jahre::werktage_in_year(entry.year, days + 1, cal);
     super::walk::add_werktage(datum::year_start(entry.year) + days, rest - passed, cal)
+}
+
+/// The `n`-th Werktag after `from`: as many Werktage lie up to it as up to `from`, and `n`.
+fn add_werktage(from: u32, n: u32, cal: HolidayCalendar) -> Step
+    requires { ⌜ (from ≤ last) × (1 ≤ n) ⌝ }
+    ensures { λ r. ⌜ r ≡ add (isWerktag cal) from n ⌝ }
+{
+    let through = werktage_through(from, cal);
+    if WERKTAGE - through < n {
+        return Step::Outside;
+    }
+    nth_werktag(through + n, cal)
+}
+
+/// The `n`-th Werktag before `from`: as many Werktage lie before it as before `from`, less `n`.
+fn sub_werktage(from: u32, n: u32, cal: HolidayCalendar) -> Step
+    requires { ⌜ (from ≤ last) × (1 ≤ n) ⌝ }
+    ensures { λ r. ⌜ r ≡ sub (isWerktag cal) from n ⌝ }
+{
+    let before = werktage_before(from, cal);
+    if before < n {
+        return Step::Outside;
+    }
+    nth_werktag(before - n + 1, cal)
+}
+
+/// W(n) of document 01: the day after the Werktag up to which as many lie as before `t`, and `n`.
+fn day_after_werktage(t: u32, n: u32, cal: HolidayCalendar) -> Step
+    requires { ⌜ (t ≤ last) × (1 ≤ n) ⌝ }
+    ensures { λ r. ⌜ r ≡ W (isWerktag cal) t n ⌝ }
+{
+    let before = werktage_before(t, cal);
+    if WERKTAGE - before < n {
+        return Step::Outside;
+    }
+    let Step::Day(werktag) = nth_werktag(before + n, cal) else {
+        return Step::Outside;
+    };
+    super::day_after(werktag)
+}
+
+/// A step through the index, by its kind. One function for the three, so that it stays a call: the loop that walks a few
+/// Werktage then stands where a step is asked for, and is as fast as if there were no index.
+pub fn step(kind: StepKind, day: u32, n: u32, cal: HolidayCalendar) -> Step
+    requires { ⌜ (day ≤ last) × (1 ≤ n) ⌝ }
+    ensures { λ r. ⌜ r ≡ stepOf kind (isWerktag cal) day n ⌝ }
+{
+    match kind {
+        StepKind::Add => add_werktage(day, n, cal),
+        StepKind::Sub => sub_werktage(day, n, cal),
+        StepKind::DayAfter => day_after_werktage(day, n, cal),
+    }
+}
+
+/// The Werktage after `from` up to and including `to`: those up to `to`, less those up to `from`.
+pub fn werktage_between(from: u32, to: u32, cal: HolidayCalendar) -> u32
+    requires { ⌜ (from < to) × (to ≤ last) ⌝ }
+    ensures { λ r. ⌜ r ≡ between (isWerktag cal) from to ⌝ }
+{
+    werktage_through(to, cal) - werktage_through(from, cal)
 }

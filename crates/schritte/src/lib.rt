@@ -10,7 +10,7 @@ pub mod index;
 pub mod tested;
 pub mod walk;
 
-use jahresindex::WERKTAGE;
+use index::StepKind;
 use werktag::HolidayCalendar;
 use zaehlung::FIRST;
 use zaehlung::LAST;
@@ -40,10 +40,11 @@ pub fn day_before(day: u32) -> Step
     Step::Day(day - 1)
 }
 
-/// Up to so many Werktage a step is walked, and up to so many days a count: there a walk is faster than the index.
-const FEW_WERKTAGE: u32 = 20;
+/// Up to so many Werktage a step is walked, and up to so many days a count. From there on the index is faster, whatever
+/// the date (docs/BENCHMARKS.md).
+const FEW_WERKTAGE: u32 = 30;
 
-const FEW_DAYS: u32 = 20;
+const FEW_DAYS: u32 = 15;
 
 /// The `n`-th Werktag after `from`, or `Outside` where that would be past the calendar's last day.
 ///
@@ -60,11 +61,10 @@ pub fn add_werktage(from: u32, n: u32, cal: HolidayCalendar) -> Step
     if n <= FEW_WERKTAGE {
         return walk::add_werktage(from, n, cal);
     }
-    let through = index::werktage_through(from, cal);
-    if WERKTAGE - through < n {
+    let Step::Day(day) = index::step(StepKind::Add, from, n, cal) else {
         return Step::Outside;
-    }
-    index::nth_werktag(through + n, cal)
+    };
+    Step::Day(day)
 }
 
 /// The `n`-th Werktag before `from`, or `Outside` where that would be before the calendar's first day: the mirror of
@@ -82,11 +82,10 @@ pub fn sub_werktage(from: u32, n: u32, cal: HolidayCalendar) -> Step
     if n <= FEW_WERKTAGE {
         return walk::sub_werktage(from, n, cal);
     }
-    let before = index::werktage_before(from, cal);
-    if before < n {
+    let Step::Day(day) = index::step(StepKind::Sub, from, n, cal) else {
         return Step::Outside;
-    }
-    index::nth_werktag(before - n + 1, cal)
+    };
+    Step::Day(day)
 }
 
 /// The Werktage after `from` up to and including `to`: the inverse of `add_werktage`, since from `from` to its `n`-th
@@ -105,7 +104,7 @@ pub fn werktage_between(from: u32, to: u32, cal: HolidayCalendar) -> u32
     if to - from <= FEW_DAYS {
         return walk::werktage_between(from, to, cal);
     }
-    index::werktage_through(to, cal) - index::werktage_through(from, cal)
+    index::werktage_between(from, to, cal)
 }
 
 /// The first Werktag on or after `from`, or `Outside` where no day up to the calendar's last is one.
@@ -141,12 +140,8 @@ pub fn day_after_werktage(t: u32, n: u32, cal: HolidayCalendar) -> Step
     if n <= FEW_WERKTAGE {
         return walk::day_after_werktage(t, n, cal);
     }
-    let before = index::werktage_before(t, cal);
-    if WERKTAGE - before < n {
-        return Step::Outside;
-    }
-    let Step::Day(werktag) = index::nth_werktag(before + n, cal) else {
+    let Step::Day(day) = index::step(StepKind::DayAfter, t, n, cal) else {
         return Step::Outside;
     };
-    day_after(werktag)
+    Step::Day(day)
 }

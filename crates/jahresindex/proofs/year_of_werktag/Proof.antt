@@ -3,24 +3,24 @@
 -- Assumes nothing.
 use borrow.Author.Needs.{needs}
 use Prim.Native.Nat.{_-_, _≤_, _<_}
-use Rattle.zaehlung.specs.Walk.{count}
-use Rattle.datum.specs.Calendar.{yearStart}
-use Rattle.werktag.specs.Werktag.{isWerktag}
+use mathlib.Core.Path.{_≡_}
+use lib.ListN.{getD}
+use Rattle.jahresindex.proofs.Entries.{entries}
 use Rattle.jahresindex.proofs.Rules.{year-rules}
 use Rattle.jahresindex.proofs.year_of_werktag.Statement.{statement}
 use Rattle.jahresindex.proofs.year_of_werktag.Tie as tie
 
 abbrev Inv-loop : tie.InvT-loop
-Inv-loop n cal k₀ k = k ≤ 903
+Inv-loop n table k₀ k = (table ≡ entries) × (k ≤ 903)
 
 abbrev μ-loop : tie.MeasureT-loop
-μ-loop n cal k₀ k = k
+μ-loop n table k₀ k = k
 
 abbrev Inv-loop2 : tie.InvT-loop2
-Inv-loop2 n cal k₀ k = (k ≤ 903) × (count (isWerktag cal) (yearStart k) < n)
+Inv-loop2 n table k₀ k = (table ≡ entries) × (k ≤ 903) × (getD table k 0 < n)
 
 abbrev μ-loop2 : tie.MeasureT-loop2
-μ-loop2 n cal k₀ k = 904 - k
+μ-loop2 n table k₀ k = 904 - k
 
 mul-k : tie.Need-mul-k Inv-loop μ-loop Inv-loop2 μ-loop2
 mul-k c = search (needs, year-rules)
@@ -31,12 +31,17 @@ add-k c = search (needs, year-rules)
 div-k : tie.Need-div-k Inv-loop μ-loop Inv-loop2 μ-loop2
 div-k c = search (needs, year-rules)
 
+cast-k : tie.Need-cast-k Inv-loop μ-loop Inv-loop2 μ-loop2
+cast-k c = search (needs, year-rules)
+
 loop-holds : tie.Need-loop-holds Inv-loop μ-loop Inv-loop2 μ-loop2
 loop-holds c = search (needs, year-rules)
 
-werktage-before-year-requires :
-    tie.Need-werktage-before-year-requires Inv-loop μ-loop Inv-loop2 μ-loop2
-werktage-before-year-requires c κs = search (needs, year-rules)
+mul-loop : tie.Need-mul-loop Inv-loop μ-loop Inv-loop2 μ-loop2
+mul-loop c = search (needs, year-rules)
+
+array-read-loop : tie.Need-array-read-loop Inv-loop μ-loop Inv-loop2 μ-loop2
+array-read-loop c = search (needs, year-rules)
 
 sub-k : tie.Need-sub-k Inv-loop μ-loop Inv-loop2 μ-loop2
 sub-k c = search (needs, year-rules)
@@ -50,12 +55,14 @@ loop-again c = search (needs, year-rules)
 loop2-holds : tie.Need-loop2-holds Inv-loop μ-loop Inv-loop2 μ-loop2
 loop2-holds c = search (needs, year-rules)
 
-add-werktage-before-year : tie.Need-add-werktage-before-year Inv-loop μ-loop Inv-loop2 μ-loop2
-add-werktage-before-year c = search (needs, year-rules)
+add-loop2 : tie.Need-add-loop2 Inv-loop μ-loop Inv-loop2 μ-loop2
+add-loop2 c = search (needs, year-rules)
 
-werktage-before-year-requires-2 :
-    tie.Need-werktage-before-year-requires-2 Inv-loop μ-loop Inv-loop2 μ-loop2
-werktage-before-year-requires-2 c κs = search (needs, year-rules)
+mul-loop2 : tie.Need-mul-loop2 Inv-loop μ-loop Inv-loop2 μ-loop2
+mul-loop2 c = search (needs, year-rules)
+
+array-read-loop2 : tie.Need-array-read-loop2 Inv-loop μ-loop Inv-loop2 μ-loop2
+array-read-loop2 c = search (needs, year-rules)
 
 add-k-2 : tie.Need-add-k-2 Inv-loop μ-loop Inv-loop2 μ-loop2
 add-k-2 c = search (needs, year-rules)
@@ -66,9 +73,14 @@ loop2-less c = search (needs, year-rules)
 loop2-again : tie.Need-loop2-again Inv-loop μ-loop Inv-loop2 μ-loop2
 loop2-again c = search (needs, year-rules)
 
-werktage-before-year-requires-3 :
-    tie.Need-werktage-before-year-requires-3 Inv-loop μ-loop Inv-loop2 μ-loop2
-werktage-before-year-requires-3 c κs = search (needs, year-rules)
+cast-t7 : tie.Need-cast-t7 Inv-loop μ-loop Inv-loop2 μ-loop2
+cast-t7 c = search (needs, year-rules)
+
+mul-t21 : tie.Need-mul-t21 Inv-loop μ-loop Inv-loop2 μ-loop2
+mul-t21 c = search (needs, year-rules)
+
+array-read-t8 : tie.Need-array-read-t8 Inv-loop μ-loop Inv-loop2 μ-loop2
+array-read-t8 c = search (needs, year-rules)
 
 returns : tie.Need-returns Inv-loop μ-loop Inv-loop2 μ-loop2
 returns c = search (needs, year-rules)
@@ -84,16 +96,21 @@ year-of-werktag-spec =
     mul-k
     add-k
     div-k
+    cast-k
     loop-holds
-    werktage-before-year-requires
+    mul-loop
+    array-read-loop
     sub-k
     loop-less
     loop-again
     loop2-holds
-    add-werktage-before-year
-    werktage-before-year-requires-2
+    add-loop2
+    mul-loop2
+    array-read-loop2
     add-k-2
     loop2-less
     loop2-again
-    werktage-before-year-requires-3
+    cast-t7
+    mul-t21
+    array-read-t8
     returns)

@@ -1,8 +1,8 @@
--- `schritte::add_werktage` meets its contract: a step through the index ends where the walk does, by the counts of
--- both.
+-- `schritte::add_werktage` meets its contract: by the walk, or by the index, whose step is taken apart and put
+-- together again.
 -- Assumes nothing.
 use borrow.Author.Needs.{needs}
-use Rattle.schritte.proofs.IndexRules.{step-rules}
+use Rattle.schritte.proofs.IndexRules.{same-rules}
 use Rattle.schritte.proofs.add_werktage.Statement.{statement}
 use Rattle.schritte.proofs.add_werktage.Tie as tie
 
@@ -12,23 +12,20 @@ add-werktage-requires c κs = search needs
 returns : tie.Need-returns
 returns c = search needs
 
-werktage-through-requires : tie.Need-werktage-through-requires
-werktage-through-requires c κs = search needs
+step-requires : tie.Need-step-requires
+step-requires c κs = search needs
 
-sub-if2 : tie.Need-sub-if2
-sub-if2 c = search needs
+enum-known-day : tie.Need-enum-known-day
+enum-known-day c = search needs
+
+enum-told : tie.Need-enum-told
+enum-told c = search needs
 
 returns-2 : tie.Need-returns-2
-returns-2 c = search (needs, step-rules)
-
-add-nth-werktag : tie.Need-add-nth-werktag
-add-nth-werktag c = search needs
-
-nth-werktag-requires : tie.Need-nth-werktag-requires
-nth-werktag-requires c κs = search needs
+returns-2 c = search (needs, same-rules)
 
 returns-3 : tie.Need-returns-3
-returns-3 c = search (needs, step-rules)
+returns-3 c = search (needs, same-rules)
 
 pub add-werktage-spec : {M : Type 1} → statement M
 add-werktage-spec =
@@ -36,9 +33,8 @@ add-werktage-spec =
     (tie.spec
     add-werktage-requires
     returns
-    werktage-through-requires
-    sub-if2
+    step-requires
+    enum-known-day
+    enum-told
     returns-2
-    add-nth-werktag
-    nth-werktag-requires
     returns-3)

@@ -1,8 +1,8 @@
--- `schritte::day_after_werktage` meets its contract: W through the index is the day after the Werktag that the walk
--- reaches, by the counts of both.
+-- `schritte::day_after_werktage` meets its contract: by the walk, or by the index, whose step is taken apart and put
+-- together again.
 -- Assumes nothing.
 use borrow.Author.Needs.{needs}
-use Rattle.schritte.proofs.IndexRules.{step-rules}
+use Rattle.schritte.proofs.IndexRules.{same-rules}
 use Rattle.schritte.proofs.day_after_werktage.Statement.{statement}
 use Rattle.schritte.proofs.day_after_werktage.Tie as tie
 
@@ -12,35 +12,20 @@ day-after-werktage-requires c κs = search needs
 returns : tie.Need-returns
 returns c = search needs
 
-werktage-before-requires : tie.Need-werktage-before-requires
-werktage-before-requires c κs = search needs
+step-requires : tie.Need-step-requires
+step-requires c κs = search needs
 
-sub-if2 : tie.Need-sub-if2
-sub-if2 c = search needs
-
-returns-2 : tie.Need-returns-2
-returns-2 c = search (needs, step-rules)
-
-add-nth-werktag : tie.Need-add-nth-werktag
-add-nth-werktag c = search needs
-
-nth-werktag-requires : tie.Need-nth-werktag-requires
-nth-werktag-requires c κs = search needs
-
-enum-known-werktag : tie.Need-enum-known-werktag
-enum-known-werktag c = search needs
+enum-known-day : tie.Need-enum-known-day
+enum-known-day c = search needs
 
 enum-told : tie.Need-enum-told
 enum-told c = search needs
 
+returns-2 : tie.Need-returns-2
+returns-2 c = search (needs, same-rules)
+
 returns-3 : tie.Need-returns-3
-returns-3 c = search (needs, step-rules)
-
-day-after-requires : tie.Need-day-after-requires
-day-after-requires c κs = search needs
-
-returns-4 : tie.Need-returns-4
-returns-4 c = search (needs, step-rules)
+returns-3 c = search (needs, same-rules)
 
 pub day-after-werktage-spec : {M : Type 1} → statement M
 day-after-werktage-spec =
@@ -48,13 +33,8 @@ day-after-werktage-spec =
     (tie.spec
     day-after-werktage-requires
     returns
-    werktage-before-requires
-    sub-if2
-    returns-2
-    add-nth-werktag
-    nth-werktag-requires
-    enum-known-werktag
+    step-requires
+    enum-known-day
     enum-told
-    returns-3
-    day-after-requires
-    returns-4)
+    returns-2
+    returns-3)

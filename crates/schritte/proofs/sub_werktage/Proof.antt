@@ -1,8 +1,8 @@
--- `schritte::sub_werktage` meets its contract: a step through the index ends where the walk does, by the counts of
--- both.
+-- `schritte::sub_werktage` meets its contract: by the walk, or by the index, whose step is taken apart and put
+-- together again.
 -- Assumes nothing.
 use borrow.Author.Needs.{needs}
-use Rattle.schritte.proofs.IndexRules.{step-rules}
+use Rattle.schritte.proofs.IndexRules.{same-rules}
 use Rattle.schritte.proofs.sub_werktage.Statement.{statement}
 use Rattle.schritte.proofs.sub_werktage.Tie as tie
 
@@ -12,20 +12,20 @@ sub-werktage-requires c κs = search needs
 returns : tie.Need-returns
 returns c = search needs
 
-werktage-before-requires : tie.Need-werktage-before-requires
-werktage-before-requires c κs = search needs
+step-requires : tie.Need-step-requires
+step-requires c κs = search needs
+
+enum-known-day : tie.Need-enum-known-day
+enum-known-day c = search needs
+
+enum-told : tie.Need-enum-told
+enum-told c = search needs
 
 returns-2 : tie.Need-returns-2
-returns-2 c = search (needs, step-rules)
-
-add-nth-werktag : tie.Need-add-nth-werktag
-add-nth-werktag c = search needs
-
-nth-werktag-requires : tie.Need-nth-werktag-requires
-nth-werktag-requires c κs = search needs
+returns-2 c = search (needs, same-rules)
 
 returns-3 : tie.Need-returns-3
-returns-3 c = search (needs, step-rules)
+returns-3 c = search (needs, same-rules)
 
 pub sub-werktage-spec : {M : Type 1} → statement M
 sub-werktage-spec =
@@ -33,8 +33,8 @@ sub-werktage-spec =
     (tie.spec
     sub-werktage-requires
     returns
-    werktage-before-requires
+    step-requires
+    enum-known-day
+    enum-told
     returns-2
-    add-nth-werktag
-    nth-werktag-requires
     returns-3)
