@@ -11,9 +11,15 @@ from pathlib import Path
 
 import examples
 import fragen
+import jahresindex
 import sources
 
-CHECKS = {**sources.CHECKS, "examples": examples.examples, "fragen": fragen.fragen}
+CHECKS = {
+    **sources.CHECKS,
+    "examples": examples.examples,
+    "fragen": fragen.fragen,
+    "jahresindex": jahresindex.jahresindex,
+}
 # One of the faults is to wait for an end that does not come.
 fragen.SECONDS = 2
 
@@ -27,8 +33,9 @@ HOST = "host/src/ffi.rs"
 README = "README.md"
 PROGRAM = "target/bin/fragen"
 STORED = "crates/fragen/stdout"
+TABLE, ENTRIES = jahresindex.CODE, jahresindex.PROOFS
 GOOD = {
-    "crates.txt": "mako_fristen:\nandere: mako_fristen\n",
+    "crates.txt": "mako_fristen:\nandere: mako_fristen\njahresindex:\n",
     LIB: f"""// Two calls.
 /// One.
 #[no_mangle]
@@ -90,6 +97,8 @@ if len(got) % 32 == 0 and len(got) <= most:
 """,
     "crates/fragen/stdin": "ab" * 32768,
     STORED: bytes(255 - byte for byte in b"ab" * 32768),
+    TABLE: f"const TABLE: [u32; 905] = [\n{jahresindex.printed('rt')}];\n",
+    ENTRIES: "entries =\n" + jahresindex.printed("antt"),
     "NOTICE": "x" * 200 + "\n",
     "crates/andere/stdin": "x" * 200 + "\n",
     "target/x.rt": "pub fn f() {}\n" + "x" * 200 + "\n",
@@ -193,6 +202,10 @@ BAD = [
     ("fragen", "half a record is answered", PROGRAM, put("% 32", "% 1"), "33 bytes: writes"),
     ("fragen", "a file too long is answered", PROGRAM, put("65536", "65568"), "65568 bytes: writes"),
     ("fragen", "what cannot be read is answered", PROGRAM, put('b"?"', 'b"?" * 32'), "cannot be read"),
+    ("jahresindex", "an entry one too high", TABLE, put(" 217118,", " 217119,"), "lib.rt: 217119 Werktage before"),
+    ("jahresindex", "one in the proofs", ENTRIES, put(" 217118 ", " 217119 "), "Entries.antt: 217119"),
+    ("jahresindex", "an entry too few", TABLE, without("    222031,\n"), "904 entries"),
+    ("jahresindex", "no table", TABLE, gone, TABLE),
 ]
 
 # What the length of lines passes.

@@ -33,7 +33,8 @@ unfoldable pub subWerktageAnswer : (ℕ → Bool) → Date → ℕ → Answer
 subWerktageAnswer w d n = onDate (indexOf d) (λ i. stepAnswer (sub w i n))
 
 unfoldable pub werktageBetweenAnswer : (ℕ → Bool) → Date → Date → Answer
-werktageBetweenAnswer w d e = onDate (indexOf d) (λ i. onDate (indexOf e) (λ j. counted (between w i j) (daysTested i j)))
+werktageBetweenAnswer w d e =
+    onDate (indexOf d) (λ i. onDate (indexOf e) (λ j. counted (between w i j) (daysTested i j)))
 
 unfoldable pub addMonthsAnswer : Date → ℕ → Answer
 addMonthsAnswer d n = onDate (indexOf d) (λ i. shiftAnswer (addMonths d n))

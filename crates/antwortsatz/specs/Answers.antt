@@ -5,7 +5,7 @@
 --   dateWord d        = the date d as a word: year, month, day from the lowest byte up
 --   refused x         = refusal x, all else zero: 'A refusal leaves bytes 1 to 31 zero'
 --   ofKind k          = kind k alone: 'a deregistration reason [has] the code of its case'
---   counted n t       = count n, and t, the days tested: 'a count [fills] the count'; document 02, F-3: 'how many days it
+--   counted n t = count n and the days tested, t: 'a count [fills] the count'; document 02, F-3: 'how many days it
 --       tested, in bytes 24 to 27'
 --   dated d           = date d alone: 'A step fills the date'
 --   atInstant k s x = seconds s and nanoseconds x beside kind k: 'a Gas due instant [has] kind 1 for the initial

@@ -2,7 +2,7 @@
 --   count-weekdays   the weekdays of a year's first n days
 --   inYear y n       = how many of them are Werktage: less the holidays on weekdays
 --   in-year          inYear y n ≡ count (openIn y) n, if the year is usual
---   year-among       among (isWerktag cal) (yearStart k) n ≡ inYear (yearAt k) n, for n ≤ yearLen k
+--   year-among       among (isWerktag cal) (yearStart k) n ≡ inYear (yearNumbers k) n, for n ≤ yearLen k
 --   weeks-few        1 January and q weeks after it have at most 5 q Werktage: 1 January is none
 --   year-few         a year has at most 262 Werktage
 --   yearly k         = the Werktage of the year 1996 + k, in a form that is quick to compute
@@ -11,8 +11,8 @@
 -- Source: the definitions of Werktag and Year.
 -- Assumes nothing.
 use Prim.Native.Nat.{ℕ, zero, suc, _+_, _-_, _*_, _/_, _%_, _≤_, _<_}
-use mathlib.Core.Bool.{Bool, not}
-use mathlib.Core.Path.{_≡_, refl, sym, ap, _∙_}
+use mathlib.Core.Bool.{not}
+use mathlib.Core.Path.{_≡_, ap, _∙_}
 use native.Mathlib.Omega.{arith}
 use native.Mathlib.Nat.{add-zero, add-suc}
 use native.Mathlib.Decide.{decLe}
@@ -29,7 +29,7 @@ use Rattle.werktag.specs.declared.HolidayCalendar.{HolidayCalendar}
 use Rattle.werktag.specs.declared.HolidayCalendar.the-variants.{BdewMaKo}
 use Rattle.werktag.specs.Werktag.{isWerktag}
 use Rattle.jahre.specs.declared.Year.{Year}
-use Rattle.jahre.specs.Year.{yearAt, onWeekday, weekdays, holidays}
+use Rattle.jahre.specs.Year.{yearNumbers, onWeekday, weekdays, holidays}
 use Rattle.jahre.proofs.Days.{yearFor, year-is, openIn, open-is, index-is, Usual, usual}
 
 -- a Saturday and a Sunday have one more of their kind behind them, every other day as many
@@ -91,13 +91,13 @@ in-year y n u =
 
 pub year-among :
     (cal : HolidayCalendar) (k n : ℕ) → k < 904 → n ≤ yearLen k →
-    among (isWerktag cal) (yearStart k) n ≡ inYear (yearAt k) n
+    among (isWerktag cal) (yearStart k) n ≡ inYear (yearNumbers k) n
 year-among BdewMaKo k n h g =
     let w = isWerktag BdewMaKo in
-    let c : count (λ r. w (yearStart k + r)) n ≡ count (openIn (yearAt k)) n =
-    count-cong (λ r. w (yearStart k + r)) (openIn (yearAt k)) n
+    let c : count (λ r. w (yearStart k + r)) n ≡ count (openIn (yearNumbers k)) n =
+    count-cong (λ r. w (yearStart k + r)) (openIn (yearNumbers k)) n
     (λ r l. index-is BdewMaKo k r h (omega arith) ∙ open-is k r h (omega arith)) in
-    omega (arith, count-among w (yearStart k) n, count-shift w (yearStart k) n, in-year (yearAt k) n (usual k h))
+    omega (arith, count-among w (yearStart k) n, count-shift w (yearStart k) n, in-year (yearNumbers k) n (usual k h))
 
 -- whole weeks, and the weekdays of no more than 366 days
 sevenths-on : (m q : ℕ) → (m + 7 * q) / 7 ≡ m / 7 + q
@@ -140,12 +140,12 @@ weeks-in y q =
 pub weeks-few :
     (cal : HolidayCalendar) (k q : ℕ) → k < 904 → 7 * q + 1 ≤ yearLen k →
     among (isWerktag cal) (yearStart k) (7 * q + 1) ≤ 5 * q
-weeks-few cal k q h g = omega (arith, year-among cal k (7 * q + 1) h g, weeks-in (yearAt k) q)
+weeks-few cal k q h g = omega (arith, year-among cal k (7 * q + 1) h g, weeks-in (yearNumbers k) q)
 
 pub year-few : (cal : HolidayCalendar) (k : ℕ) → k < 904 → among (isWerktag cal) (yearStart k) (yearLen k) ≤ 262
 unfolding inYear
 year-few cal k h =
-    let f = yearAt k .first in
+    let f = yearNumbers k .first in
     omega
     (arith, year-among cal k (yearLen k) h (omega arith), most f (yearLen k) (omega (arith, yearLen-bounds k)))
 

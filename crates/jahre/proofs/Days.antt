@@ -1,9 +1,9 @@
--- The day test of the list, year by year: a day of a year is a Werktag exactly if it is a weekday and none of the year's
--- holidays, each a day of the year. What is computed is computed of a year, not of its days.
+-- The day test of the list, year by year: a day of a year is a Werktag exactly if it is a weekday and none of the
+-- year's holidays, each a day of the year. What is computed is computed of a year, not of its days.
 --   yearFor k   = the numbers of the year 1996 + k without a walk over the years
---   year-is     yearAt k ≡ yearFor k
+--   year-is     yearNumbers k ≡ yearFor k
 --   openIn y r  = whether day r of the year y is a Werktag: a weekday, the holidays struck out
---   open-is     isWerktagIn BdewMaKo k r ≡ openIn (yearAt k) r
+--   open-is     isWerktagIn BdewMaKo k r ≡ openIn (yearNumbers k) r
 --   index-is    isWerktag cal (yearStart k + r) ≡ isWerktagIn cal k r
 --   Usual y     what holds of a year's numbers, and that no weekday stands twice among its holidays
 --   usual       it holds of every year of the calendar
@@ -11,7 +11,7 @@
 -- Source: the definitions of Werktag and Year.
 -- Assumes nothing.
 use Prim.Native.Nat.{ℕ, _+_, _-_, _%_, _≤_, _<_}
-use mathlib.Core.Bool.{Bool, true, false, not, _&&_, _||_}
+use mathlib.Core.Bool.{Bool, true, false, _&&_, _||_}
 use mathlib.Core.List.{List, [], _∷_, _++_}
 use mathlib.Core.Path.{_≡_, refl, sym, ap, _∙_, subst}
 use native.Mathlib.Omega.{arith}
@@ -37,13 +37,13 @@ use Rattle.werktag.specs.Easter.{easterSunday, easterIndex}
 use Rattle.werktag.specs.Werktag.{eqZ, isFixed, isBussUndBettag, isEasterFeast, isWerktagIn, isWerktag}
 use Rattle.werktag.proofs.Easter.{easterIn, easter-is, easter-between, firstOf, weekday-in}
 use Rattle.jahre.specs.declared.Year.{Year}
-use Rattle.jahre.specs.Year.{yearAt, onWeekday, fixedIn, bettagIn, himmelfahrtIn, feastsIn, holidays}
+use Rattle.jahre.specs.Year.{yearNumbers, onWeekday, fixedIn, bettagIn, feastsIn, holidays}
 
 abbrev pub yearFor : ℕ → Year
 yearFor k = let y = 1996 + k in record { first = firstOf k; leaps = bit (isLeap y); easter = easterIn y }
 
-pub year-is : (k : ℕ) → yearAt k ≡ yearFor k
-unfolding yearAt
+pub year-is : (k : ℕ) → yearNumbers k ≡ yearFor k
+unfolding yearNumbers
 year-is k =
     let e : easterIndex (1996 + k) - yearStart k ≡ easterIn (1996 + k) = omega (arith, easter-is k) in
     rw (e, start-is k)
@@ -145,7 +145,8 @@ module _ (s r e : ℕ) where
 
   feast-earlier : (o : ℕ) → o ≤ e → eqZ (pos (s + r)) (pos (s + e) +ℤ negℤ (pos o)) ≡ eqb r (e - o)
   feast-earlier o h =
-      rw (sub-pos (s + e) o (omega arith)) (eqb-same (s + r) (s + e - o) r (e - o) (λ q. omega arith) (λ q. omega arith))
+      rw (sub-pos (s + e) o (omega arith))
+      (eqb-same (s + r) (s + e - o) r (e - o) (λ q. omega arith) (λ q. omega arith))
 
 -- document 01's offsets in order
 abbrev distances : ℕ → List ℕ
@@ -235,7 +236,7 @@ usual-for k h =
       once-each = run-at once-in 904 0 all-once k (omega arith) (omega arith);
     }
 
-pub usual : (k : ℕ) → k < 904 → Usual (yearAt k)
+pub usual : (k : ℕ) → k < 904 → Usual (yearNumbers k)
 usual k h = rw (year-is k) (usual-for k h)
 
 open-for : (k r : ℕ) → k < 904 → r < yearLen k → isWerktagIn BdewMaKo k r ≡ openIn (yearFor k) r
@@ -255,7 +256,7 @@ open-for k r h g =
       in-list f (bit l) e r,
     )
 
-pub open-is : (k r : ℕ) → k < 904 → r < yearLen k → isWerktagIn BdewMaKo k r ≡ openIn (yearAt k) r
+pub open-is : (k r : ℕ) → k < 904 → r < yearLen k → isWerktagIn BdewMaKo k r ≡ openIn (yearNumbers k) r
 open-is k r h g = rw (year-is k) (open-for k r h g)
 
 pub index-is :

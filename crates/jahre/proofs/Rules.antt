@@ -1,16 +1,16 @@
 -- What the proofs of this crate's functions cite: a lemma for each return and each turn of the loop, with premises in
 -- the form in which they stand there.
---   year-rules     `year_at`: s is what `year_start` returned, d Easter Sunday, i its index, f the weekday of s
+--   year-rules     `year_numbers`: s is what `year_start` returned, d Easter Sunday, i its index, f the weekday of s
 --   may-rules      `himmelfahrt`
 --   list-rules     `holidays_of`
 --   before-rules   `weekday_before`
 --   struck-rules   `struck_before`: b is what place i of the list adds
 --   count-rules    `werktage_in_year`: a and b are weekdays, xs the holidays, m those struck out
 -- Assumes nothing.
-use Prim.Native.Nat.{ℕ, suc, _+_, _-_, _%_, _≤_, _<_}
+use Prim.Native.Nat.{ℕ, _+_, _-_, _%_, _≤_, _<_}
 use mathlib.Core.Bool.{Bool, true, false, _&&_}
 use mathlib.Core.List.{List, [], _∷_}
-use mathlib.Core.Path.{_≡_, refl, sym, ap, _∙_}
+use mathlib.Core.Path.{_≡_, sym, ap, _∙_}
 use native.Mathlib.Omega.{arith}
 use native.Mathlib.Numerals.{add-one}
 use lib.Dec.{ltb}
@@ -19,7 +19,7 @@ use lib.Seq.{drop-cons}
 use mir.Syntax.{w32}
 use mir.Val.{Fits}
 use borrow.Author.Tests.{eq-eqb, ne-eqb, le-leb, lt-leb, lt-ltb, le-ltb}
-use Rattle.zaehlung.specs.Walk.{bit, among, count}
+use Rattle.zaehlung.specs.Walk.{bit, among}
 use Rattle.zaehlung.specs.Lists.{each}
 use Rattle.zaehlung.proofs.Count.{count-le}
 use Rattle.zaehlung.proofs.Striking.{count-strikes}
@@ -29,13 +29,13 @@ use Rattle.datum.proofs.Years.{yearLen-bounds}
 use Rattle.werktag.specs.declared.HolidayCalendar.{HolidayCalendar}
 use Rattle.werktag.specs.Easter.{easterSunday, easterIndex}
 use Rattle.werktag.specs.Werktag.{isWerktag}
-use Rattle.werktag.proofs.Easter.{easterIn, easter-is, easter-valid}
+use Rattle.werktag.proofs.Easter.{easter-is, easter-valid}
 use Rattle.jahre.specs.declared.Year.{Year}
-use Rattle.jahre.specs.Year.{yearAt, onWeekday, weekdays, himmelfahrtIn, holidays}
+use Rattle.jahre.specs.Year.{yearNumbers, onWeekday, weekdays, himmelfahrtIn, holidays}
 use Rattle.jahre.proofs.Days.{Usual, usual}
 use Rattle.jahre.proofs.Counts.{inYear, count-weekdays, year-among}
 
--- year_at
+-- year_numbers
 pub easter-date : (k : ℕ) (d : Date) → k ≤ 903 → d ≡ easterSunday (1996 + k) → isDate d ≡ true
 easter-date k d h e = easter-valid (1996 + k) d (omega arith) (omega arith) e
 
@@ -48,14 +48,14 @@ module _ (k s i : ℕ) (d : Date) (p : s ≡ yearStart k) (q : d ≡ easterSunda
   in-its-year = omega (arith, index, easter-is k)
 
   module _ (f : ℕ) (b : Bool) (g : f ≡ weekday s) (t : b ≡ isLeap (1996 + k)) where
-    numbers : (l : ℕ) → l ≡ bit b → _≡_ {A = Year} (record { first = f; leaps = l; easter = i - s }) (yearAt k)
-    unfolding yearAt
+    numbers : (l : ℕ) → l ≡ bit b → _≡_ {A = Year} (record { first = f; leaps = l; easter = i - s }) (yearNumbers k)
+    unfolding yearNumbers
     numbers l u = rw (u, t, g, index, p)
 
-    pub leap-year : b ≡ true → _≡_ {A = Year} (record { first = f; leaps = 1; easter = i - s }) (yearAt k)
+    pub leap-year : b ≡ true → _≡_ {A = Year} (record { first = f; leaps = 1; easter = i - s }) (yearNumbers k)
     leap-year z = numbers 1 (rw z)
 
-    pub common-year : b ≡ false → _≡_ {A = Year} (record { first = f; leaps = 0; easter = i - s }) (yearAt k)
+    pub common-year : b ≡ false → _≡_ {A = Year} (record { first = f; leaps = 0; easter = i - s }) (yearNumbers k)
     common-year z = numbers 0 (rw z)
 
 pub ruleset year-rules = (easter-date, in-its-year, leap-year, common-year)
@@ -124,7 +124,7 @@ struck-none f n days = omega arith
 pub ruleset struck-rules = (struck-none, struck-more, struck-all)
 
 -- werktage_in_year
-module _ (k : ℕ) (y : Year) (h : k ≤ 903) (e : y ≡ yearAt k) where
+module _ (k : ℕ) (y : Year) (h : k ≤ 903) (e : y ≡ yearNumbers k) where
   is-usual : Usual y
   is-usual = rw e (usual k (omega arith))
 

@@ -1,5 +1,5 @@
 -- A year by three numbers, and its holidays by them. Days of a year are counted from 0.
---   yearAt k          = the year 1996 + k: the weekday of its 1 January, its leap days, the day of Easter Sunday
+--   yearNumbers k     = the year 1996 + k: the weekday of its 1 January, its leap days, the day of Easter Sunday
 --   onWeekday f r     = whether day r of a year that begins on weekday f is no Saturday or Sunday
 --   weekdays m        = how many of m days from a Monday on are none
 --   fixedIn l         = the fixed days of a year with l leap days
@@ -18,8 +18,8 @@ use Rattle.datum.specs.Calendar.{firstYear, isLeap, yearStart, weekday}
 use Rattle.werktag.specs.Easter.{easterIndex}
 use Rattle.jahre.specs.declared.Year.{Year}
 
-unfoldable pub yearAt : ℕ → Year
-yearAt k =
+unfoldable pub yearNumbers : ℕ → Year
+yearNumbers k =
     let y = firstYear + k in
     record { first = weekday (yearStart k); leaps = bit (isLeap y); easter = easterIndex y - yearStart k }
 

@@ -9,7 +9,7 @@ ghost use Rattle.zaehlung.specs.Walk.{bit, among};
 ghost use Rattle.zaehlung.specs.Lists.{each};
 ghost use Rattle.datum.specs.Calendar.{yearLen, yearStart};
 ghost use Rattle.werktag.specs.Werktag.{isWerktag};
-ghost use Rattle.jahre.specs.Year.{yearAt, onWeekday, weekdays, himmelfahrtIn, holidays};
+ghost use Rattle.jahre.specs.Year.{yearNumbers, onWeekday, weekdays, himmelfahrtIn, holidays};
 use werktag::HolidayCalendar;
 
 /// A year's own numbers: the weekday of its 1 January, its leap days, and Easter Sunday as a day of the year.
@@ -33,9 +33,9 @@ const HOLIDAYS: usize = 20;
 /// The numbers of the year 1996 + k.
 ///
 /// 2026 begins on a Thursday, has no leap day, and Easter Sunday, 5 April, is its day 94.
-fn year_at(k: u32) -> Year
+fn year_numbers(k: u32) -> Year
     requires { ⌜ k ≤ 903 ⌝ }
-    ensures { λ r. ⌜ r ≡ yearAt k ⌝ }
+    ensures { λ r. ⌜ r ≡ yearNumbers k ⌝ }
 {
     let year = datum::FIRST_YEAR + (k as u16);
     let start = datum::year_start(k);
@@ -144,7 +144,7 @@ pub fn werktage_in_year(k: u32, n: u32, cal: HolidayCalendar) -> u32
 {
     match cal {
         HolidayCalendar::BdewMaKo => {
-            let year = year_at(k);
+            let year = year_numbers(k);
             let first = year.first;
             weekdays_of(first + n) - weekdays_of(first) - struck_before(holidays_of(year), first, n)
         }

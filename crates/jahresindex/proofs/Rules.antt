@@ -5,7 +5,7 @@
 -- Assumes nothing.
 use Prim.Native.Nat.{ℕ, zero, suc, _+_, _-_, _*_, _/_, _≤_, _<_}
 use mathlib.Core.List.{List}
-use mathlib.Core.Path.{_≡_, refl}
+use mathlib.Core.Path.{_≡_}
 use native.Mathlib.Omega.{arith}
 use native.Mathlib.Decide.{decLe}
 use lib.ListN.{getD}
@@ -19,6 +19,7 @@ use Rattle.datum.proofs.Years.{start-all}
 use Rattle.werktag.specs.declared.HolidayCalendar.{HolidayCalendar}
 use Rattle.werktag.specs.declared.HolidayCalendar.the-variants.{BdewMaKo}
 use Rattle.werktag.specs.Werktag.{isWerktag}
+use Rattle.jahresindex.specs.Werktage.{werktage}
 use Rattle.jahresindex.proofs.Entries.{entries}
 use Rattle.jahresindex.proofs.Table.{entry-is, all-is}
 
@@ -30,13 +31,13 @@ entry-few k h =
 pub ruleset entry-rules = (entry-is, entry-few)
 
 module _ (cal : HolidayCalendar) (n : ℕ) (g : n ≤ count (isWerktag cal) (suc last)) where
-  few : n ≤ 222031
+  few : n ≤ werktage
   few = omega (arith, all-is cal)
 
   pub guess-fits : Fits w32 (n * 904)
   guess-fits = record { fits = omega (arith, few) }
 
-  pub guess-small : n * 904 / 222032 ≤ 903
+  pub guess-small : n * 904 / (werktage + 1) ≤ 903
   guess-small = omega (arith, few)
 
   -- before 1996 there are none, and before 2900 there are all
@@ -57,7 +58,7 @@ module _ (cal : HolidayCalendar) (n : ℕ) (g : n ≤ count (isWerktag cal) (suc
           | yes y ↦ y
           | no y ↦
               let z : k + 1 ≡ 904 = omega arith in
-              let c : getD xs (k + 1) 0 ≡ 222031 = rw (t, z) in
+              let c : getD xs (k + 1) 0 ≡ werktage = rw (t, z) in
               absurd (omega (arith, few))
         ]
 

@@ -1,7 +1,7 @@
 -- Counts and steps through the year index are those of the walk. What the proofs of `index` and of the steps cite, with
 -- premises in the form in which they stand there; w is the day test of the list.
---   day-rules     `werktage_before`, `werktage_through`: k and r are the year of a day and the day in it, b the entry of
---                 the year, m the Werktage of its first days
+--   day-rules     `werktage_before`, `werktage_through`: k and r are the year of a day and the day in it, b the entry
+--                 of the year, m the Werktage of its first days
 --   nth-rules     `nth_werktag`: b is the entry of the year k, m the Werktage of its first days that are skipped
 --   step-rules    the steps: b is a count of Werktage, s what `nth_werktag` gave
 --   kind-rules    `step`: r is what the function of its kind gave
@@ -9,8 +9,8 @@
 --   between-rules the count: x and y are the Werktage up to its two days
 -- Source: the laws of zaehlung, by which a step is said by counts.
 -- Assumes nothing.
-use Prim.Native.Nat.{ℕ, zero, suc, _+_, _-_, _*_, _/_, _≤_, _<_}
-use mathlib.Core.Bool.{Bool, true}
+use Prim.Native.Nat.{ℕ, suc, _+_, _-_, _*_, _/_, _≤_, _<_}
+use mathlib.Core.Bool.{Bool}
 use mathlib.Core.Path.{_≡_, refl, sym, ap, _∙_}
 use native.Mathlib.Omega.{arith}
 use native.Mathlib.Numerals.{add-one}
@@ -32,12 +32,14 @@ use Rattle.schritte.specs.declared.index.StepKind.{StepKind}
 use Rattle.schritte.specs.declared.index.StepKind.the-variants.{Add, Sub, DayAfter}
 use Rattle.schritte.specs.StepOf.{stepOf}
 use Rattle.jahre.proofs.Counts.{weeks-few, year-few}
+use Rattle.jahresindex.specs.Werktage.{werktage}
 use Rattle.jahresindex.proofs.Table.{all-is}
 
 -- the year of a day
 pub year-at :
     (day : ℕ) → day ≤ last →
-    (yearStart (yearOf day .0) + yearOf day .1 ≡ day) × (yearOf day .0 < 904) × (yearOf day .1 < yearLen (yearOf day .0))
+    (yearStart (yearOf day .0) + yearOf day .1 ≡ day) × (yearOf day .0 < 904)
+    × (yearOf day .1 < yearLen (yearOf day .0))
 year-at day h =
     let a = at-sum yearLen 903 0 day in
     let b = year-below day h in
@@ -47,10 +49,10 @@ module _ (cal : HolidayCalendar) where
   abbrev w : ℕ → Bool
   w = isWerktag cal
 
-  pub at-most-all : (d : ℕ) → d ≤ suc last → count w d ≤ 222031
+  pub at-most-all : (d : ℕ) → d ≤ suc last → count w d ≤ werktage
   at-most-all d h = omega (arith, all-is cal, count-mono w d (suc last) h)
 
-  pub all-of : (n : ℕ) → n ≤ 222031 → n ≤ count w (suc last)
+  pub all-of : (n : ℕ) → n ≤ werktage → n ≤ count w (suc last)
   all-of n h = omega (arith, all-is cal)
 
   -- 1 January 1996 is none
@@ -79,7 +81,7 @@ module _ (cal : HolidayCalendar) where
           let x = ap (count w) (at-year .0) in
           omega (arith, count-among w (yearStart k) r)
 
-      pub before-most : m ≡ among w (yearStart k) r → b + m ≤ 222031
+      pub before-most : m ≡ among w (yearStart k) r → b + m ≤ werktage
       before-most u = omega (arith, before-day u, at-most-all day (omega arith))
 
       pub with-day : m ≡ among w (yearStart k) (r + 1) → b + m ≡ count w (suc day)
@@ -88,7 +90,7 @@ module _ (cal : HolidayCalendar) where
           let x = ap (count w) o in
           omega (arith, count-among w (yearStart k) (r + 1))
 
-      pub with-most : m ≡ among w (yearStart k) (r + 1) → b + m ≤ 222031
+      pub with-most : m ≡ among w (yearStart k) (r + 1) → b + m ≤ werktage
       with-most u = omega (arith, with-day u, at-most-all (suc day) (omega arith))
 
       pub before-fits : m ≡ among w (yearStart k) r → Fits w32 (b + m)
@@ -147,7 +149,7 @@ module _ (cal : HolidayCalendar) where
             (omega (arith, first-closed, count-among w (yearStart k) (days + 1), fewer))
 
   module _ (d n b : ℕ) (h : d ≤ last) where
-    pub add-outside : b ≡ count w (suc d) → 222031 - b < n → Outside ≡ add w d n
+    pub add-outside : b ≡ count w (suc d) → werktage - b < n → Outside ≡ add w d n
     add-outside e l = sym (add-out-iff w d n h .1 (omega (arith, all-is cal)))
 
     pub add-is : (s : Step) → b ≡ count w (suc d) → 1 ≤ n → s ≡ add w 0 (b + n) → s ≡ add w d n
@@ -161,7 +163,7 @@ module _ (cal : HolidayCalendar) where
     sub-is s e l m i =
         i ∙ sym (sub-add w 0 (b - n + 1) (omega arith) (omega arith) d n h (omega arith) (omega (arith, first-closed)))
 
-    pub W-outside : b ≡ count w d → 222031 - b < n → Outside ≡ W w d n
+    pub W-outside : b ≡ count w d → werktage - b < n → Outside ≡ W w d n
     W-outside e l = sym (W-out-iff w d n h .1 (omega (arith, all-is cal, count-mono w last (suc last) (omega arith))))
 
     module _ (s : Step) (e : b ≡ count w d) (l : 1 ≤ n) (i : s ≡ add w 0 (b + n)) where

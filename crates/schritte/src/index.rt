@@ -4,6 +4,7 @@ ghost use mathlib.Core.Path.{_≡_};
 ghost use Prim.Native.Nat.{suc, _≤_, _<_};
 ghost use Rattle.zaehlung.specs.Walk.{last, count, add, sub, W, between};
 ghost use Rattle.werktag.specs.Werktag.{isWerktag};
+ghost use Rattle.jahresindex.specs.Werktage.{werktage};
 ghost use Rattle.schritte.specs.StepOf.{stepOf};
 use jahresindex::WERKTAGE;
 use werktag::HolidayCalendar;
@@ -26,7 +27,7 @@ const WEEKDAYS: u32 = 5;
 /// 7,431 before 7 April 2026.
 fn werktage_before(day: u32, cal: HolidayCalendar) -> u32
     requires { ⌜ day ≤ last ⌝ }
-    ensures { λ r. ⌜ (r ≡ count (isWerktag cal) day) × (r ≤ 222031) ⌝ }
+    ensures { λ r. ⌜ (r ≡ count (isWerktag cal) day) × (r ≤ werktage) ⌝ }
 {
     let at = datum::year_of(day);
     jahresindex::werktage_before_year(at.year, cal) + jahre::werktage_in_year(at.year, at.day, cal)
@@ -37,7 +38,7 @@ fn werktage_before(day: u32, cal: HolidayCalendar) -> u32
 /// 7,432 up to 7 April 2026, a Werktag.
 fn werktage_through(day: u32, cal: HolidayCalendar) -> u32
     requires { ⌜ day ≤ last ⌝ }
-    ensures { λ r. ⌜ (r ≡ count (isWerktag cal) (suc day)) × (r ≤ 222031) ⌝ }
+    ensures { λ r. ⌜ (r ≡ count (isWerktag cal) (suc day)) × (r ≤ werktage) ⌝ }
 {
     let at = datum::year_of(day);
     jahresindex::werktage_before_year(at.year, cal)
@@ -51,7 +52,7 @@ fn werktage_through(day: u32, cal: HolidayCalendar) -> u32
 ///
 /// The first is 2 January 1996, the 7,432nd 7 April 2026.
 fn nth_werktag(n: u32, cal: HolidayCalendar) -> Step
-    requires { ⌜ (1 ≤ n) × (n ≤ 222031) ⌝ }
+    requires { ⌜ (1 ≤ n) × (n ≤ werktage) ⌝ }
     ensures { λ r. ⌜ r ≡ add (isWerktag cal) 0 n ⌝ }
 {
     let entry = jahresindex::year_of_werktag(n, cal);
@@ -100,8 +101,8 @@ fn day_after_werktage(t: u32, n: u32, cal: HolidayCalendar) -> Step
     super::day_after(werktag)
 }
 
-/// A step through the index, by its kind. One function for the three, so that it stays a call: the loop that walks a few
-/// Werktage then stands where a step is asked for, and is as fast as if there were no index.
+/// A step through the index, by its kind. One function for the three, so that it stays a call: the loop that walks a
+/// few Werktage then stands where a step is asked for, and is as fast as if there were no index.
 pub fn step(kind: StepKind, day: u32, n: u32, cal: HolidayCalendar) -> Step
     requires { ⌜ (day ≤ last) × (1 ≤ n) ⌝ }
     ensures { λ r. ⌜ r ≡ stepOf kind (isWerktag cal) day n ⌝ }

@@ -6,8 +6,8 @@ use Rattle.jahre.proofs.Rules.{count-rules}
 use Rattle.jahre.proofs.werktage_in_year.Statement.{statement}
 use Rattle.jahre.proofs.werktage_in_year.Tie as tie
 
-year-at-requires : tie.Need-year-at-requires
-year-at-requires c κs = search needs
+year-numbers-requires : tie.Need-year-numbers-requires
+year-numbers-requires c κs = search needs
 
 add-weekdays-of : tie.Need-add-weekdays-of
 add-weekdays-of c = search (needs, count-rules)
@@ -37,7 +37,7 @@ pub werktage-in-year-spec : {M : Type 1} → statement M
 werktage-in-year-spec =
     tie.close
     (tie.spec
-    year-at-requires
+    year-numbers-requires
     add-weekdays-of
     weekdays-of-requires
     weekdays-of-requires-2

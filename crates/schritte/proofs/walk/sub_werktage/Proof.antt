@@ -1,6 +1,6 @@
--- `schritte::walk::sub_werktage` meets its contract. The invariant: from here the walk back reaches what it reaches from the
--- start. Each turn and each return is then a rule of Rules, which goes by the clauses of `sub`; the day itself grows
--- smaller.
+-- `schritte::walk::sub_werktage` meets its contract. The invariant: from here the walk back reaches what it reaches
+-- from the start. Each turn and each return is then a rule of Rules, which goes by the clauses of `sub`; the day
+-- itself grows smaller.
 -- Assumes nothing.
 use Prim.Native.Nat.{_≤_}
 use mathlib.Core.Path.{_≡_}

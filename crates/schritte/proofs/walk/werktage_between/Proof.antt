@@ -1,5 +1,5 @@
--- `schritte::walk::werktage_between` meets its contract. The invariant: the count so far and the Werktage still to come make
--- the whole. Each turn and the return is then a rule of Rules; the count fits, since it is at most the day.
+-- `schritte::walk::werktage_between` meets its contract. The invariant: the count so far and the Werktage still to
+-- come make the whole. Each turn and the return is then a rule of Rules; the count fits, since it is at most the day.
 -- Assumes nothing.
 use Prim.Native.Nat.{_+_, _-_, _≤_}
 use mathlib.Core.Path.{_≡_}

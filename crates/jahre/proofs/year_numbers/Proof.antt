@@ -1,9 +1,9 @@
--- `jahre::year_at` meets its contract: the index of Easter Sunday less that of 1 January is its day of the year.
+-- `jahre::year_numbers` meets its contract: the index of Easter Sunday less that of 1 January is its day of the year.
 -- Assumes nothing.
 use borrow.Author.Needs.{needs}
 use Rattle.jahre.proofs.Rules.{year-rules}
-use Rattle.jahre.proofs.year_at.Statement.{statement}
-use Rattle.jahre.proofs.year_at.Tie as tie
+use Rattle.jahre.proofs.year_numbers.Statement.{statement}
+use Rattle.jahre.proofs.year_numbers.Tie as tie
 
 cast-year : tie.Need-cast-year
 cast-year c = search needs
@@ -35,8 +35,8 @@ returns c = search (needs, year-rules)
 returns-2 : tie.Need-returns-2
 returns-2 c = search (needs, year-rules)
 
-pub year-at-spec : {M : Type 1} → statement M
-year-at-spec =
+pub year-numbers-spec : {M : Type 1} → statement M
+year-numbers-spec =
     tie.close
     (tie.spec
     cast-year
