@@ -37,7 +37,7 @@ use Rattle.werktag.specs.Easter.{easterSunday, easterIndex}
 use Rattle.werktag.specs.Werktag.{eqZ, isFixed, isBussUndBettag, isEasterFeast, isWerktagIn, isWerktag}
 use Rattle.werktag.proofs.Easter.{easterIn, easter-is, easter-between, firstOf, weekday-in}
 use Rattle.jahre.specs.declared.Year.{Year}
-use Rattle.jahre.specs.Year.{yearNumbers, onWeekday, fixedIn, bettagIn, feastsIn, holidays}
+use Rattle.jahre.specs.Year.{yearNumbers, onWeekday, fixedIn, bettagIn, himmelfahrtIn, feastsWith, holidays}
 
 abbrev pub yearFor : ℕ → Year
 yearFor k = let y = 1996 + k in record { first = firstOf k; leaps = bit (isLeap y); easter = easterIn y }
@@ -148,12 +148,8 @@ module _ (s r e : ℕ) where
       rw (sub-pos (s + e) o (omega arith))
       (eqb-same (s + r) (s + e - o) r (e - o) (λ q. omega arith) (λ q. omega arith))
 
--- document 01's offsets in order
-abbrev distances : ℕ → List ℕ
-distances e = (e - 2) ∷ (e + 1) ∷ (e + 39) ∷ (e + 49) ∷ (e + 50) ∷ (e + 60) ∷ []
-
 feast-same :
-    (s r e y : ℕ) → 2 ≤ e → easterIndex y ≡ s + e → isEasterFeast (s + r) y ≡ any (eqb r) (distances e)
+    (s r e y : ℕ) → 2 ≤ e → easterIndex y ≡ s + e → isEasterFeast (s + r) y ≡ any (eqb r) (feastsWith e (e + 39))
 unfolding isEasterFeast any
 feast-same s r e y h q =
     let l = feast-later s r e in
@@ -183,17 +179,17 @@ may-is l r q = rw (eq-eqb r (120 + l) q) (or-yes (eqb r 0) (eqb r 5) (eqb r (66 
 
 in-list :
     (f l e r : ℕ) →
-    any (eqb r) (fixedIn l ++ (bettagIn f l ∷ feastsIn l e))
-    ≡ (any (eqb r) (fixedIn l) || (eqb r (bettagIn f l) || any (eqb r) (distances e)))
+    any (eqb r) (fixedIn l ++ (bettagIn f l ∷ feastsWith e (himmelfahrtIn l e)))
+    ≡ (any (eqb r) (fixedIn l) || (eqb r (bettagIn f l) || any (eqb r) (feastsWith e (e + 39))))
 unfolding any
 in-list f l e r =
-    any-append (eqb r) (fixedIn l) (bettagIn f l ∷ feastsIn l e)
+    any-append (eqb r) (fixedIn l) (bettagIn f l ∷ feastsWith e (himmelfahrtIn l e))
     ∙ split (eqb (e + 39) (120 + l)) twice (λ t. rw t)
   where
     twice :
         eqb (e + 39) (120 + l) ≡ true →
-        (any (eqb r) (fixedIn l) || any (eqb r) (bettagIn f l ∷ feastsIn l e))
-        ≡ (any (eqb r) (fixedIn l) || (eqb r (bettagIn f l) || any (eqb r) (distances e)))
+        (any (eqb r) (fixedIn l) || any (eqb r) (bettagIn f l ∷ feastsWith e (himmelfahrtIn l e)))
+        ≡ (any (eqb r) (fixedIn l) || (eqb r (bettagIn f l) || any (eqb r) (feastsWith e (e + 39))))
     twice t =
         rw t
         (once (any (eqb r) (fixedIn l)) (eqb r (bettagIn f l)) (eqb r (e - 2)) (eqb r (e + 1)) (eqb r (e + 49))
@@ -252,7 +248,7 @@ open-for k r h g =
       fixed-same l r b,
       buss-same l f r b,
       feast-same (yearStart k) r e (1996 + k) (omega arith) (easter-is k),
-      strikes-is (onWeekday f) (fixedIn (bit l) ++ (bettagIn f (bit l) ∷ feastsIn (bit l) e)) r,
+      strikes-is (onWeekday f) (fixedIn (bit l) ++ (bettagIn f (bit l) ∷ feastsWith e (himmelfahrtIn (bit l) e))) r,
       in-list f (bit l) e r,
     )
 

@@ -9,7 +9,7 @@
 -- Assumes nothing.
 use Prim.Native.Nat.{ℕ, _+_, _-_, _%_, _≤_, _<_}
 use mathlib.Core.Bool.{Bool, true, false, _&&_}
-use mathlib.Core.List.{List, [], _∷_}
+use mathlib.Core.List.{List, _∷_, _++_}
 use mathlib.Core.Path.{_≡_, sym, ap, _∙_}
 use native.Mathlib.Omega.{arith}
 use native.Mathlib.Numerals.{add-one}
@@ -31,7 +31,8 @@ use Rattle.werktag.specs.Easter.{easterSunday, easterIndex}
 use Rattle.werktag.specs.Werktag.{isWerktag}
 use Rattle.werktag.proofs.Easter.{easter-is, easter-valid}
 use Rattle.jahre.specs.declared.Year.{Year}
-use Rattle.jahre.specs.Year.{yearNumbers, onWeekday, weekdays, himmelfahrtIn, holidays}
+use Rattle.jahre.specs.Year.{yearNumbers, onWeekday, weekdays, fixedIn, bettagIn, himmelfahrtIn}
+use Rattle.jahre.specs.Year.{feastsWith, holidays}
 use Rattle.jahre.proofs.Days.{Usual, usual}
 use Rattle.jahre.proofs.Counts.{inYear, count-weekdays, year-among}
 
@@ -70,17 +71,11 @@ not-on-may l e h = rw (ne-eqb (e + 39) (120 + l) h)
 pub ruleset may-rules = (on-may, not-on-may)
 
 -- holidays_of
-abbrev listed : ℕ → ℕ → ℕ → ℕ → List ℕ
-listed f l e h =
-    0 ∷ 5 ∷ (66 + l) ∷ (120 + l) ∷ (226 + l) ∷ (262 + l) ∷ (275 + l) ∷ (303 + l) ∷ (304 + l)
-    ∷ (357 + l) ∷ (358 + l) ∷ (359 + l) ∷ (364 + l) ∷ (325 + l - (f + l + 1) % 7)
-    ∷ (e - 2) ∷ (e + 1) ∷ h ∷ (e + 49) ∷ (e + 50) ∷ (e + 60) ∷ []
-
 pub listed-is :
     (y : Year) (h : ℕ) → h ≡ himmelfahrtIn (y .leaps) (y .easter) →
-    listed (y .first) (y .leaps) (y .easter) h ≡ holidays y
+    fixedIn (y .leaps) ++ (bettagIn (y .first) (y .leaps) ∷ feastsWith (y .easter) h) ≡ holidays y
 unfolding holidays
-listed-is y h q = ap (listed (y .first) (y .leaps) (y .easter)) q
+listed-is y h q = rw q
 
 -- weekday_before
 module _ (f n x : ℕ) where

@@ -5,7 +5,7 @@
 --   fixedIn l         = the fixed days of a year with l leap days
 --   bettagIn f l      = its Buß- und Bettag
 --   himmelfahrtIn l e = its Christi Himmelfahrt, Easter Sunday being day e
---   feastsIn l e      = the feasts that move with Easter
+--   feastsWith e h    = the feasts that move with Easter, h being Christi Himmelfahrt
 --   holidays y        = all 20; no weekday stands in them twice
 -- Source: document 01, 'lib.rs, calendar', with each date as a day of the year.
 -- Assumes nothing.
@@ -45,8 +45,10 @@ abbrev pub himmelfahrtIn : ℕ → ℕ → ℕ
 himmelfahrtIn l e = cond (eqb (e + 39) (120 + l)) (e + 49) (e + 39)
 
 -- 'Easter Sunday −2, +1, +39, +49, +50, +60 days'
-abbrev pub feastsIn : ℕ → ℕ → List ℕ
-feastsIn l e = (e - 2) ∷ (e + 1) ∷ himmelfahrtIn l e ∷ (e + 49) ∷ (e + 50) ∷ (e + 60) ∷ []
+abbrev pub feastsWith : ℕ → ℕ → List ℕ
+feastsWith e h = (e - 2) ∷ (e + 1) ∷ h ∷ (e + 49) ∷ (e + 50) ∷ (e + 60) ∷ []
 
 unfoldable pub holidays : Year → List ℕ
-holidays y = fixedIn (y .leaps) ++ (bettagIn (y .first) (y .leaps) ∷ feastsIn (y .leaps) (y .easter))
+holidays y =
+    let e = y .easter in
+    fixedIn (y .leaps) ++ (bettagIn (y .first) (y .leaps) ∷ feastsWith e (himmelfahrtIn (y .leaps) e))
