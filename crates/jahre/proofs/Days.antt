@@ -12,7 +12,7 @@
 -- Assumes nothing.
 use Prim.Native.Nat.{ℕ, _+_, _-_, _%_, _≤_, _<_}
 use mathlib.Core.Bool.{Bool, true, false, _&&_, _||_}
-use mathlib.Core.List.{List, [], _∷_, _++_}
+use mathlib.Core.List.{_∷_, _++_}
 use mathlib.Core.Path.{_≡_, refl, sym, ap, _∙_, subst}
 use native.Mathlib.Omega.{arith}
 use lib.Dec.{T, eqb, leb}
@@ -22,6 +22,7 @@ use Rattle.zaehlung.specs.Walk.{bit}
 use Rattle.zaehlung.specs.Lists.{any, strikes}
 use Rattle.zaehlung.specs.Blocks.{start, at}
 use Rattle.zaehlung.proofs.Tests.{and-left, and-right}
+use Rattle.zaehlung.proofs.Count.{bit-small}
 use Rattle.zaehlung.proofs.BlockLaws.{at-is}
 use Rattle.zaehlung.proofs.Every.{run, run-at, split}
 use Rattle.zaehlung.proofs.Search.{any-append}
@@ -35,7 +36,7 @@ use Rattle.werktag.specs.declared.HolidayCalendar.{HolidayCalendar}
 use Rattle.werktag.specs.declared.HolidayCalendar.the-variants.{BdewMaKo}
 use Rattle.werktag.specs.Easter.{easterSunday, easterIndex}
 use Rattle.werktag.specs.Werktag.{eqZ, isFixed, isBussUndBettag, isEasterFeast, isWerktagIn, isWerktag}
-use Rattle.werktag.proofs.Easter.{easterIn, easter-is, easter-between, firstOf, weekday-in}
+use Rattle.werktag.proofs.Easter.{below-7, easterIn, easter-is, easter-between, firstOf, weekday-in}
 use Rattle.jahre.specs.declared.Year.{Year}
 use Rattle.jahre.specs.Year.{yearNumbers, onWeekday, fixedIn, bettagIn, himmelfahrtIn, feastsWith, holidays}
 
@@ -210,13 +211,6 @@ pub record Usual (y : Year) : Type 0 where
   pub easter-from : 80 ≤ y .easter
   pub easter-to : y .easter ≤ 116
   pub once-each : apart (onWeekday (y .first)) (holidays y) ≡ true
-
-below-7 : (x : ℕ) → x % 7 < 7
-below-7 x = omega arith
-
-bit-small : (b : Bool) → bit b ≤ 1
-bit-small true = omega arith
-bit-small false = omega arith
 
 usual-for : (k : ℕ) → k < 904 → Usual (yearFor k)
 unfolding once-in

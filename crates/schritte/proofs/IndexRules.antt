@@ -45,6 +45,11 @@ year-at day h =
     let b = year-below day h in
     (omega (arith, start-none), omega arith, omega (arith, yearLen-at (1996 + yearOf day .0) (yearOf day .0) refl))
 
+pub at-year :
+    (day k r : ℕ) → day ≤ last → k ≡ yearOf day .0 → r ≡ yearOf day .1 →
+    (yearStart k + r ≡ day) × (k < 904) × (r < yearLen k)
+at-year day k r h p q = rw (p, q) (year-at day h)
+
 module _ (cal : HolidayCalendar) where
   abbrev w : ℕ → Bool
   w = isWerktag cal
@@ -63,22 +68,19 @@ module _ (cal : HolidayCalendar) where
       omega (arith, weeks-few cal 0 0 (omega arith) (omega arith), count-among w 0 1, count-none w)
 
   module _ (day k r : ℕ) (h : day ≤ last) (p : k ≡ yearOf day .0) (q : r ≡ yearOf day .1) where
-    at-year : (yearStart k + r ≡ day) × (k < 904) × (r < yearLen k)
-    at-year = rw (p, q) (year-at day h)
-
     pub in-year : r ≤ yearLen k
-    in-year = omega (arith, at-year)
+    in-year = omega (arith, at-year day k r h p q)
 
     pub next-in-year : r + 1 ≤ yearLen k
-    next-in-year = omega (arith, at-year)
+    next-in-year = omega (arith, at-year day k r h p q)
 
     pub next-fits : Fits w32 (r + 1)
-    next-fits = record { fits = omega (arith, at-year, yearLen-bounds k) }
+    next-fits = record { fits = omega (arith, at-year day k r h p q, yearLen-bounds k) }
 
     module _ (b m : ℕ) (e : b ≡ count w (yearStart k)) where
       pub before-day : m ≡ among w (yearStart k) r → b + m ≡ count w day
       before-day u =
-          let x = ap (count w) (at-year .0) in
+          let x = ap (count w) (at-year day k r h p q .0) in
           omega (arith, count-among w (yearStart k) r)
 
       pub before-most : m ≡ among w (yearStart k) r → b + m ≤ werktage
@@ -86,7 +88,7 @@ module _ (cal : HolidayCalendar) where
 
       pub with-day : m ≡ among w (yearStart k) (r + 1) → b + m ≡ count w (suc day)
       with-day u =
-          let o : yearStart k + (r + 1) ≡ suc day = omega (arith, at-year) in
+          let o : yearStart k + (r + 1) ≡ suc day = omega (arith, at-year day k r h p q) in
           let x = ap (count w) o in
           omega (arith, count-among w (yearStart k) (r + 1))
 

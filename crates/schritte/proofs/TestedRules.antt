@@ -15,12 +15,12 @@ use mir.Syntax.{w32}
 use mir.Val.{Fits}
 use Rattle.zaehlung.specs.Walk.{last, among, count}
 use Rattle.zaehlung.proofs.Count.{count-open, count-shut, count-among}
-use Rattle.datum.specs.Calendar.{yearLen, yearStart, yearOf, dayOfYear}
+use Rattle.datum.specs.Calendar.{yearStart, yearOf, dayOfYear}
 use Rattle.datum.proofs.Years.{yearLen-bounds}
 use Rattle.werktag.specs.declared.HolidayCalendar.{HolidayCalendar}
 use Rattle.werktag.specs.Werktag.{isWerktag}
 use Rattle.schritte.specs.Tested.{daysTested}
-use Rattle.schritte.proofs.IndexRules.{year-at, at-most-all}
+use Rattle.schritte.proofs.IndexRules.{year-at, at-year, at-most-all}
 
 -- test_days
 module _ (w : ℕ → Bool) (f c t : ℕ) (i : c ≡ among w f t) where
@@ -43,11 +43,8 @@ pub ruleset test-rules = (tested-start, tested-open, tested-shut)
 
 -- count_through
 module _ (day k r : ℕ) (h : day ≤ last) (p : k ≡ yearOf day .0) (q : r ≡ yearOf day .1) where
-  at-year : (yearStart k + r ≡ day) × (r < yearLen k)
-  at-year = let y : (yearStart k + r ≡ day) × (k < 904) × (r < yearLen k) = rw (p, q) (year-at day h) in (y .0, y .2)
-
   pub year-by : r ≤ day
-  year-by = omega (arith, at-year)
+  year-by = omega (arith, at-year day k r h p q)
 
   pub first-by : day - r ≤ day
   first-by = omega arith
@@ -61,9 +58,9 @@ module _ (day k r : ℕ) (h : day ≤ last) (p : k ≡ yearOf day .0) (q : r ≡
     pub through-is : b + c ≡ count (isWerktag cal) (suc day)
     through-is =
         let w = isWerktag cal in
-        let s : day - r ≡ yearStart k = omega (arith, at-year) in
+        let s : day - r ≡ yearStart k = omega (arith, at-year day k r h p q) in
         let u = ap (λ (x : ℕ). among w x t) s in
-        let o : yearStart k + t ≡ suc day = omega (arith, at-year) in
+        let o : yearStart k + t ≡ suc day = omega (arith, at-year day k r h p q) in
         let v = ap (count w) o in
         omega (arith, count-among w (yearStart k) t)
 

@@ -38,7 +38,7 @@ room a b t h g = omega arith
 pub below-30 : (x : ℕ) → x % 30 < 30
 below-30 x = omega arith
 
-below-7 : (x : ℕ) → x % 7 < 7
+pub below-7 : (x : ℕ) → x % 7 < 7
 below-7 x = omega arith
 
 below-19 : (x : ℕ) → x % 19 < 19

@@ -1,4 +1,5 @@
 -- Laws of the prefix count, for any test w of a day. count w d = how many days before d are open, that is, pass w.
+--   bit-small      a test counts at most 1
 --   count-none     count w 0 ≡ 0
 --   count-suc      count w (suc d) ≡ count w d + bit (w d)
 --   count-open     an open day adds one
@@ -22,7 +23,7 @@ use native.Mathlib.Nat.{add-zero, add-suc}
 use native.Mathlib.Decide.{decLe, decLt}
 use Rattle.zaehlung.specs.Walk.{bit, among, count}
 
-bit-small : (b : Bool) → bit b ≤ 1
+pub bit-small : (b : Bool) → bit b ≤ 1
 bit-small true = omega arith
 bit-small false = omega arith
 
