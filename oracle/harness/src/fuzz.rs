@@ -118,15 +118,10 @@ impl Fuzzer {
 
     /// Puts the case at every place, with an answer of 32 bytes and one of another length.
     pub fn put(&mut self, case: &Case, seed: u64, place: u64) {
-        if let Some(Err(panic)) = &case.expected {
+        if let Err(panic) = &case.expected {
             self.wrong(case, &panic.to_string(), seed, place);
         }
-        let mut first = None;
-        self.put_each(case, &case.rounds, [seed, place], |fuzzer, round| {
-            let (fault, answer) = fuzzer.round(case, round, first);
-            first = first.or(answer);
-            fault
-        });
+        self.put_each(case, &case.rounds, [seed, place], |fuzzer, round| fuzzer.round(case, round));
     }
 
     /// Puts the file at every place, with answers as long as the questions and others.
@@ -168,14 +163,9 @@ impl Fuzzer {
         }
     }
 
-    /// One call; what is wrong with it, and its answer of 32 bytes.
-    fn round(
-        &mut self,
-        case: &Case,
-        round: &Round,
-        first: Option<Answer>,
-    ) -> (Option<String>, Option<Answer>) {
-        let expected = case.expected.as_ref().and_then(|expected| expected.as_ref().ok()).copied();
+    /// One call; what is wrong with it.
+    fn round(&mut self, case: &Case, round: &Round) -> Option<String> {
+        let expected = case.expected.as_ref().ok().copied();
         let mut answer = self.answers.lend(round.place, &round.content, round.guard);
         let mut reason = self.read.lend(round.read_place, &case.reason, round.guard);
         let whole = round.content.len() == Answer::LEN;
@@ -187,20 +177,19 @@ impl Fuzzer {
             answer.mark(Mark::Defined);
         }
         let beside = beside(&answer, &mut reason, &case.reason);
-        let (fault, given) = match <[u8; Answer::LEN]>::try_from(&*answer.slice()) {
+        let fault = match <[u8; Answer::LEN]>::try_from(&*answer.slice()) {
             Ok(bytes) if whole => {
-                let given = Answer::from_bytes(bytes);
                 self.found.told += u64::from(expected.is_some());
-                (answer_fault(number, given, expected.or(first)), Some(given))
+                answer_fault(number, Answer::from_bytes(bytes), expected)
             }
-            _ => (length_fault(number, answer.slice() == round.content), None),
+            _ => length_fault(number, answer.slice() == round.content),
         };
         let ask = self.ask;
         let late = self.late(case, 1, took, || {
             let _ = ask(&case.question, &case.reason, &mut [0; Answer::LEN]);
         });
         let fault = fault.or(beside.map(String::from)).or(late);
-        (fault.map(|fault| format!("{fault} ({round})")), given)
+        fault.map(|fault| format!("{fault} ({round})"))
     }
 
     /// One call of a file; what is wrong with it.

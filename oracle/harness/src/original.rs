@@ -4,13 +4,17 @@
 mod panics;
 mod reason;
 mod span;
+mod tested;
 mod verdict;
+mod werktage;
 
 pub use panics::{caught, Panic};
 pub use reason::{ALIKE, ENDS};
 pub use span::expected_of_the_verdicts;
+pub use werktage::{werktag, werktage_before};
 
 use crate::records::{self, Record};
+use crate::walk::is_far;
 use crate::{days, instants};
 use mako_fristen::antwort::FristShape;
 use mako_fristen::HolidayCalendar::BdewMaKo;
@@ -29,7 +33,7 @@ pub type Expected = Result<Answer, Panic>;
 ///
 /// A panic that stands for no refusal.
 pub fn expected(question: &Question) -> Expected {
-    told(|| answered(question, capped))
+    told(|| answered(question, WALKED))
 }
 
 /// The same with every count put to the original as it is, which then may walk until it
@@ -39,7 +43,45 @@ pub fn expected(question: &Question) -> Expected {
 ///
 /// A panic that stands for no refusal.
 pub fn expected_uncapped(question: &Question) -> Expected {
-    told(|| answered(question, |n, _| n))
+    told(|| answered(question, Steps::Walked(|n, _| n)))
+}
+
+/// The same from the list of Werktage, which the original's own day test makes.
+///
+/// # Errors
+///
+/// A panic that stands for no refusal.
+pub fn expected_by_list(question: &Question) -> Expected {
+    told(|| answered(question, Steps::Listed))
+}
+
+/// The original's answer; from the list where it would walk far.
+///
+/// # Errors
+///
+/// A panic that stands for no refusal.
+pub fn expected_soon(question: &Question) -> Expected {
+    if is_far(question) {
+        expected_by_list(question)
+    } else {
+        expected(question)
+    }
+}
+
+/// The original's answer, if the list leads to the same. Else a kind that no call has.
+///
+/// # Errors
+///
+/// A panic that stands for no refusal.
+pub fn expected_both_ways(question: &Question) -> Expected {
+    let walked = expected(question)?;
+    let same = expected_by_list(question)? == walked;
+    Ok(if same { walked } else { contradicted() })
+}
+
+/// The answer where two statements of the original do not agree: it has a kind that no call has.
+fn contradicted() -> Answer {
+    Answer::default().with_kind(u8::MAX)
 }
 
 /// The answer to a record of a file: that of the single call to what stands in it.
@@ -48,8 +90,30 @@ pub fn expected_uncapped(question: &Question) -> Expected {
 ///
 /// A panic that stands for no refusal.
 pub fn expected_of_record(record: &Record) -> Expected {
+    of_record(record, expected)
+}
+
+/// The same; from the list where the original would walk far.
+///
+/// # Errors
+///
+/// A panic that stands for no refusal.
+pub fn expected_of_record_soon(record: &Record) -> Expected {
+    of_record(record, expected_soon)
+}
+
+/// The same, if the original's walk and the list lead there. Else a kind that no call has.
+///
+/// # Errors
+///
+/// A panic that stands for no refusal.
+pub fn expected_of_record_both_ways(record: &Record) -> Expected {
+    of_record(record, expected_both_ways)
+}
+
+fn of_record(record: &Record, single: fn(&Question) -> Expected) -> Expected {
     match records::read(record) {
-        Ok(question) => expected(&question),
+        Ok(question) => single(&question),
         Err(refusal) => Ok(Answer::refused(refusal)),
     }
 }
@@ -63,6 +127,17 @@ fn known<T>(original: impl FnOnce() -> Result<T, Refusal>) -> Result<Result<T, R
     caught(original).or_else(|panic| panic.refusal().map(Err).ok_or(panic))
 }
 
+/// How steps over Werktage and counts of them are made.
+#[derive(Clone, Copy)]
+enum Steps {
+    /// By the original, day by day.
+    Walked(Cap),
+    /// From the list of Werktage.
+    Listed,
+}
+
+const WALKED: Steps = Steps::Walked(capped);
+
 /// What is put to the original for a count of Werktage, with so many days left.
 type Cap = fn(u32, u32) -> u32;
 
@@ -72,28 +147,29 @@ fn capped(n: u32, days_left: u32) -> u32 {
     n.min(days_left + 1)
 }
 
-fn answered(question: &Question, cap: Cap) -> Result<Answer, Refusal> {
+fn answered(question: &Question, steps: Steps) -> Result<Answer, Refusal> {
     if !question.call.parameters().iter().all(|&parameter| knows(question, parameter)) {
         return Err(Refusal::UnknownCode);
     }
     match question.call {
         Call::IsWerktag | Call::NextWerktag | Call::AddWerktage | Call::SubWerktage => {
-            werktage(question, cap)
+            days_stepped(question, steps)
         }
-        Call::WerktageBetween | Call::AddMonths | Call::SubtractMonths => spans(question),
+        Call::WerktageBetween => count(question, steps),
+        Call::AddMonths | Call::SubtractMonths => months(question),
         Call::BerlinAt | Call::BerlinMidnight | Call::EndOfDayBerlin | Call::TagesbeginnUtc => {
             clock_on_a_date(question)
         }
         Call::BerlinDate | Call::TagDesBeginns => day_of_an_instant(question),
         Call::AddHours | Call::DeadlineAtWerktage | Call::EndOfWerktagAfter => {
-            after_an_instant(question, cap)
+            after_an_instant(question, steps)
         }
-        Call::NextWerktagAt | Call::NthWerktagAt => clock_on_a_werktag(question, cap),
-        Call::FristDueAt => answer_due(question, cap),
-        Call::VorlaufCheck | Call::VorlaufCheckAt => verdict::of_shape(question, cap),
-        Call::VorlaufSpan => span::of_shape(question, cap),
-        Call::AbmeldungFuer | Call::AbmeldungCheck => verdict::of_reason(question, cap),
-        Call::EogAnkuendigungFristgerecht => verdict::of_announcement(question, cap),
+        Call::NextWerktagAt | Call::NthWerktagAt => clock_on_a_werktag(question, steps),
+        Call::FristDueAt => answer_due(question, steps),
+        Call::VorlaufCheck | Call::VorlaufCheckAt => verdict::of_shape(question, steps),
+        Call::VorlaufSpan => span::of_shape(question, steps),
+        Call::AbmeldungFuer | Call::AbmeldungCheck => verdict::of_reason(question, steps),
+        Call::EogAnkuendigungFristgerecht => verdict::of_announcement(question, steps),
         _ => message_due(question),
     }
 }
@@ -105,27 +181,28 @@ fn knows(question: &Question, parameter: Parameter) -> bool {
     parameter.codes().is_none_or(|codes| code < codes)
 }
 
-fn werktage(question: &Question, cap: Cap) -> Result<Answer, Refusal> {
+fn days_stepped(question: &Question, steps: Steps) -> Result<Answer, Refusal> {
     let date = days::given(question.date)?;
     match question.call {
         Call::IsWerktag => Ok(Answer::default().with_kind(reason::of_day(date))),
         Call::NextWerktag => dated(next_werktag(date)),
-        Call::AddWerktage => dated(werktage_on(date, question.n, cap)),
-        _ => dated(werktage_back(date, question.n, cap)),
+        Call::AddWerktage => dated(werktage_on(date, question.n, steps)),
+        _ => dated(werktage_back(date, question.n, steps)),
     }
 }
 
-fn spans(question: &Question) -> Result<Answer, Refusal> {
+fn count(question: &Question, steps: Steps) -> Result<Answer, Refusal> {
+    let (from, to) = (days::given(question.date)?, days::given(question.date2)?);
+    let count = werktage_between(from, to, steps);
+    Ok(tested::told_in(Answer::default().with_count(count), from, to))
+}
+
+fn months(question: &Question) -> Result<Answer, Refusal> {
     let (date, n) = (days::given(question.date)?, question.n);
-    match question.call {
-        Call::WerktageBetween => {
-            let to = days::given(question.date2)?;
-            let count = mako_fristen::werktage_between(date, to, BdewMaKo);
-            Ok(Answer::default().with_count(count))
-        }
-        Call::AddMonths => dated(months_on(date, n)),
-        _ => dated(months_back(date, n)),
-    }
+    dated(match question.call {
+        Call::AddMonths => months_on(date, n),
+        _ => months_back(date, n),
+    })
 }
 
 fn dated(date: Result<Date, Refusal>) -> Result<Answer, Refusal> {
@@ -140,14 +217,31 @@ fn next_werktag(date: Date) -> Result<Date, Refusal> {
     inside(mako_fristen::next_werktag(date, BdewMaKo))
 }
 
-fn werktage_on(date: Date, n: u32, cap: Cap) -> Result<Date, Refusal> {
-    let n = cap(n, days::left(date));
-    inside(mako_fristen::add_werktage(date, n, BdewMaKo))
+fn werktage_on(date: Date, n: u32, steps: Steps) -> Result<Date, Refusal> {
+    match steps {
+        Steps::Walked(cap) => {
+            let n = cap(n, days::left(date));
+            inside(mako_fristen::add_werktage(date, n, BdewMaKo))
+        }
+        Steps::Listed => werktage::on(date, n),
+    }
 }
 
-fn werktage_back(date: Date, n: u32, cap: Cap) -> Result<Date, Refusal> {
-    let n = cap(n, days::index(date));
-    inside(mako_fristen::sub_werktage(date, n, BdewMaKo))
+fn werktage_back(date: Date, n: u32, steps: Steps) -> Result<Date, Refusal> {
+    match steps {
+        Steps::Walked(cap) => {
+            let n = cap(n, days::index(date));
+            inside(mako_fristen::sub_werktage(date, n, BdewMaKo))
+        }
+        Steps::Listed => werktage::back(date, n),
+    }
+}
+
+fn werktage_between(from: Date, to: Date, steps: Steps) -> u32 {
+    match steps {
+        Steps::Walked(_) => mako_fristen::werktage_between(from, to, BdewMaKo),
+        Steps::Listed => werktage::between(from, to),
+    }
 }
 
 fn months_on(date: Date, n: u32) -> Result<Date, Refusal> {
@@ -224,40 +318,61 @@ fn message_due(question: &Question) -> Result<Answer, Refusal> {
     }
 }
 
-fn after_an_instant(question: &Question, cap: Cap) -> Result<Answer, Refusal> {
+fn after_an_instant(question: &Question, steps: Steps) -> Result<Answer, Refusal> {
     let (from, n) = (instants::given(question.instant)?, question.n);
-    let werktage = cap(n, days::left(mako_fristen::berlin_date(from)));
-    match question.call {
-        Call::AddHours => due(mako_fristen::add_hours(from, n)),
-        Call::DeadlineAtWerktage => {
-            due(mako_fristen::deadline_at_werktage(from, werktage, BdewMaKo))
-        }
-        _ => due(mako_fristen::end_of_werktag_after(from, werktage, BdewMaKo)),
+    if question.call == Call::AddHours {
+        return due(mako_fristen::add_hours(from, n));
     }
+    let (from, werktage) = receipt(from, n, steps)?;
+    due(match question.call {
+        Call::DeadlineAtWerktage => mako_fristen::deadline_at_werktage(from, werktage, BdewMaKo),
+        _ => mako_fristen::end_of_werktag_after(from, werktage, BdewMaKo),
+    })
 }
 
-fn clock_on_a_werktag(question: &Question, cap: Cap) -> Result<Answer, Refusal> {
+fn clock_on_a_werktag(question: &Question, steps: Steps) -> Result<Answer, Refusal> {
     let received = instants::given(question.instant)?;
     let at = instants::given_clock(question.clock)?;
     if question.call == Call::NextWerktagAt {
         return due(mako_fristen::next_werktag_at(received, at, BdewMaKo));
     }
-    let n = cap(question.n, days::left(mako_fristen::berlin_date(received)));
+    let (received, n) = receipt(received, question.n, steps)?;
     due(mako_fristen::nth_werktag_at(received, n, at, BdewMaKo))
 }
 
 /// A clock or count that the shape does not have is not looked at.
-fn answer_due(question: &Question, cap: Cap) -> Result<Answer, Refusal> {
+fn answer_due(question: &Question, steps: Steps) -> Result<Answer, Refusal> {
     let received = instants::given(question.instant)?;
-    let werktage = cap(question.n, days::left(mako_fristen::berlin_date(received)));
     let at = instants::given_clock(question.clock);
-    let shape = match question.code {
-        0 => FristShape::WerktagAt { werktage, at: at? },
-        1 => FristShape::EndOfWerktag(werktage),
-        2 => FristShape::SameDayAt(at?),
-        _ => FristShape::SameDay,
+    let (received, shape) = match question.code {
+        0 => {
+            let at = at?;
+            let (received, werktage) = receipt(received, question.n, steps)?;
+            (received, FristShape::WerktagAt { werktage, at })
+        }
+        1 => {
+            let (received, werktage) = receipt(received, question.n, steps)?;
+            (received, FristShape::EndOfWerktag(werktage))
+        }
+        2 => (received, FristShape::SameDayAt(at?)),
+        _ => (received, FristShape::SameDay),
     };
     due(shape.due_at(received, BdewMaKo))
+}
+
+/// What is put to the original for a receipt and Werktage after its day. From the list that is the
+/// day of all Werktage but one, and the last is its own.
+fn receipt(
+    received: OffsetDateTime,
+    n: u32,
+    steps: Steps,
+) -> Result<(OffsetDateTime, u32), Refusal> {
+    let day = mako_fristen::berlin_date(received);
+    Ok(match steps {
+        Steps::Walked(cap) => (received, cap(n, days::left(day))),
+        Steps::Listed if n > 1 => (mako_fristen::berlin_midnight(werktage::on(day, n - 1)?), 1),
+        Steps::Listed => (received, n),
+    })
 }
 
 /// An instant whose Berlin day must be one of the calendar.

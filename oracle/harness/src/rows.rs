@@ -9,6 +9,7 @@ mod instants;
 mod kalender;
 mod uhr;
 mod vorlauf;
+pub(crate) mod years;
 pub mod zone;
 
 use crate::original::{self, Expected};
@@ -66,8 +67,8 @@ impl Row {
     }
 }
 
-/// All rows that the original answers, with `random` questions where the arguments are too many to
-/// try all.
+/// The rows from which the replay list is drawn, with `random` questions where the arguments are too
+/// many to try all.
 #[must_use]
 pub fn rows(seed: u64, random: u64) -> Vec<Row> {
     let mut rows = kalender::rows(seed, random);
@@ -79,10 +80,22 @@ pub fn rows(seed: u64, random: u64) -> Vec<Row> {
     rows
 }
 
+/// Rows of steps and counts through years.
+#[must_use]
+pub fn through_years(seed: u64, random: u64) -> Vec<Row> {
+    years::rows(seed, random)
+}
+
 /// The rows of a short run: those above, of the tz database, and of files.
 #[must_use]
 pub fn short(seed: u64, random: u64) -> Vec<Box<dyn Places>> {
-    all(rows(seed, random), files::rows(seed, random))
+    all(short_rows(seed, random), files::rows(seed, random))
+}
+
+fn short_rows(seed: u64, random: u64) -> Vec<Row> {
+    let mut rows = rows(seed, random);
+    rows.extend(through_years(seed, random));
+    rows
 }
 
 /// The rows of a long run, with some so many random questions: those of a short one, whose random
@@ -93,7 +106,7 @@ pub fn long(seed: u64, random: u64) -> Vec<Box<dyn Places>> {
 }
 
 fn long_rows(seed: u64, random: u64) -> Vec<Row> {
-    let mut rows = rows(seed, random / 8);
+    let mut rows = short_rows(seed, random / 8);
     rows.extend(any::rows(seed, random / 2));
     rows
 }
@@ -111,14 +124,19 @@ fn far(few: u64, random: u64) -> u64 {
     few * (random / SHORT).max(1)
 }
 
+/// With what the original walks to and what the list of Werktage leads to, which have to be the same.
+fn both_ways(row: Row) -> Row {
+    Row { expected: original::expected_both_ways, ..row }
+}
+
 #[cfg(test)]
 mod tests {
-    use super::{long_rows, rows, Row};
+    use super::{long_rows, short_rows, Row};
     use mako_fristen_host::Call;
 
     #[test]
     fn every_call_has_rows_and_no_row_is_empty() {
-        let rows = rows(1, 2_000_000);
+        let rows = short_rows(1, 2_000_000);
         assert!(Call::ALL.iter().all(|&call| rows.iter().any(|row| row.call == call)));
         let empty: Vec<&Row> = rows.iter().filter(|row| row.len == 0).collect();
         assert!(empty.is_empty(), "{:?}", empty.iter().map(|row| row.what).collect::<Vec<_>>());

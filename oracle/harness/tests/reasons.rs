@@ -1,10 +1,12 @@
 //! How often each reason of the day test is given, over all dates of the calendar: as often as the
 //! table of README.md says, which was counted apart from both sides.
 
+mod replay;
+
 use harness::days::{self, DAYS};
 use harness::original;
 use mako_fristen_host::{Answer, Call, Date, Question};
-use std::fs;
+use replay::replayed;
 
 /// Document 02's numbers, 0 to 22. Pfingstsonntag is one of them and is never given: it is a Sunday.
 const REASONS: usize = 23;
@@ -81,20 +83,11 @@ fn a_weekend_goes_before_a_holiday_and_the_lower_number_before_the_higher() {
     }
 }
 
-/// The replay list has every reason, and beside it the original's answers of today.
 #[test]
 fn the_replay_list_has_every_reason() {
-    let path = concat!(env!("CARGO_MANIFEST_DIR"), "/../../crates/vektoren/stdin");
-    let list = fs::read_to_string(path).expect("the replay list");
-    let day_test = format!("{:02x}", Call::IsWerktag.number());
     let mut given = [false; REASONS];
-    for line in list.lines().filter(|line| line.starts_with(&day_test)) {
-        let (question, answer) = line.split_once(' ').expect(line);
-        let byte = |at: usize| u8::from_str_radix(&question[2 * at..2 * at + 2], 16).expect(line);
-        let date = Date::new(u16::from_le_bytes([byte(4), byte(5)]), byte(6), byte(7));
-        let expected = original(&Question::on(Call::IsWerktag, date));
-        assert_eq!(format!("{expected:x}"), answer, "{date}");
-        given[usize::from(expected.kind())] = true;
+    for (_, answer) in replayed(Call::IsWerktag) {
+        given[usize::from(answer.kind())] = true;
     }
     let missing = (0..REASONS).filter(|&reason| !given[reason]);
     assert_eq!(missing.collect::<Vec<_>>(), [PFINGSTSONNTAG]);

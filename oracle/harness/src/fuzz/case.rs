@@ -3,21 +3,23 @@
 use super::area::Place;
 use crate::original::{self, Expected};
 use crate::random::Random;
-use crate::rows::any;
-use crate::walk::is_far;
+use crate::rows::{any, years};
 use mako_fristen_host::{Answer, Call, Parameter, Question, Reason};
 use std::fmt;
 
 const LONGEST_REASON: u32 = 300;
 const LONGEST_ANSWER: u32 = 4096;
+/// Where the original would walk far, one question in so many is put to it; the answer to the others
+/// comes from the list of Werktage.
+pub(super) const WALKED: u32 = 256;
 /// An ordinary reason. It stands for one for which a question has no room.
 const ORDINARY: &[u8] = b"Z33";
 
 pub struct Case {
     pub question: Question,
     pub reason: Vec<u8>,
-    /// The original's answer, unless it would take too long.
-    pub expected: Option<Expected>,
+    /// The original's answer.
+    pub expected: Expected,
     pub rounds: Vec<Round>,
 }
 
@@ -37,15 +39,18 @@ impl Case {
         const ROW: u64 = 2 << 32;
         let random = &mut Random::at(seed, ROW, place);
         let call = Call::ALL[(place % Call::ALL.len() as u64) as usize];
-        let question = match random.below(2) {
-            0 => any::question(call, random),
+        let question = match random.below(16) {
+            0 if any::walks(call) => years::question(call, random),
+            0..8 => any::question(call, random),
             _ => wild(call, random),
         };
         let reason = any_reason(&question, random);
         let room = Reason::new(&reason).or(Reason::new(ORDINARY)).unwrap_or_default();
         let question = question.with_reason(room);
-        let told = !is_far(&question) || random.below(256) == 0;
-        let expected = told.then(|| original::expected(&question));
+        let expected = match random.below(WALKED) {
+            0 => original::expected(&question),
+            _ => original::expected_soon(&question),
+        };
         Case { question, reason, expected, rounds: rounds(Answer::LEN, other_len, random) }
     }
 }

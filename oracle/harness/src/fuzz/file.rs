@@ -1,24 +1,25 @@
 //! A file of questions of any kind and length, what is expected of it, and where its slices lie.
 
 use super::area::LONGEST;
-use super::case::{rounds, wild, Round};
+use super::case::{rounds, wild, Round, WALKED};
 use super::{answer_fault, Ask};
 use crate::original::{self, Expected, Panic};
 use crate::random::Random;
 use crate::records::{self, Record, CALL, LEN, LONGEST_FILE, OPERATIONS};
-use crate::rows::files::{any_bytes, any_len, any_record, other_len, turned, written};
+use crate::rows::files::{
+    any_bytes, any_len, any_record, other_len, through_years, turned, written,
+};
 use crate::walk::is_far;
 use mako_fristen_host::{Answer, Refusal};
 use std::fmt;
 
-/// One in so many of the questions for which a walk is far is put, and one in so many of these to the
-/// original.
-const SELDOM: u32 = 256;
+/// One in so many of the questions for which a walk is far is put.
+const SELDOM: u32 = 16;
 
 pub struct FileCase {
     pub questions: Vec<u8>,
-    /// The original's answer to each question, unless it would take too long.
-    pub expected: Vec<Option<Expected>>,
+    /// The original's answer to each question.
+    pub expected: Vec<Expected>,
     pub rounds: Vec<Round>,
 }
 
@@ -34,9 +35,9 @@ impl FileCase {
             let len = any_bytes_len(random);
             questions = questions.into_iter().chain(more.into_iter().cycle()).take(len).collect();
         }
-        let expected = |record: &Record| {
-            let told = !is_far_record(record) || random.below(SELDOM) == 0;
-            told.then(|| original::expected_of_record(record))
+        let expected = |record: &Record| match random.below(WALKED) {
+            0 => original::expected_of_record(record),
+            _ => original::expected_of_record_soon(record),
         };
         let expected = records::each(&questions).map(expected).collect();
         let len = questions.len();
@@ -56,7 +57,7 @@ impl FileCase {
     /// A panic of the original that stands for no refusal.
     #[must_use]
     pub fn panic(&self) -> Option<&Panic> {
-        self.expected.iter().flatten().find_map(|expected| expected.as_ref().err())
+        self.expected.iter().find_map(|expected| expected.as_ref().err())
     }
 
     /// What the single calls answer, one for each question.
@@ -82,7 +83,7 @@ impl FileCase {
         let given = records::each(answers).map(|&answer| Answer::from_bytes(answer));
         let each = given.zip(singles).zip(&self.expected).enumerate();
         let mut faults = each.filter_map(|(place, ((given, &single), expected))| {
-            let expected = expected.as_ref().and_then(|expected| expected.as_ref().ok()).copied();
+            let expected = expected.as_ref().ok().copied();
             let fault = answer_fault(given.number(), given, expected)
                 .or_else(|| answer_fault(given.number(), given, Some(single)));
             fault.map(|fault| format!("answer {place}: {fault}"))
@@ -93,7 +94,7 @@ impl FileCase {
     /// How many answers the original gave as well.
     #[must_use]
     pub fn told(&self) -> u64 {
-        self.expected.iter().filter(|expected| matches!(expected, Some(Ok(_)))).count() as u64
+        self.expected.iter().filter(|expected| expected.is_ok()).count() as u64
     }
 }
 
@@ -106,7 +107,8 @@ pub fn refused_fault(number: u8, untouched: bool) -> Option<String> {
     }
 }
 
-/// Half of the records are as in a row, the others have any numbers, turned bits or any bytes.
+/// Half of the records are as in a row, the others go through years or have any numbers, turned bits
+/// or any bytes.
 fn any(random: &mut Random) -> Record {
     let record = match random.below(8) {
         0 => any_bytes(random),
@@ -115,6 +117,7 @@ fn any(random: &mut Random) -> Record {
             let question = wild(random.one_of(&OPERATIONS), random);
             written(&question, random)
         }
+        4 => through_years(random),
         _ => any_record(random),
     };
     if is_far_record(&record) && random.below(SELDOM) != 0 {

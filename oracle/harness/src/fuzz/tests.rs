@@ -6,6 +6,7 @@ use super::area::{Area, Place};
 use super::case::Round;
 use super::{host_calls, tell_of_crashes, Ask, Case, Found, Fuzzer};
 use crate::original;
+use crate::walk::is_far;
 use mako_fristen_host::{ffi, Answer, Call, Date, Question, Reason};
 use std::hint::black_box;
 use std::io::ErrorKind;
@@ -24,7 +25,7 @@ fn question() -> Question {
 fn case(len: usize) -> Case {
     let places = [Place::Among(3), Place::AfterPage, Place::BeforePage, Place::Heap];
     let rounds = places.map(|place| round(place, len));
-    let expected = Some(original::expected(&question()));
+    let expected = original::expected(&question());
     Case { question: question(), reason: b"Z33".to_vec(), expected, rounds: rounds.into() }
 }
 
@@ -37,7 +38,7 @@ fn faults(ask: Ask, case: &Case) -> Vec<String> {
     let mut fuzzer = Fuzzer::new(ask, ffi::mf_questions);
     // No call is put again for its time, which would be without guard bytes.
     fuzzer.found.slowest = Duration::MAX;
-    let each = case.rounds.iter().filter_map(|round| fuzzer.round(case, round, None).0);
+    let each = case.rounds.iter().filter_map(|round| fuzzer.round(case, round));
     each.collect()
 }
 
@@ -57,7 +58,7 @@ fn the_host_calls_are_right() {
 
 #[test]
 fn a_wrong_expectation_is_found() {
-    let case = Case { expected: Some(Ok(Answer::default())), ..case(32) };
+    let case = Case { expected: Ok(Answer::default()), ..case(32) };
     let faults = faults(host_calls, &case);
     assert_eq!(faults.len(), 4);
     assert!(faults[0].starts_with("expected 0000"), "{faults:?}");
@@ -67,7 +68,7 @@ fn a_wrong_expectation_is_found() {
 fn an_unknown_panic_of_the_original_is_wrong() {
     let panic = original::caught(|| -> u8 { panic!("made up") }).expect_err("a panic");
     let mut fuzzer = Fuzzer::new(host_calls, ffi::mf_questions);
-    fuzzer.put(&Case { expected: Some(Err(panic)), ..case(32) }, 1, 2);
+    fuzzer.put(&Case { expected: Err(panic), ..case(32) }, 1, 2);
     let Found { wrong, told, shown, .. } = &fuzzer.found;
     assert_eq!((*wrong, *told), (1, 0), "{shown:?}");
     assert!(shown[0].contains("mf_abmeldung_check") && shown[0].contains("made up"), "{shown:?}");
@@ -82,8 +83,10 @@ fn an_answer_that_goes_by_what_stood_there_is_found() {
         number
     };
     assert_found(keeps_a_byte, 32, "expected");
-    let mut case = Case { expected: None, ..case(32) };
-    case.rounds[1].content[5] = 7;
+    let mut case = case(32);
+    for place in [0, 2, 3] {
+        case.rounds[place].content[5] = 0;
+    }
     let mut fuzzer = Fuzzer::new(keeps_a_byte, ffi::mf_questions);
     fuzzer.put(&case, 1, 2);
     assert_eq!((fuzzer.found.calls, fuzzer.found.wrong), (4, 1));
@@ -196,8 +199,8 @@ fn cases_are_of_every_call_place_and_length() {
     assert!(rounds().any(|round| round.content.len() == 4096));
     assert!((0..64).all(|by| rounds().any(|round| round.place == Place::Among(by))));
     assert!(cases.iter().any(|case| case.reason.len() > 200));
-    let told = cases.iter().filter(|case| matches!(case.expected, Some(Ok(_)))).count();
-    assert!(told * 10 > cases.len() * 9, "{told}");
+    assert!(cases.iter().all(|case| case.expected.is_ok()));
+    assert!(cases.iter().any(|case| is_far(&case.question)));
 }
 
 /// Runs one of the tests below, which err, in a program of its own.

@@ -3,8 +3,8 @@
 
 use super::verdict::{shape, verdict};
 use super::{
-    capped, expected, host_date, known, months_on, next_werktag, werktage_back, werktage_on, Cap,
-    Expected, Panic,
+    contradicted, expected, host_date, known, months_on, next_werktag, werktage, werktage_back,
+    werktage_on, Expected, Panic, Steps, WALKED,
 };
 use crate::days::{self, DAYS};
 use mako_fristen::vorlauf::VorlaufShape;
@@ -15,8 +15,8 @@ use time::Date;
 /// How many anchors before the first day and after the last are held against their verdicts.
 const AROUND: u32 = 12;
 
-pub(super) fn of_shape(question: &Question, cap: Cap) -> Result<Answer, Refusal> {
-    let (first, last) = ends(shape(question), days::given(question.date)?, cap)?;
+pub(super) fn of_shape(question: &Question, steps: Steps) -> Result<Answer, Refusal> {
+    let (first, last) = ends(shape(question), days::given(question.date)?, steps)?;
     let from = Answer::default().with_date(host_date(first)?);
     Ok(match last {
         None => from,
@@ -32,16 +32,15 @@ pub(super) fn of_shape(question: &Question, cap: Cap) -> Result<Answer, Refusal>
 ///
 /// A panic that stands for no refusal.
 pub fn expected_of_the_verdicts(question: &Question) -> Expected {
-    const CONTRADICTED: u8 = u8::MAX;
     let Ok(day) = days::given(question.date) else { return expected(question) };
-    let Ok((first, last)) = known(|| ends(shape(question), day, capped))? else {
+    let Ok((first, last)) = known(|| ends(shape(question), day, WALKED))? else {
         return expected(question);
     };
     let end = last.unwrap_or(first);
     let from = days::index(first.min(end)).saturating_sub(AROUND);
     let to = (days::index(first.max(end)) + AROUND).min(DAYS - 1);
     let agrees = |anchor: Date| -> Result<bool, Panic> {
-        Ok(match known(|| verdict(shape(question), day, anchor, capped))? {
+        Ok(match known(|| verdict(shape(question), day, anchor, WALKED))? {
             Ok(answer) => {
                 let inside = first <= anchor && last.is_none_or(|last| anchor <= last);
                 (answer.kind() == 0) == inside
@@ -51,20 +50,21 @@ pub fn expected_of_the_verdicts(question: &Question) -> Expected {
     };
     for anchor in (from..=to).map(days::day) {
         if !agrees(anchor)? {
-            return Ok(Answer::default().with_kind(CONTRADICTED));
+            return Ok(contradicted());
         }
     }
     expected(question)
 }
 
 /// The first day, and the last where there is one; in an empty span the first is the later.
-fn ends(shape: VorlaufShape, day: Date, cap: Cap) -> Result<(Date, Option<Date>), Refusal> {
-    let back = |n| werktage_back(day, n, cap);
-    let on = |n| werktage_on(day, n, cap);
+fn ends(shape: VorlaufShape, day: Date, steps: Steps) -> Result<(Date, Option<Date>), Refusal> {
+    let back = |n| werktage_back(day, n, steps);
+    let on = |n| werktage_on(day, n, steps);
+    let after = |n| after_werktage(day, n, steps);
     Ok(match shape {
-        VorlaufShape::LatestWerktageBefore(n) => (after_werktage(day, n)?, None),
+        VorlaufShape::LatestWerktageBefore(n) => (after(n)?, None),
         VorlaufShape::WindowWerktageBefore { earliest, latest } => {
-            (after_werktage(day, latest)?, Some(on(earliest)?))
+            (after(latest)?, Some(on(earliest)?))
         }
         VorlaufShape::LatestWerktageAfter(n) => (back(n)?, None),
         VorlaufShape::EarliestWerktageAfter(n) => (on(n)?, None),
@@ -74,13 +74,20 @@ fn ends(shape: VorlaufShape, day: Date, cap: Cap) -> Result<(Date, Option<Date>)
         }
         VorlaufShape::LatestMonateBefore(n) => (after_months(n, day)?, None),
         VorlaufShape::LatestMonateUndWerktageBefore { monate, werktage } => {
-            (after_months(monate, after_werktage(day, werktage)?)?, None)
+            (after_months(monate, after(werktage)?)?, None)
         }
     })
 }
 
-/// W(n): the day for 0, else the day after the n-th Werktag on or after it. Day by day.
-fn after_werktage(mut day: Date, n: u32) -> Result<Date, Refusal> {
+/// W(n): the day for 0, else the day after the n-th Werktag on or after it.
+fn after_werktage(day: Date, n: u32, steps: Steps) -> Result<Date, Refusal> {
+    match steps {
+        Steps::Walked(_) => after_walk(day, n),
+        Steps::Listed => werktage::after(day, n),
+    }
+}
+
+fn after_walk(mut day: Date, n: u32) -> Result<Date, Refusal> {
     let mut left = n;
     while left > 0 {
         left -= u32::from(mako_fristen::is_werktag(day, BdewMaKo));

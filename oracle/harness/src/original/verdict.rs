@@ -1,7 +1,8 @@
 //! Verdicts: of a shape, of a deregistration's reason, of the 13:00 announcement.
 
 use super::{
-    day_begun, host_date, months_back, months_on, next_werktag, werktage_back, werktage_on, Cap,
+    day_begun, host_date, months_back, months_on, next_werktag, werktage_back, werktage_between,
+    werktage_on, Steps,
 };
 use crate::{days, instants};
 use mako_fristen::abmeldung::AbmeldungVorlauf;
@@ -10,7 +11,7 @@ use mako_fristen::HolidayCalendar::BdewMaKo;
 use mako_fristen_host::{Answer, Call, Question, Refusal};
 use time::Date;
 
-pub(super) fn of_shape(question: &Question, cap: Cap) -> Result<Answer, Refusal> {
+pub(super) fn of_shape(question: &Question, steps: Steps) -> Result<Answer, Refusal> {
     let (day, anchor) = match question.call {
         Call::VorlaufCheckAt => {
             let at = instants::given(question.instant)?;
@@ -19,12 +20,12 @@ pub(super) fn of_shape(question: &Question, cap: Cap) -> Result<Answer, Refusal>
         }
         _ => (days::given(question.date)?, days::given(question.date2)?),
     };
-    verdict(shape(question), day, anchor, cap)
+    verdict(shape(question), day, anchor, steps)
 }
 
 /// The bytes are put to the original as text; those that are none become replacement characters,
 /// of which no reason has any.
-pub(super) fn of_reason(question: &Question, cap: Cap) -> Result<Answer, Refusal> {
+pub(super) fn of_reason(question: &Question, steps: Steps) -> Result<Answer, Refusal> {
     let eeg = [Some(false), Some(true), None][usize::from(question.code)];
     let reason = String::from_utf8_lossy(question.reason.as_bytes());
     let vorlauf = AbmeldungVorlauf::fuer(&reason, eeg);
@@ -37,20 +38,21 @@ pub(super) fn of_reason(question: &Question, cap: Cap) -> Result<Answer, Refusal
         }));
     }
     let (day, anchor) = (days::given(question.date)?, days::given(question.date2)?);
-    if let Some(shape) = vorlauf.shape() {
-        stays(shape, day, anchor, cap)?;
-    }
-    match vorlauf.check(day, anchor, BdewMaKo) {
-        Some(verdict) => answer(verdict),
-        None => Ok(Answer::default().with_kind(3)),
+    let original = || vorlauf.check(day, anchor, BdewMaKo);
+    match vorlauf.shape() {
+        Some(shape) => told(found(shape, day, anchor, steps)?, steps, original),
+        None => {
+            assert_eq!(original(), None, "{vorlauf:?} has no shape");
+            Ok(Answer::default().with_kind(3))
+        }
     }
 }
 
-pub(super) fn of_announcement(question: &Question, cap: Cap) -> Result<Answer, Refusal> {
+pub(super) fn of_announcement(question: &Question, steps: Steps) -> Result<Answer, Refusal> {
     let beginning = days::given(question.date)?;
     let at = instants::given(question.instant)?;
     if at < mako_fristen::berlin_midnight(beginning) {
-        werktage_back(beginning, 1, cap)?;
+        werktage_back(beginning, 1, steps)?;
     }
     let kept = vorlauf::eog_ankuendigung_fristgerecht(at, beginning, BdewMaKo);
     Ok(Answer::default().with_kind(kept.map_or(2, u8::from)))
@@ -75,10 +77,28 @@ pub(super) fn verdict(
     shape: VorlaufShape,
     day: Date,
     anchor: Date,
-    cap: Cap,
+    steps: Steps,
 ) -> Result<Answer, Refusal> {
-    stays(shape, day, anchor, cap)?;
-    answer(shape.check(day, anchor, BdewMaKo))
+    let found = found(shape, day, anchor, steps)?;
+    told(found, steps, || Some(shape.check(day, anchor, BdewMaKo)))
+}
+
+/// The original's own verdict; with steps from the list, the one that is found.
+///
+/// # Panics
+///
+/// Where the original's is another.
+fn told(
+    found: Found,
+    steps: Steps,
+    original: impl FnOnce() -> Option<VorlaufVerdict>,
+) -> Result<Answer, Refusal> {
+    if let Steps::Listed = steps {
+        return answer(found.counted(steps));
+    }
+    let verdict = original().expect("a verdict of a shape");
+    assert!(found.is(verdict), "{found:?} is found, and the verdict is {verdict:?}");
+    answer(verdict)
 }
 
 fn answer(verdict: VorlaufVerdict) -> Result<Answer, Refusal> {
@@ -94,36 +114,95 @@ fn answer(verdict: VorlaufVerdict) -> Result<Answer, Refusal> {
     })
 }
 
-/// Computes the dates that `check` computes for the shape, with the functions that it has for them
-/// and under its conditions. One that leaves the calendar is refusal 8, where `check` goes on.
-fn stays(shape: VorlaufShape, day: Date, anchor: Date, cap: Cap) -> Result<(), Refusal> {
-    let back = |n| werktage_back(anchor, n, cap);
-    let on = |date, n| werktage_on(date, n, cap);
-    match shape {
-        VorlaufShape::LatestWerktageBefore(n) => {
-            if day > back(n)? {
-                on(day, n)?;
-            }
-        }
-        VorlaufShape::WindowWerktageBefore { earliest, latest } => {
-            let (opens, closes) = (back(earliest)?, back(latest)?);
-            if day >= opens && day > closes {
-                on(day, latest)?;
-            }
-        }
-        VorlaufShape::LatestWerktageAfter(n) => drop(on(anchor, n)?),
-        VorlaufShape::EarliestWerktageAfter(n) => drop(on(day, n)?),
-        VorlaufShape::Korridor(n) => drop((back(n)?, on(anchor, n)?)),
-        VorlaufShape::TagVorDemLetztenWerktagVor => {
-            if day > days::before(back(1)?)? {
-                days::after(next_werktag(days::after(day)?)?)?;
-            }
-        }
-        VorlaufShape::LatestMonateBefore(n) => drop((months_back(anchor, n)?, months_on(day, n)?)),
-        VorlaufShape::LatestMonateUndWerktageBefore { monate, werktage } => {
-            werktage_back(months_back(anchor, monate)?, werktage, cap)?;
-            months_on(on(day, werktage)?, monate)?;
+/// A verdict before its Werktage are counted: after the first day, up to and with the second.
+#[derive(Clone, Copy, Debug)]
+enum Found {
+    Ok,
+    TooLate { counted: (Date, Date), earliest_possible: Date },
+    TooEarly { counted: (Date, Date) },
+}
+
+impl Found {
+    fn is(self, verdict: VorlaufVerdict) -> bool {
+        match (self, verdict) {
+            (
+                Found::TooLate { earliest_possible: found, .. },
+                VorlaufVerdict::TooLate { earliest_possible, .. },
+            ) => found == earliest_possible,
+            (Found::Ok, VorlaufVerdict::Ok)
+            | (Found::TooEarly { .. }, VorlaufVerdict::TooEarly { .. }) => true,
+            _ => false,
         }
     }
-    Ok(())
+
+    fn counted(self, steps: Steps) -> VorlaufVerdict {
+        let count = |(from, to)| werktage_between(from, to, steps);
+        match self {
+            Found::Ok => VorlaufVerdict::Ok,
+            Found::TooLate { counted, earliest_possible } => {
+                VorlaufVerdict::TooLate { shortfall_wt: count(counted), earliest_possible }
+            }
+            Found::TooEarly { counted } => VorlaufVerdict::TooEarly { excess_wt: count(counted) },
+        }
+    }
+}
+
+/// What `check` finds for the shape, with the functions that it has for its dates and under its
+/// conditions. One that leaves the calendar is refusal 8, where `check` goes on.
+fn found(shape: VorlaufShape, day: Date, anchor: Date, steps: Steps) -> Result<Found, Refusal> {
+    let back = |n| werktage_back(anchor, n, steps);
+    let on = |date, n| werktage_on(date, n, steps);
+    match shape {
+        VorlaufShape::LatestWerktageBefore(n) => not_after(back(n)?, day, || on(day, n)),
+        VorlaufShape::WindowWerktageBefore { earliest, latest } => {
+            let (opens, closes) = (back(earliest)?, back(latest)?);
+            not_before(opens, day, || not_after(closes, day, || on(day, latest)))
+        }
+        VorlaufShape::LatestWerktageAfter(n) => not_after(on(anchor, n)?, day, || Ok(anchor)),
+        VorlaufShape::EarliestWerktageAfter(n) => {
+            let earliest_possible = on(day, n)?;
+            not_after(anchor, earliest_possible, || Ok(earliest_possible))
+        }
+        VorlaufShape::Korridor(n) => {
+            let (opens, closes) = (back(n)?, on(anchor, n)?);
+            not_before(opens, day, || not_after(closes, day, || Ok(opens)))
+        }
+        VorlaufShape::TagVorDemLetztenWerktagVor => {
+            let closes = days::before(back(1)?)?;
+            not_after(closes, day, || days::after(next_werktag(days::after(day)?)?))
+        }
+        VorlaufShape::LatestMonateBefore(n) => {
+            let (closes, earliest_possible) = (months_back(anchor, n)?, months_on(day, n)?);
+            not_after(closes, day, || Ok(earliest_possible))
+        }
+        VorlaufShape::LatestMonateUndWerktageBefore { monate, werktage } => {
+            let closes = werktage_back(months_back(anchor, monate)?, werktage, steps)?;
+            let earliest_possible = months_on(on(day, werktage)?, monate)?;
+            not_after(closes, day, || Ok(earliest_possible))
+        }
+    }
+}
+
+/// Ok for a day up to the last, else too late by the Werktage since.
+fn not_after(
+    last: Date,
+    day: Date,
+    earliest_possible: impl FnOnce() -> Result<Date, Refusal>,
+) -> Result<Found, Refusal> {
+    if day <= last {
+        return Ok(Found::Ok);
+    }
+    Ok(Found::TooLate { counted: (last, day), earliest_possible: earliest_possible()? })
+}
+
+/// Too early for a day before the first, by the Werktage until then.
+fn not_before(
+    first: Date,
+    day: Date,
+    else_found: impl FnOnce() -> Result<Found, Refusal>,
+) -> Result<Found, Refusal> {
+    if day < first {
+        return Ok(Found::TooEarly { counted: (day, first) });
+    }
+    else_found()
 }

@@ -2,7 +2,7 @@
 //! largest, one question in four with a parameter that is refused, one answer in sixteen of another
 //! length.
 
-use super::{abmeldung, instants, kalender, uhr, vorlauf, Probe, Row, LONGEST};
+use super::{abmeldung, instants, kalender, uhr, vorlauf, years, Probe, Row, LONGEST};
 use crate::days::{self, DAYS};
 use crate::instants::{given, given_clock, moved, to_host, SWITCH_DAYS};
 use crate::original::{self, ALIKE, ENDS};
@@ -24,19 +24,27 @@ pub fn rows(seed: u64, questions: u64) -> Vec<Row> {
 
 /// A call's part of the questions: less where the original walks from day to day.
 fn share(call: Call) -> u64 {
-    let from_one_to_another = [Parameter::SecondDate, Parameter::SecondInstant];
-    if steps(call) || from_one_to_another.into_iter().any(|second| call.takes(second)) {
+    if walks(call) {
         2
     } else {
         3
     }
 }
 
+/// Whether the original walks over Werktage, by a count or from one date to another.
+pub(crate) fn walks(call: Call) -> bool {
+    let from_one_to_another = [Parameter::SecondDate, Parameter::SecondInstant];
+    steps(call) || from_one_to_another.into_iter().any(|second| call.takes(second))
+}
+
 fn of_call(call: Call, len: u64, seed: u64) -> Row {
     const ROW: u64 = 1 << 32;
     let probe = move |place| {
         let random = &mut Random::at(seed, ROW + u64::from(call.number()), place);
-        let question = question(call, random);
+        let question = match random.below(16) {
+            0 if walks(call) => years::question(call, random),
+            _ => question(call, random),
+        };
         let len = match random.below(16) {
             0 => random.below(LONGEST as u32 + 1) as usize,
             _ => Answer::LEN,
@@ -44,7 +52,7 @@ fn of_call(call: Call, len: u64, seed: u64) -> Row {
         Probe { question, len, fill: random.number() as u8 }
     };
     let what = "random, arguments of every kind";
-    Row { call, what, len, probe: Box::new(probe), expected: original::expected }
+    Row { call, what, len, probe: Box::new(probe), expected: original::expected_soon }
 }
 
 /// Whether a count of the call is of Werktage, which the original walks.
@@ -139,7 +147,7 @@ fn any_day(random: &mut Random) -> u32 {
     around(centre, 3, random)
 }
 
-fn around(index: u32, by: u32, random: &mut Random) -> u32 {
+pub(super) fn around(index: u32, by: u32, random: &mut Random) -> u32 {
     (index + random.below(2 * by + 1)).saturating_sub(by).min(DAYS - 1)
 }
 
@@ -303,7 +311,7 @@ fn any_number(random: &mut Random) -> u32 {
 mod tests {
     use super::{question, rows, share};
     use crate::days;
-    use crate::original::{self, ALIKE, ENDS};
+    use crate::original::{ALIKE, ENDS};
     use crate::random::Random;
     use mako_fristen_host::{Answer, Call, Date, Parameter};
     use std::collections::HashSet;
@@ -327,7 +335,7 @@ mod tests {
         for row in rows(1, 100 * LOOK) {
             let probes = (0..LOOK).map(|place| (row.probe)(place));
             let whole = probes.filter(|probe| probe.len == Answer::LEN);
-            let expected = whole.map(|probe| original::expected(&probe.question));
+            let expected = whole.map(|probe| (row.expected)(&probe.question));
             let numbers: Vec<u8> =
                 expected.map(|answer| answer.expect("no unknown panic").number()).collect();
             let answered = numbers.iter().filter(|&&number| number == 0).count();

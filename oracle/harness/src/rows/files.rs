@@ -1,7 +1,7 @@
 //! Files of questions: the four operations with the arguments of their single calls, what is no
 //! question, and lengths.
 
-use super::{any, corners, far, instants, vorlauf};
+use super::{any, corners, far, instants, vorlauf, years};
 use crate::instants::to_host;
 use crate::original::{self, Expected};
 use crate::random::Random;
@@ -94,9 +94,16 @@ pub fn rows(seed: u64, random: u64) -> Vec<FileRow> {
         FileRow::random("random, questions of every kind", random / 50, seed, any_file),
         FileRow::random("random, with bits turned", random / 50, seed, short(turned)),
         FileRow::random("random bytes", random / 200, seed, short(any_bytes)),
-        FileRow::random("random, any dates and counts", far(FAR, random), seed, |random| {
-            answered(any_count(random).into())
-        }),
+        FileRow {
+            expected: original::expected_of_record_both_ways,
+            ..FileRow::random("random, any dates and counts", far(FAR, random), seed, |random| {
+                answered(any_count(random).into())
+            })
+        },
+        FileRow {
+            expected: original::expected_of_record_soon,
+            ..FileRow::random("random, through years", random / 500, seed, short(through_years))
+        },
         FileRow::listed("corner arguments", of_calls(corners::corners)),
         FileRow::listed("what is no date", of_calls(no_dates)),
         FileRow::listed("refusals and their order", of_calls(corners::refused)),
@@ -218,6 +225,13 @@ pub fn any_bytes(random: &mut Random) -> Record {
         record[..4].copy_from_slice(&[operation as u8, random.below(codes.into()) as u8, 0, 0]);
     }
     record
+}
+
+/// A question that steps over Werktage through years.
+#[must_use]
+pub fn through_years(random: &mut Random) -> Record {
+    let call = random.one_of(&OPERATIONS[1..]);
+    written(&years::question(call, random), random)
 }
 
 fn any_count(random: &mut Random) -> Record {

@@ -1,6 +1,6 @@
 //! The calls that take an instant: the days of instants, and due instants.
 
-use super::{corners, far, kalender, uhr, vorlauf, Row};
+use super::{both_ways, corners, far, kalender, uhr, vorlauf, Row};
 use crate::days::{self, DAYS};
 use crate::instants::{self, moved, SWITCHES, TOLERANCE_ENDS};
 use crate::original;
@@ -34,7 +34,7 @@ fn of_call(call: Call, seed: u64, random: u64) -> Vec<Row> {
         row("random, any instant", random / 10, any_question),
     ];
     if call.takes(Parameter::Count) && call != Call::AddHours {
-        rows.push(row("random, any count", far(FAR, random), any_count));
+        rows.push(both_ways(row("random, any count", far(FAR, random), any_count)));
         let uncapped = row("random, any count, uncapped", UNCAPPED, any_count);
         rows.push(Row { expected: original::expected_uncapped, ..uncapped });
     }

@@ -1,6 +1,6 @@
 //! The calendar steps and counts.
 
-use super::{far, Row};
+use super::{both_ways, far, Row};
 use crate::days::{self, DAYS};
 use crate::original;
 use crate::random::Random;
@@ -42,7 +42,7 @@ fn random_steps(seed: u64, random: u64) -> Vec<Row> {
         let row = |what, len, question| Row::random(call, what, len, seed, question);
         rows.push(row("random, small counts", random / 4, small_count));
         rows.push(row("random near the edge, any count", random / 20, any_count_near_the_edge));
-        rows.push(row("random, any count", far, any_count));
+        rows.push(both_ways(row("random, any count", far, any_count)));
         rows.push(Row {
             expected: original::expected_uncapped,
             ..row("random, any count, uncapped", UNCAPPED, any_count)
@@ -56,7 +56,7 @@ fn random_steps(seed: u64, random: u64) -> Vec<Row> {
     }
     let between = Call::WerktageBetween;
     rows.push(Row::random(between, "random, within a year", random / 5, seed, pair_within_a_year));
-    rows.push(Row::random(between, "random, any two dates", far, seed, any_pair));
+    rows.push(both_ways(Row::random(between, "random, any two dates", far, seed, any_pair)));
     rows
 }
 

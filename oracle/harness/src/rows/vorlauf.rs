@@ -1,6 +1,6 @@
 //! Verdicts and spans of a shape, and the 13:00 announcement.
 
-use super::{far, kalender, Row};
+use super::{both_ways, far, kalender, Row};
 use crate::days::{self, DAYS};
 use crate::instants::{given, moved, to_host};
 use crate::original;
@@ -13,6 +13,15 @@ use time::macros::time;
 const HOUR: i64 = 3600 * SECOND;
 const SECOND: i64 = 1_000_000_000;
 
+/// Codes of shapes.
+pub(super) const WINDOW: u8 = 1;
+pub(super) const LATEST_AFTER: u8 = 2;
+const EARLIEST_AFTER: u8 = 3;
+pub(super) const KORRIDOR: u8 = 4;
+pub(super) const TAG_VOR_DEM_LETZTEN_WERKTAG: u8 = 5;
+pub(super) const MONATE: u8 = 6;
+pub(super) const MONATE_UND_WERKTAGE: u8 = 7;
+
 pub fn rows(seed: u64, random: u64) -> Vec<Row> {
     /// Where the original walks far, which takes it up to 40 ms for each date.
     const FAR: u64 = 24;
@@ -23,7 +32,8 @@ pub fn rows(seed: u64, random: u64) -> Vec<Row> {
         rows.push(every_date(call, shapes, seed));
         rows.push(row(call, "random, by the ends of spans", random / 10, any_question));
         rows.push(row(call, "random near the edge, any count", random / 20, any_count_by_an_edge));
-        rows.push(row(call, "random, any dates and counts", far(FAR, random), any_count));
+        let any = row(call, "random, any dates and counts", far(FAR, random), any_count);
+        rows.push(both_ways(any));
         let uncapped = row(call, "random, any count, uncapped", UNCAPPED, any_count);
         rows.push(Row { expected: original::expected_uncapped, ..uncapped });
     }
@@ -71,9 +81,6 @@ pub(super) fn any_count(call: Call, random: &mut Random) -> Question {
 
 /// By the edge to which the shape steps first, so that neither side walks far.
 pub(super) fn any_count_by_an_edge(call: Call, random: &mut Random) -> Question {
-    const LATEST_AFTER: u8 = 2;
-    const EARLIEST_AFTER: u8 = 3;
-    const KORRIDOR: u8 = 4;
     let question = any_shape(Question::new(call), random);
     let back = match call {
         Call::VorlaufSpan => matches!(question.code, LATEST_AFTER | KORRIDOR),
@@ -111,11 +118,11 @@ pub(super) fn any_shape(question: Question, random: &mut Random) -> Question {
     };
     let unused = random.number() as u32;
     let (n, n2) = match code {
-        1 if random.below(4) == 0 => (werktage(random), count),
-        1 => (count + werktage(random), count),
-        5 => (unused, unused),
-        6 => (months, unused),
-        7 => (months, count),
+        WINDOW if random.below(4) == 0 => (werktage(random), count),
+        WINDOW => (count + werktage(random), count),
+        TAG_VOR_DEM_LETZTEN_WERKTAG => (unused, unused),
+        MONATE => (months, unused),
+        MONATE_UND_WERKTAGE => (months, count),
         _ => (count, unused),
     };
     Question { code, n, n2, ..question }
@@ -151,7 +158,7 @@ fn with_anchor(question: Question, index: u32) -> Question {
 /// The index of an anchor: by an end of the span that the transmission day has by its words; one in
 /// eight, and all where the span has none, by the transmission day.
 pub(super) fn any_anchor(question: &Question, random: &mut Random) -> u32 {
-    let span = original::expected(&Question { call: Call::VorlaufSpan, ..*question });
+    let span = original::expected_soon(&Question { call: Call::VorlaufSpan, ..*question });
     let span = span.unwrap_or_else(|panic| panic!("{panic}"));
     let end = if span.kind() == 1 && random.below(2) == 0 { span.last_date() } else { span.date() };
     let (centre, around) = match days::given(end) {
@@ -161,12 +168,22 @@ pub(super) fn any_anchor(question: &Question, random: &mut Random) -> u32 {
     (days::index(centre) + random.below(2 * around + 1)).saturating_sub(around).min(DAYS - 1)
 }
 
-/// A transmission at the instant, and an anchor as the beginning of its day; one in six is off by
-/// some hours, a second or a nanosecond.
+/// A transmission at the instant, and an anchor by an end of the span.
 pub(super) fn at_an_instant(instant: Instant, random: &mut Random) -> Question {
     let on_day = Question::on(Call::VorlaufSpan, days::date(day_of(instant, random)));
-    let Question { date, code, n, n2, .. } = any_shape(on_day, random);
-    let anchor = any_anchor(&Question { date, code, n, n2, ..on_day }, random);
+    let shaped = any_shape(on_day, random);
+    let anchor = any_anchor(&shaped, random);
+    begun_at(instant, &shaped, anchor, random)
+}
+
+/// The shape of a question with a transmission at the instant, and the anchor of an index as the
+/// beginning of its day; one in six is off by some hours, a second or a nanosecond.
+pub(super) fn begun_at(
+    instant: Instant,
+    &Question { code, n, n2, .. }: &Question,
+    anchor: u32,
+    random: &mut Random,
+) -> Question {
     let code2 = random.below(2) as u8;
     let sparte = [Sparte::Strom, Sparte::Gas][usize::from(code2)];
     let beginning = to_host(mako_fristen::tagesbeginn_utc(days::day(anchor), sparte));

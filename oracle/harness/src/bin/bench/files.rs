@@ -1,6 +1,6 @@
 //! A day's questions in files of several lengths, beside the single calls and the original.
 
-use crate::{ends, first_of_january, medians, mixed, SHAPES};
+use crate::{ends, first_of_january, medians, mixed, print_row, SHAPES};
 use harness::random::Random;
 use harness::records::{self, CALL, LEN, LONGEST_FILE};
 use harness::{days, instants};
@@ -224,7 +224,6 @@ pub fn print(only: &str) {
     let [.., original] = times;
     for ((name, what), ours) in names.iter().zip(times) {
         let [ours, original] = [ours, original].map(|time| time / QUESTIONS as f64);
-        let ratio = original / ours;
-        println!("{name:36} {what:16} {ours:12.1} {original:12.1} {ratio:8.2}");
+        print_row(name, what, ours, original);
     }
 }

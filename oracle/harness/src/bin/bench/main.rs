@@ -8,7 +8,7 @@ use harness::{days, instants, options};
 use mako_fristen::abmeldung::AbmeldungVorlauf;
 use mako_fristen::antwort::FristShape;
 use mako_fristen::vorlauf::{self, VorlaufShape};
-use mako_fristen::HolidayCalendar::BdewMaKo;
+use mako_fristen::HolidayCalendar::{self, BdewMaKo};
 use mako_fristen::{ContrlAnlass, Sparte};
 use mako_fristen_host::{Answer, Call, Clock, Date, Eeg, Question, Reason, VorlaufShape as Shape};
 use std::hint::black_box;
@@ -19,6 +19,10 @@ use time::{Duration, OffsetDateTime};
 const ROUNDS: usize = 21;
 /// What one measurement takes at least, in nanoseconds.
 const LEAST: f64 = 2e6;
+/// How many different beginnings a step or a count through years has.
+const BEGINNINGS: u16 = 40;
+/// How many of them the original gets, where it walks over a century or more.
+const WALKED: usize = 4;
 
 /// A question, and its dates and its instants as the original takes them.
 struct Input {
@@ -34,7 +38,21 @@ type Pass = Box<dyn Fn(&[Input])>;
 struct Case {
     what: String,
     inputs: Vec<Input>,
-    original: Pass,
+    /// None where the original cannot be asked.
+    original: Option<Pass>,
+    /// How many of the inputs it gets.
+    walked: usize,
+}
+
+impl Case {
+    /// With few inputs for the original, which walks far for each.
+    fn far(self) -> Case {
+        Case { walked: WALKED, ..self }
+    }
+
+    fn without_original(self) -> Case {
+        Case { original: None, ..self }
+    }
 }
 
 /// The question on every pair of dates, and at an instant of the first and the beginning of the
@@ -55,13 +73,14 @@ fn case<T>(
         let question = Question { date, date2, instant, instant2, ..question };
         Input { question, from: days::day(from), to: days::day(to), at, begun }
     };
-    let inputs = pairs.iter().map(input).collect();
+    let inputs: Vec<Input> = pairs.iter().map(input).collect();
     let original = move |inputs: &[Input]| {
         for input in inputs {
             black_box(original(black_box(input)));
         }
     };
-    Case { what: what.to_owned(), inputs, original: Box::new(original) }
+    let walked = inputs.len();
+    Case { what: what.to_owned(), inputs, original: Some(Box::new(original)), walked }
 }
 
 fn cases() -> Vec<Case> {
@@ -79,7 +98,6 @@ fn cases() -> Vec<Case> {
 }
 
 fn calendar(mixed: &[(u32, u32)]) -> Vec<Case> {
-    let decades: Vec<(u32, u32)> = (2016..2046).map(ten_years_from).collect();
     let new = Question::new;
     let mut cases = vec![
         case(new(Call::IsWerktag), "day test", mixed, |i| {
@@ -89,21 +107,11 @@ fn calendar(mixed: &[(u32, u32)]) -> Vec<Case> {
             mako_fristen::next_werktag(i.from, BdewMaKo)
         }),
     ];
-    for n in [1, 5, 20, 61] {
-        let (question, what) = (new(Call::AddWerktage).with_count(n), format!("by {n}"));
-        cases.push(case(question, &what, mixed, |i| {
-            mako_fristen::add_werktage(i.from, i.question.n, BdewMaKo)
-        }));
-    }
-    for n in [1, 5, 20, 61] {
-        let (question, what) = (new(Call::SubWerktage).with_count(n), format!("by {n}"));
-        cases.push(case(question, &what, mixed, |i| {
-            mako_fristen::sub_werktage(i.from, i.question.n, BdewMaKo)
-        }));
-    }
-    cases.push(case(new(Call::WerktageBetween), "over ten years", &decades, |i| {
-        mako_fristen::werktage_between(i.from, i.to, BdewMaKo)
-    }));
+    cases.extend(steps(Call::AddWerktage, mixed, 1996, mako_fristen::add_werktage));
+    let refused = step(Call::AddWerktage, u32::MAX, &spread(1996, 80, 0), |from, _, _| from);
+    cases.push(refused.without_original());
+    cases.extend(steps(Call::SubWerktage, mixed, 2820, mako_fristen::sub_werktage));
+    cases.extend(counts());
     cases.push(case(new(Call::AddMonths).with_count(7), "by 7", mixed, |i| {
         mako_fristen::add_months(i.from, i.question.n)
     }));
@@ -111,6 +119,33 @@ fn calendar(mixed: &[(u32, u32)]) -> Vec<Case> {
         mako_fristen::subtract_months(i.from, i.question.n)
     }));
     cases
+}
+
+type Step = fn(time::Date, u32, HolidayCalendar) -> time::Date;
+
+/// Far steps begin in the eighty years from the first on, so that they stay inside.
+fn steps(call: Call, mixed: &[(u32, u32)], first: u16, original: Step) -> Vec<Case> {
+    let near = [1, 5, 20, 61].map(|n| step(call, n, mixed, original));
+    let years = [250, 2_500].map(|n| step(call, n, &spread(2016, 40, 0), original));
+    let far = step(call, 200_000, &spread(first, 80, 0), original).far();
+    near.into_iter().chain(years).chain([far]).collect()
+}
+
+fn step(call: Call, n: u32, pairs: &[(u32, u32)], original: Step) -> Case {
+    let question = Question::new(call).with_count(n);
+    case(question, &format!("by {n}"), pairs, move |i| original(i.from, i.question.n, BdewMaKo))
+}
+
+fn counts() -> Vec<Case> {
+    let over = |years: u16, first, beginnings| {
+        let what = if years == 1 { "over 1 year" } else { &format!("over {years} years") };
+        let pairs = spread(first, beginnings, years);
+        case(Question::new(Call::WerktageBetween), what, &pairs, |i| {
+            mako_fristen::werktage_between(i.from, i.to, BdewMaKo)
+        })
+    };
+    let near = [over(1, 2016, 40), over(10, 2016, 40)];
+    near.into_iter().chain([over(100, 2016, 40).far(), over(900, 1996, 4).far()]).collect()
 }
 
 fn clocks(mixed: &[(u32, u32)]) -> Vec<Case> {
@@ -320,8 +355,15 @@ fn span(first: u16, last: u16) -> Vec<(u32, u32)> {
     (from..to).map(|index| (index, index)).collect()
 }
 
-fn ten_years_from(year: u16) -> (u32, u32) {
-    (first_of_january(year), first_of_january(year + 10))
+/// Days of so many years from the first on, spread over the year, each with the same day so many
+/// years later.
+fn spread(first: u16, years: u16, later: u16) -> Vec<(u32, u32)> {
+    let beginning = |place: u16| {
+        let year = first + place * years / BEGINNINGS;
+        let day_of_year = u32::from(place * (365 / BEGINNINGS));
+        (first_of_january(year) + day_of_year, first_of_january(year + later) + day_of_year)
+    };
+    (0..BEGINNINGS).map(beginning).collect()
 }
 
 fn first_of_january(year: u16) -> u32 {
@@ -361,9 +403,16 @@ fn median(mut times: Vec<f64>) -> f64 {
 }
 
 /// Nanoseconds of one call, ours and the original's.
-fn measured(case: &Case) -> [f64; 2] {
-    let times = medians([&|| ours(&case.inputs), &|| (case.original)(&case.inputs)]);
-    times.map(|time| time / case.inputs.len() as f64)
+fn measured(case: &Case) -> (f64, Option<f64>) {
+    let Case { inputs, original, walked, .. } = case;
+    let per = |time: f64, inputs: &[Input]| time / inputs.len() as f64;
+    let Some(original) = original else {
+        let [time] = medians([&|| ours(inputs)]);
+        return (per(time, inputs), None);
+    };
+    let walked = &inputs[..*walked];
+    let [ours, original] = medians([&|| ours(inputs), &|| original(walked)]);
+    (per(ours, inputs), Some(per(original, walked)))
 }
 
 /// Nanoseconds of one pass of each side. They take turns, and each first does as many passes that are
@@ -405,6 +454,11 @@ fn floor() -> f64 {
     median((0..ROUNDS).map(|_| time_of(&pass, passes)).collect()) / f64::from(CALLS)
 }
 
+fn print_row(name: &str, what: &str, ours: f64, original: f64) {
+    let ratio = original / ours;
+    println!("{name:36} {what:16} {ours:12.1} {original:12.1} {ratio:8.2}");
+}
+
 fn main() {
     options::only(&["--only"]);
     let only: String = options::option("--only", String::new());
@@ -412,7 +466,13 @@ fn main() {
     println!(
         "Ours checks its numbers and writes 32 bytes; the original has its dates made before."
     );
-    println!("Dates are all days of 2020 to 2030, mixed; of ten years, 30 different beginnings.");
+    println!(
+        "Dates are all days of 2020 to 2030, mixed; by 250 Werktage and more and over years, 40"
+    );
+    println!(
+        "days spread over the year, of which the original gets 4 by 200000 and over 100 years"
+    );
+    println!("and 900. By 4294967295 ours refuses; the original would walk to the year 9999.");
     println!(
         "Instants are one of each day. The original's times with a clock or an instant are with"
     );
@@ -428,9 +488,10 @@ fn main() {
         if !format!("{name} {what}").contains(&only) {
             continue;
         }
-        let [ours, original] = measured(&case);
-        let ratio = original / ours;
-        println!("{name:36} {what:16} {ours:12.1} {original:12.1} {ratio:8.2}");
+        match measured(&case) {
+            (ours, Some(original)) => print_row(name, what, ours, original),
+            (ours, None) => println!("{name:36} {what:16} {ours:12.1}"),
+        }
     }
     files::print(&only);
     println!("{:53} {:12.1}", "a call that only fills 32 bytes", floor());
