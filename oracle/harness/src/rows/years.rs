@@ -30,7 +30,8 @@ const SECOND: i64 = 1_000_000_000;
 pub fn rows(seed: u64, random: u64) -> Vec<Row> {
     let mut rows = vec![counts_of_every_date(seed), counts_by_days_of_note()];
     for call in [Call::AddWerktage, Call::SubWerktage] {
-        rows.extend([every_date(call, seed), whole_years(call), to_the_ends_of_years(call)]);
+        rows.extend([every_date(call, seed), whole_years(call)]);
+        rows.extend([to_the_ends_of_years(call), to_the_edge(call)]);
     }
     rows.push(spans_of_every_date(seed));
     for call in [Call::AddWerktage, Call::SubWerktage, Call::WerktageBetween] {
@@ -179,6 +180,15 @@ fn to_the_ends_of_years(call: Call) -> Row {
     }
     Row::new(call, "to the ends of every year", steps.len() as u64, move |place| {
         let (from, n) = steps[place as usize];
+        Question::on(call, days::date(from)).with_count(n)
+    })
+}
+
+/// Every date to the last Werktag before the edge, and past it.
+fn to_the_edge(call: Call) -> Row {
+    Row::new(call, "every date, to the edge and past it", 2 * u64::from(DAYS), move |place| {
+        let from = (place / 2) as u32;
+        let n = werktage_to(edge(call), from, call) + (place % 2) as u32;
         Question::on(call, days::date(from)).with_count(n)
     })
 }
