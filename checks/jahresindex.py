@@ -11,6 +11,7 @@ of the definitions.
 import datetime
 import re
 import sys
+from functools import cache
 from itertools import accumulate
 from pathlib import Path
 
@@ -47,6 +48,7 @@ def werktage(year):
     return sum(day.year == year and day.weekday() < 5 and day not in closed for day in days)
 
 
+@cache
 def entries():
     """For each year from 1996 to 2900 the Werktage before its 1 January."""
     return list(accumulate((werktage(year) for year in range(FIRST_YEAR, LAST_YEAR + 1)), initial=0))
