@@ -202,7 +202,7 @@ BAD = [
     ("fragen", "half a record is answered", PROGRAM, put("% 32", "% 1"), "33 bytes: writes"),
     ("fragen", "a file too long is answered", PROGRAM, put("65536", "65568"), "65568 bytes: writes"),
     ("fragen", "what cannot be read is answered", PROGRAM, put('b"?"', 'b"?" * 32'), "cannot be read"),
-    ("jahresindex", "an entry one too high", TABLE, put(" 217118,", " 217119,"), "lib.rt: 217119 Werktage before"),
+    ("jahresindex", "an entry one too high", TABLE, put(" 217118,", " 217119,"), "tabelle.rt: 217119 Werktage before"),
     ("jahresindex", "one in the proofs", ENTRIES, put(" 217118 ", " 217119 "), "Entries.antt: 217119"),
     ("jahresindex", "an entry too few", TABLE, without("    222031,\n"), "904 entries"),
     ("jahresindex", "no table", TABLE, gone, TABLE),

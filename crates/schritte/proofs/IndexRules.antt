@@ -67,7 +67,31 @@ module _ (cal : HolidayCalendar) where
       let l = yearLen-bounds 0 in
       omega (arith, weeks-few cal 0 0 (omega arith) (omega arith), count-among w 0 1, count-none w)
 
+  -- the Werktage up to any day of a year
+  module _
+      (k n b m : ℕ) (h : k ≤ 903) (g : n ≤ yearLen k) (e : b ≡ count w (yearStart k))
+      (u : m ≡ among w (yearStart k) n) where
+    sum-is : b + m ≡ count w (yearStart k + n)
+    sum-is = omega (arith, count-among w (yearStart k) n)
+
+    pub sum-most : b + m ≤ werktage
+    sum-most =
+        let s = start-mono yearLen (suc k) 904 (omega arith) in
+        omega (arith, sum-is, at-most-all (yearStart k + n) (omega (arith, start-suc yearLen k, start-all)))
+
+    pub sum-fits : Fits w32 (b + m)
+    sum-fits = record { fits = omega (arith, sum-most) }
+
+    pub sum-at : (day : ℕ) → yearStart k + n ≡ day → b + m ≡ count w day
+    sum-at day q = sum-is ∙ ap (count w) q
+
   module _ (day k r : ℕ) (h : day ≤ last) (p : k ≡ yearOf day .0) (q : r ≡ yearOf day .1) where
+    pub day-at : yearStart k + r ≡ day
+    day-at = at-year day k r h p q .0
+
+    pub next-at : yearStart k + (r + 1) ≡ suc day
+    next-at = omega (arith, day-at)
+
     pub in-year : r ≤ yearLen k
     in-year = omega (arith, at-year day k r h p q)
 
@@ -75,31 +99,7 @@ module _ (cal : HolidayCalendar) where
     next-in-year = omega (arith, at-year day k r h p q)
 
     pub next-fits : Fits w32 (r + 1)
-    next-fits = record { fits = omega (arith, at-year day k r h p q, yearLen-bounds k) }
-
-    module _ (b m : ℕ) (e : b ≡ count w (yearStart k)) where
-      pub before-day : m ≡ among w (yearStart k) r → b + m ≡ count w day
-      before-day u =
-          let x = ap (count w) (at-year day k r h p q .0) in
-          omega (arith, count-among w (yearStart k) r)
-
-      pub before-most : m ≡ among w (yearStart k) r → b + m ≤ werktage
-      before-most u = omega (arith, before-day u, at-most-all day (omega arith))
-
-      pub with-day : m ≡ among w (yearStart k) (r + 1) → b + m ≡ count w (suc day)
-      with-day u =
-          let o : yearStart k + (r + 1) ≡ suc day = omega (arith, at-year day k r h p q) in
-          let x = ap (count w) o in
-          omega (arith, count-among w (yearStart k) (r + 1))
-
-      pub with-most : m ≡ among w (yearStart k) (r + 1) → b + m ≤ werktage
-      with-most u = omega (arith, with-day u, at-most-all (suc day) (omega arith))
-
-      pub before-fits : m ≡ among w (yearStart k) r → Fits w32 (b + m)
-      before-fits u = record { fits = omega (arith, before-most u) }
-
-      pub with-fits : m ≡ among w (yearStart k) (r + 1) → Fits w32 (b + m)
-      with-fits u = record { fits = omega (arith, with-most u) }
+    next-fits = record { fits = omega (arith, next-in-year, yearLen-bounds k) }
 
   module _
       (n k b : ℕ) (h : k ≤ 903) (e : b ≡ count w (yearStart k)) (l : b < n)
@@ -212,8 +212,7 @@ module _ (x s : Step) (p : s ≡ x) where
 
 pub ruleset same-rules = (same-day, same-outside)
 
-pub ruleset day-rules =
-    (in-year, next-in-year, next-fits, before-day, before-most, before-fits, with-day, with-most, with-fits)
+pub ruleset day-rules = (sum-most, sum-fits, sum-at, day-at, next-at, in-year, next-in-year, next-fits)
 
 pub ruleset nth-rules = (all-of, rest-few, days-few, days-in, fewer, fewer-by, guess-in, nth-is)
 
