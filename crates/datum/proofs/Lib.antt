@@ -4,6 +4,7 @@ pub mod RoundTrip
 pub mod Signed
 pub mod FloorLaws
 pub mod Rules
+pub mod TagRules
 pub mod MonthRules
 pub mod Months
 pub mod MonthStepRules

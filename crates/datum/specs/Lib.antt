@@ -3,3 +3,4 @@ pub mod Floor
 pub mod MonthShift
 pub mod Monate
 pub mod Inside
+pub mod Tage

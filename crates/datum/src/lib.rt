@@ -12,6 +12,7 @@ ghost use Rattle.datum.specs.Floor.{floorDiv, floorMod};
 ghost use Rattle.datum.specs.MonthShift.{ordinalOf, inMonth, onMonth, addMonths, subtractMonths};
 
 pub mod monate;
+pub mod tage;
 
 /// The calendar's first year and its last.
 pub const FIRST_YEAR: u16 = 1996;
@@ -33,6 +34,9 @@ const LAST_YEAR_64: i64 = LAST_YEAR as i64;
 
 /// Every month has these days: a date with no later day needs no look at its month's length.
 const SHORTEST_MONTH: u8 = 28;
+
+/// The days of December.
+const DECEMBER_DAYS: u8 = 31;
 
 /// The days of February in a leap year.
 const LEAP_FEBRUARY: u8 = SHORTEST_MONTH + 1;
