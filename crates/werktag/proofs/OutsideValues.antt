@@ -1,19 +1,22 @@
 -- The list's definitions against values from outside: Easter Sundays of published tables (Physikalisch-Technische
 -- Bundesanstalt; the earliest and the latest possible date among them), days whose holidays of 2026 are published, the
--- calendar's first and last Werktag, and a day for each reason.
+-- calendar's first and last Werktag, a day for each reason, and the feasts by Easter as built dates and as distances.
 -- Assumes nothing.
 use Prim.Native.Nat.{ℕ}
 use mathlib.Core.Bool.{Bool, true, false}
 use mathlib.Core.List.{[], _∷_}
 use mathlib.Core.Path.{_≡_, refl}
+use lib.IntN.{pos, negℤ}
+use lib.ListN.{getD}
 use Rattle.zaehlung.specs.Blocks.{start, at}
 use Rattle.datum.specs.declared.Date.{Date}
-use Rattle.datum.specs.Calendar.{isLeap, yearLen, daysInMonth, dateIn, daysBefore}
+use Rattle.datum.specs.Calendar.{isLeap, yearLen, daysInMonth, dateIn, dateOf, daysBefore}
 use Rattle.werktag.specs.declared.HolidayCalendar.the-variants.{BdewMaKo}
 use Rattle.werktag.specs.Easter.{easterSunday, easterIndex}
 use Rattle.zaehlung.specs.Lists.{any}
 use Rattle.werktag.specs.Werktag.{isFixed, isBussUndBettag, isEasterFeast, isWerktagIn, isWerktag}
 use Rattle.werktag.specs.Reason.{placeFrom, reason}
+use Rattle.werktag.specs.Built.{builtDates, distance, reasonByBuilt, reasonByDistance}
 
 abbrev on : ℕ → ℕ → ℕ → Date
 on y m d = record { year = y; month = m; day = d }
@@ -76,3 +79,39 @@ pub precedence :
     ∷ 2 ∷ 2 ∷ 1 ∷ 6 ∷ []
 unfolding reason placeFrom isBussUndBettag easterIndex easterSunday dateIn at start yearLen daysInMonth isLeap
 precedence = refl
+
+-- 2026: Karfreitag 3 April, Ostermontag 6 April, Christi Himmelfahrt 14 May, Pfingsten 24 and 25 May, Fronleichnam 4
+-- June; 2008: Christi Himmelfahrt 1 May
+pub built :
+    builtDates 2026 ≡ on 2026 4 3 ∷ on 2026 4 6 ∷ on 2026 5 14 ∷ on 2026 5 24 ∷ on 2026 5 25 ∷ on 2026 6 4 ∷ []
+unfolding builtDates easterSunday dateOf dateIn at start yearLen daysInMonth isLeap
+built = refl
+
+pub himmelfahrt-2008 : getD (builtDates 2008) 2 (easterSunday 2008) ≡ on 2008 5 1
+unfolding builtDates easterSunday dateOf dateIn at start yearLen daysInMonth isLeap
+himmelfahrt-2008 = refl
+
+-- Karfreitag 2026, Easter Sunday and the Tuesday after it; then Christi Himmelfahrt 2008
+pub distances :
+    distance (on 2026 4 3) ∷ distance (on 2026 4 5) ∷ distance (on 2026 4 7) ∷ distance (on 2008 5 1) ∷ []
+    ≡ negℤ (pos 2) ∷ pos 0 ∷ pos 2 ∷ pos 39 ∷ []
+unfolding distance easterIndex easterSunday start yearLen daysInMonth isLeap
+distances = refl
+
+-- the reasons of Karfreitag, of the Tuesday after Easter, of Pfingstsonntag and of Fronleichnam 2026, and of 1 May 2008
+pub reasons-built :
+    reasonByBuilt (on 2026 4 3) ∷ reasonByBuilt (on 2026 4 7) ∷ reasonByBuilt (on 2026 5 24)
+    ∷ reasonByBuilt (on 2026 6 4) ∷ reasonByBuilt (on 2008 5 1) ∷ []
+    ≡ 17 ∷ 0 ∷ 2
+    ∷ 22 ∷ 6 ∷ []
+unfolding reasonByBuilt placeFrom isBussUndBettag builtDates easterSunday dateOf dateIn at start yearLen daysInMonth
+    isLeap
+reasons-built = refl
+
+pub reasons-distant :
+    reasonByDistance (on 2026 4 3) ∷ reasonByDistance (on 2026 4 7) ∷ reasonByDistance (on 2026 5 24)
+    ∷ reasonByDistance (on 2026 6 4) ∷ reasonByDistance (on 2008 5 1) ∷ []
+    ≡ 17 ∷ 0 ∷ 2
+    ∷ 22 ∷ 6 ∷ []
+unfolding reasonByDistance placeFrom isBussUndBettag distance easterIndex easterSunday start yearLen daysInMonth isLeap
+reasons-distant = refl

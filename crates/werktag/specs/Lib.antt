@@ -1,3 +1,4 @@
 pub mod Easter
 pub mod Werktag
 pub mod Reason
+pub mod Built
