@@ -39,7 +39,7 @@ fn year_numbers(k: u32) -> Year
 {
     let year = datum::FIRST_YEAR + (k as u16);
     let start = datum::year_start(k);
-    let easter = datum::days_before(werktag::easter_sunday(year)) - start;
+    let easter = werktag::easter_sunday(year) - start;
     let first = datum::weekday(start);
     if datum::is_leap(year) {
         return Year {

@@ -3,6 +3,8 @@
 --   enough, room       the difference under l does not go below 0
 --   n-bounds           n lies from 114 to 149, so the date from 22 March to 26 April
 --   easter-valid       Easter Sunday is a date of the range
+--   number y           = n, from the year y
+--   easter-number      Easter Sunday lies n - 93 days after 1 March
 --   dayIn l m d        = day d of month m as a day of the year, from 0 on
 --   easterIn y         = Easter Sunday of the year y, the same
 --   easter-is          its index, by the year's start
@@ -18,14 +20,16 @@ use mathlib.Core.Path.{_≡_, refl, ap, subst}
 use native.Mathlib.Omega.{arith}
 use lib.Dec.{eqb, leb}
 use borrow.Author.Tests.{eqb-true, leb-true}
-use mir.Syntax.{w8}
+use mir.Syntax.{w32}
 use mir.Val.{Fits}
+use Rattle.zaehlung.specs.Walk.{last}
 use Rattle.zaehlung.specs.Blocks.{start}
+use Rattle.zaehlung.proofs.BlockLaws.{start-suc}
 use Rattle.zaehlung.proofs.Every.{run, run-at}
 use Rattle.datum.specs.declared.Date.{Date}
-use Rattle.datum.specs.Calendar.{isDate, isLeap, daysInMonth, monthStart, yearStart, weekday}
+use Rattle.datum.specs.Calendar.{isDate, isLeap, daysInMonth, monthStart, yearStart, daysBefore, weekday}
 use Rattle.zaehlung.proofs.Tests.{and-left, and-right}
-use Rattle.datum.proofs.Dates.{Valid, is-valid}
+use Rattle.datum.proofs.Dates.{Valid, valid-is, is-valid, index-below}
 use Rattle.datum.proofs.Rules.{start-is}
 use Rattle.werktag.specs.Easter.{easterSunday, easterIndex}
 
@@ -50,15 +54,6 @@ n a h l = h + l + 114 - 7 * ((a + 11 * h + 22 * l) / 451)
 
 n-bounds : (a h l : ℕ) → a < 19 → h < 30 → l < 7 → (114 ≤ n a h l) × (n a h l ≤ 149)
 n-bounds a h l p q r = (omega arith, omega arith)
-
-pub month-fits : (a h l : ℕ) → Fits w8 (n (a % 19) (h % 30) (l % 7) / 31)
-month-fits a h l =
-    let b = n-bounds (a % 19) (h % 30) (l % 7) (below-19 a) (below-30 h) (below-7 l) in
-    let e : n (a % 19) (h % 30) (l % 7) / 31 ≤ 149 = small (n (a % 19) (h % 30) (l % 7)) (b .1) in
-    record { fits = omega arith }
-  where
-    small : (x : ℕ) → x ≤ 149 → x / 31 ≤ 149
-    small x h = omega arith
 
 days : (l : Bool) → (daysInMonth l 3 ≡ 31) × (daysInMonth l 4 ≡ 30)
 unfolding daysInMonth
@@ -105,6 +100,73 @@ easter-valid y d p q e =
     let l = (32 + 2 * (b % 4) + 2 * (c / 4) - h - c % 4) % 7 in
     let k = n-bounds a h l (below-19 y) (below-30 _) (below-7 _) in
     rw e (is-valid _ (dated y (n a h l) p q (k .0) (k .1)))
+
+abbrev pub number : ℕ → ℕ
+number y =
+    let a = y % 19 in
+    let b = y / 100 in
+    let c = y % 100 in
+    let h = (19 * a + b - b / 4 - (b - (b + 8) / 25 + 1) / 3 + 15) % 30 in
+    let l = (32 + 2 * (b % 4) + 2 * (c / 4) - h - c % 4) % 7 in
+    n a h l
+
+number-bounds : (y : ℕ) → (114 ≤ number y) × (number y ≤ 149)
+number-bounds y = n-bounds (y % 19) _ _ (below-19 y) (below-30 _) (below-7 _)
+
+pub number-from : (y : ℕ) → 93 ≤ number y
+number-from y = more (number y) (number-bounds y .0)
+  where
+    more : (x : ℕ) → 114 ≤ x → 93 ≤ x
+    more x h = omega arith
+
+sum-fits : (s x : ℕ) → s ≤ last → x ≤ 149 → Fits w32 (s + (x - 93))
+sum-fits s x g h = record { fits = omega arith }
+
+abbrev march : ℕ → Date
+march y = record { year = y; month = 3; day = 1 }
+
+-- March has 31 days, so the date with n of March or of April lies n - 93 days after the first of March
+after-march :
+    (y x : ℕ) → 114 ≤ x → x ≤ 149 →
+    daysBefore (march y) + (x - 93) ≡ daysBefore (record { year = y; month = x / 31; day = x % 31 + 1 })
+after-march y x p q = go (x / 31) refl
+  where
+    go :
+        (m : ℕ) → x / 31 ≡ m →
+        daysBefore (march y) + (x - 93) ≡ daysBefore (record { year = y; month = m; day = x % 31 + 1 })
+    go zero e = absurd (omega arith)
+    go (suc zero) e = absurd (omega arith)
+    go (suc (suc zero)) e = absurd (omega arith)
+    go (suc (suc (suc zero))) e = omega arith
+    go (suc (suc (suc (suc zero)))) e =
+        omega (arith, start-suc (daysInMonth (isLeap y)) 3, days (isLeap y))
+    go (suc (suc (suc (suc (suc m))))) e = absurd (omega arith)
+
+module _ (y : ℕ) (p : 1996 ≤ y) (q : y ≤ 2899) where
+  pub march-valid : isDate (march y) ≡ true
+  march-valid =
+      is-valid (march y)
+      (record {
+        from = p;
+        to = q;
+        month-from = omega arith;
+        month-to = omega arith;
+        day-from = omega arith;
+        day-to = omega (arith, days (isLeap y));
+      })
+
+  module _ (s : ℕ) (e : s ≡ daysBefore (march y)) (g : s ≤ last) where
+    pub number-fits : Fits w32 (s + (number y - 93))
+    number-fits = sum-fits s (number y) g (number-bounds y .1)
+
+    pub easter-number : (s + (number y - 93) ≡ easterIndex y) × (s + (number y - 93) ≤ last)
+    unfolding easterIndex easterSunday
+    easter-number =
+        let b = number-bounds y in
+        let z = after-march y (number y) (b .0) (b .1) in
+        let v = valid-is (easterSunday y) (easter-valid y (easterSunday y) p q refl) in
+        let i = index-below (easterSunday y) v in
+        (rw e z, omega (arith, z))
 
 abbrev pub dayIn : Bool → ℕ → ℕ → ℕ
 dayIn l m d = monthStart l m + (d - 1)

@@ -1,12 +1,13 @@
 -- What the proofs of this crate's functions cite: a lemma for each return and each turn of a loop, with premises in the
 -- form in which they stand there.
 -- Assumes nothing.
-use Prim.Native.Nat.{ℕ, suc, _+_, _-_, _≤_, _<_}
-use mathlib.Core.Bool.{Bool, true, false, _&&_}
-use mathlib.Core.List.{List, [], _∷_, map}
-use mathlib.Core.Path.{_≡_, refl, sym, ap, _∙_}
+use Prim.Native.Nat.{ℕ, suc, _+_, _-_, _/_, _%_, _^_, _≤_, _<_}
+use mathlib.Core.Bool.{Bool, true, false, not, _&&_}
+use mathlib.Core.List.{List, [], _∷_, map, sum}
+use mathlib.Core.Path.{_≡_, refl, sym, ap, subst, _∙_}
 use native.Mathlib.Omega.{arith}
-use lib.Dec.{eqb, leb}
+use native.Mathlib.Decide.{decLt}
+use lib.Dec.{T, eqb, leb}
 use lib.IntN.{ℤ, pos, negsuc, _-ℤ_}
 use lib.ListN.{getD, drop}
 use borrow.Author.Tests.{eqb-true, eq-eqb, ne-eqb, leb-true, le-leb, lt-leb}
@@ -16,37 +17,76 @@ use mir.Facts.{toZ-ofZ}
 use Rattle.zaehlung.specs.Walk.{last}
 use Rattle.zaehlung.specs.Blocks.{start}
 use Rattle.datum.specs.declared.Date.{Date}
+use Rattle.datum.specs.declared.tage.Tag.{Tag}
 use Rattle.datum.specs.Calendar.{isLeap, daysInMonth, monthStart, dateOf, daysBefore, weekday}
+use Rattle.datum.specs.Tage.{tagAt}
+use Rattle.zaehlung.specs.Lists.{any}
 use Rattle.zaehlung.proofs.BlockLaws.{start-suc, start-mono}
 use Rattle.zaehlung.proofs.Every.{run, run-at}
 use Rattle.zaehlung.proofs.Tests.{and-left, and-right, and-no}
-use Rattle.datum.proofs.Dates.{Valid, index-date}
+use Rattle.datum.proofs.Dates.{Valid, len-le}
+use Rattle.datum.proofs.TagRules.{tag-date}
 use Rattle.datum.proofs.Signed.{back, pos-fits, neg-fits, back-pos, sub-pos, sub-neg, sub-fits, same-bits}
 use Rattle.werktag.specs.declared.HolidayCalendar.{HolidayCalendar}
 use Rattle.werktag.specs.declared.HolidayCalendar.the-variants.{BdewMaKo}
-use Rattle.werktag.specs.Easter.{easterSunday, easterIndex}
-use Rattle.werktag.specs.Werktag.{eqZ, fixedDays, isDay, isBussUndBettag, easterOffsets, isWerktag}
-use Rattle.werktag.specs.Reason.{placeFrom, weekendTests, fixedTests, feastTests, holidayTests, reason}
-use Rattle.werktag.proofs.Place.{place-hit, place-miss, place-none, place-left, place-right, map-at}
+use Rattle.werktag.specs.Easter.{easterIndex, easterFor}
+use Rattle.werktag.specs.Werktag.{eqZ, fixedDays, isDay, isFixed, isBussUndBettag, easterOffsets, isWerktag}
+use Rattle.werktag.specs.Reason.{placeFrom, weekendTests, fixedTests, fixedBits, feastTests, holidayTests, reason}
+use Rattle.werktag.proofs.Place.{place-hit, place-miss, place-none, place-left, place-right, place-zero, map-at}
 use Rattle.werktag.proofs.Easter.{easter-between}
-use Rattle.werktag.proofs.Reasons.{reason-is, reason-zero}
+use Rattle.werktag.proofs.Reasons.{reason-is, reason-zero, saturday-gives, sunday-gives}
 use Rattle.werktag.proofs.Signed.{eq-eqZ, ne-eqZ, from-distance}
 
--- weekend: w is what `datum::weekday` returned
-module _ (i w : ℕ) (e : w ≡ weekday i) where
-  pub no-weekend : w < 5 → 0 ≡ placeFrom 1 (weekendTests i)
-  unfolding placeFrom
-  no-weekend h = rw (← e, ne-eqb w 5 (λ q. omega arith), ne-eqb w 6 (λ q. omega arith))
+-- fixed_bits: a month that has fixed days, and one that has none
+pub month-bits : (m k x : ℕ) → m ≡ k → x ≡ fixedBits k → x ≡ fixedBits m
+month-bits m k x e q = q ∙ ap fixedBits (sym e)
 
-  pub on-saturday : w ≡ 5 → 1 ≡ placeFrom 1 (weekendTests i)
-  unfolding placeFrom
-  on-saturday h = rw (← e, eq-eqb w 5 h)
+-- x is none of a list's numbers, the last of them first
+abbrev NoneOf : ℕ → List ℕ → Type 0
+NoneOf x [] = Unit {0}
+NoneOf x (k ∷ ks) = NoneOf x ks × (x ≡ k → ⊥)
 
-  pub on-sunday : 5 ≤ w → (w ≡ 5 → ⊥) → 2 ≡ placeFrom 1 (weekendTests i)
-  unfolding placeFrom
-  on-sunday h n =
-      let q : w ≡ 6 = omega (arith, n) in
-      rw (← e, ne-eqb w 5 n, eq-eqb w 6 q)
+pub no-bits : (m : ℕ) → NoneOf m (12 ∷ 11 ∷ 10 ∷ 9 ∷ 8 ∷ 5 ∷ 3 ∷ 1 ∷ []) → 0 ≡ fixedBits m
+unfolding fixedBits sum
+no-bits m (((((((((u, a), b), c), d), e), f), g), h)) =
+    rw (
+      ne-eqb 1 m (λ q. a (sym q)),
+      ne-eqb 3 m (λ q. b (sym q)),
+      ne-eqb 5 m (λ q. c (sym q)),
+      ne-eqb 8 m (λ q. d (sym q)),
+      ne-eqb 9 m (λ q. e (sym q)),
+      ne-eqb 10 m (λ q. f (sym q)),
+      ne-eqb 11 m (λ q. g (sym q)),
+      ne-eqb 12 m (λ q. h (sym q)),
+    )
+
+-- has_fixed_day: a bit of the month is the list's word on the day, for every month and day
+agree : Bool → Bool → Bool
+agree true b = b
+agree false b = not b
+
+agree-is : (a b : Bool) → agree a b ≡ true → a ≡ b
+unfolding agree
+agree-is true true t = refl
+agree-is true false t = sym t
+agree-is false true t = t
+agree-is false false t = refl
+
+abbrev bit-of : ℕ → ℕ → Bool
+bit-of m d = eqb (fixedBits m / 2 ^ d % 2) 1
+
+bits-agree : ℕ → ℕ → Bool
+bits-agree m d = agree (bit-of m d) (isFixed m d)
+
+all-agree : run (λ m. run (bits-agree m) 32 0) 13 0 ≡ true
+unfolding run bits-agree agree fixedBits sum isFixed any
+all-agree = refl
+
+pub by-bit : (m d x : ℕ) → m ≤ 12 → d ≤ 31 → x ≡ fixedBits m → eqb (x / 2 ^ d % 2) 1 ≡ isFixed m d
+unfolding bits-agree
+by-bit m d x a b e =
+    let t = run-at (λ m. run (bits-agree m) 32 0) 13 0 all-agree m (omega arith) (omega arith) in
+    rw e (agree-is (bit-of m d) (isFixed m d) (run-at (bits-agree m) 32 0 t d (omega arith) (omega arith)))
 
 -- fixed_day: the two tables are the months and the days of the definition's list, place by place
 abbrev pub months : List ℕ
@@ -165,7 +205,23 @@ module _ (n : ℕ) (z : ℤ) (i : ℕ) (f : SFits w64 z)
   pub offset-none : 6 ≤ i → 0 ≡ placeFrom n (feasts z)
   offset-none h = place-none (feasts (back z)) n i e h ∙ at-z
 
--- easter_feast: the feasts by their distance from Easter, and where there is none
+-- easter_for
+module _ (y m : ℕ) where
+  pub easter-early : m < 3 → last + 3 ≡ easterFor y m
+  unfolding easterFor
+  easter-early a = rw (lt-leb 3 m a)
+
+  pub easter-late : 3 ≤ m → 6 < m → last + 3 ≡ easterFor y m
+  unfolding easterFor
+  easter-late a b = rw (le-leb 3 m a, lt-leb m 6 b)
+
+  pub easter-known : (r : ℕ) → 3 ≤ m → m ≤ 6 → r ≡ easterIndex y → r ≡ easterFor y m
+  unfolding easterFor
+  easter-known r a b e = rw (le-leb 3 m a, le-leb m 6 b) e
+
+pub ruleset easter-rules = (easter-early, easter-late, easter-known)
+
+-- bdew_mako_holiday: the feasts by their distance from Easter, and where there is none
 by-distance : (i y : ℕ) → feasts (pos i -ℤ pos (easterIndex y)) ≡ feastTests i y
 by-distance i y = simp (from-distance (pos i) (pos (easterIndex y)))
 
@@ -194,19 +250,46 @@ module _ (n i y : ℕ) where
         ne-eqb (i - e) 60 (λ q. omega arith),
       ))
 
+-- where the tables hold a day, they have a place for it
+place-of-fixed : (m d : ℕ) → eqb (placeFrom 3 (fixedTests m d)) 0 ≡ not (isFixed m d)
+unfolding isFixed any
+place-of-fixed m d = place-zero 3 (fixedTests m d) (omega arith)
+
+has-place : (m d : ℕ) → isFixed m d ≡ true → placeFrom 3 (fixedTests m d) ≡ 0 → ⊥
+has-place m d t e =
+    let c : true ≡ false = sym (eq-eqb (placeFrom 3 (fixedTests m d)) 0 e) ∙ place-of-fixed m d ∙ ap not t in
+    subst T c tt
+
+no-place : (m d : ℕ) → isFixed m d ≡ false → placeFrom 3 (fixedTests m d) ≡ 0
+no-place m d f = eqb-true (placeFrom 3 (fixedTests m d)) 0 (place-of-fixed m d ∙ ap not f)
+
 -- the days of the year before March and before July
 starts : (l : Bool) → (monthStart l 3 ≤ 60) × (181 ≤ monthStart l 7)
 unfolding start daysInMonth
 starts true = (omega arith, omega arith)
 starts false = (omega arith, omega arith)
 
--- d is the day's date
-module _ (i : ℕ) (d : Date) (h : i ≤ last) (e : d ≡ dateOf i) where
+-- a day lies at no offset from one so far past the calendar
+no-feast-far : (n i : ℕ) → i ≤ last → placeFrom n (feasts (pos i -ℤ pos (last + 3))) ≡ 0
+unfolding placeFrom
+no-feast-far n i h =
+    let k = last + 3 - suc i in
+    ap (λ (x : ℤ). placeFrom n (feasts x)) (sub-neg i (last + 3) (omega arith))
+    ∙ rw (ne-eqb k 1 (λ q. omega arith))
+
+-- t is the day, taken apart
+module _ (t : Tag) (e : t ≡ tagAt (t .index)) (h : t .index ≤ last) where
+  abbrev i : ℕ
+  i = t .index
+
+  abbrev d : Date
+  d = t .date
+
   valid : Valid d
-  valid = rw e (index-date i h .0)
+  valid = tag-date t e h .0
 
   index : daysBefore d ≡ i
-  index = rw e (index-date i h .1)
+  index = tag-date t e h .1
 
   abbrev l : Bool
   l = isLeap (d .year)
@@ -217,70 +300,109 @@ module _ (i : ℕ) (d : Date) (h : i ≤ last) (e : d ≡ dateOf i) where
   pub year-to : d .year ≤ 2899
   year-to = valid .to
 
-  pub before-march : (n : ℕ) → d .month < 3 → 0 ≡ placeFrom n (feastTests i (d .year))
+  pub month-to : d .month ≤ 12
+  month-to = valid .month-to
+
+  pub day-to : d .day ≤ 31
+  day-to = omega (arith, valid .day-to, len-le l (d .month))
+
+  before-march : (n : ℕ) → d .month < 3 → 0 ≡ placeFrom n (feastTests i (d .year))
   before-march n m =
       let s = start-suc (daysInMonth l) (d .month) in
       let t = start-mono (daysInMonth l) (suc (d .month)) 3 (omega arith) in
       no-feast-before n i (d .year)
       (omega (arith, s, t, index, valid .day-to, starts l .0, easter-between (d .year) year-from year-to .0))
 
-  pub after-june : (n : ℕ) → 6 < d .month → 0 ≡ placeFrom n (feastTests i (d .year))
+  after-june : (n : ℕ) → 6 < d .month → 0 ≡ placeFrom n (feastTests i (d .year))
   after-june n m =
       let t = start-mono (daysInMonth l) 7 (d .month) (omega arith) in
       no-feast-after n i (d .year)
       (omega (arith, t, index, starts l .1, easter-between (d .year) year-from year-to .1))
 
--- s is what `days_before` returned for Easter Sunday d
-module _ (i y s : ℕ) (d : Date) (h : i ≤ last) (e : d ≡ easterSunday y) (q : s ≡ daysBefore d) (g : s ≤ last) where
-  pub distance-fits : SFits w64 (toZ w64 i -ℤ toZ w64 s)
-  distance-fits = rw (back-pos i (omega arith), back-pos s (omega arith)) (sub-fits i s (omega arith) (omega arith))
+  -- the feasts by the distance from the Easter that the month needs
+  by-known : (n : ℕ) → placeFrom n (feasts (pos i -ℤ pos (easterFor (d .year) (d .month)))) ≡ placeFrom n (feastTests i (d .year))
+  unfolding easterFor
+  by-known n =
+      elim (decLt (d .month) 3) [
+        | yes m ↦ rw (lt-leb 3 (d .month) m) (no-feast-far n i h ∙ before-march n m)
+        | no m ↦ elim (decLt 6 (d .month)) [
+          | yes o ↦
+              rw (le-leb 3 (d .month) (omega arith), lt-leb (d .month) 6 o) (no-feast-far n i h ∙ after-june n o)
+          | no o ↦
+              rw (le-leb 3 (d .month) (omega arith), le-leb (d .month) 6 (omega arith))
+              (ap (placeFrom n) (by-distance i (d .year)))
+        ]
+      ]
 
-  pub feast :
-      (n r : ℕ) → r ≡ placeFrom n (feasts (back (toZ w64 i -ℤ toZ w64 s))) → r ≡ placeFrom n (feastTests i y)
-  unfolding easterIndex
-  feast n r p =
-      let k : s ≡ daysBefore (easterSunday y) = q ∙ ap daysBefore e in
-      let t : back (toZ w64 i -ℤ toZ w64 s) ≡ pos i -ℤ pos (easterIndex y) =
-      toZ-ofZ distance-fits ∙ (rw (back-pos i (omega arith), back-pos s (omega arith), k)) in
-      p ∙ ap (λ (x : ℤ). placeFrom n (feasts x)) t ∙ ap (placeFrom n) (by-distance i y)
+  -- s is the Easter that the month needs
+  module _ (s : ℕ) (q : s ≡ easterFor (d .year) (d .month)) (g : s ≤ last + 3) where
+    pub distance-fits : SFits w64 (toZ w64 i -ℤ toZ w64 s)
+    distance-fits = rw (back-pos i (omega arith), back-pos s (omega arith)) (sub-fits i s (omega arith) (omega arith))
 
-pub ruleset feast-rules = (year-from, year-to, before-march, after-june, distance-fits, feast)
+    feast :
+        (n r : ℕ) → r ≡ placeFrom n (feasts (back (toZ w64 i -ℤ toZ w64 s))) →
+        r ≡ placeFrom n (feastTests i (d .year))
+    feast n r p =
+        let z : back (toZ w64 i -ℤ toZ w64 s) ≡ pos i -ℤ pos (easterFor (d .year) (d .month)) =
+        toZ-ofZ distance-fits ∙ (rw (back-pos i (omega arith), back-pos s (omega arith), q)) in
+        p ∙ ap (λ (x : ℤ). placeFrom n (feasts x)) z ∙ by-known n
 
--- bdew_mako_holiday: d is the date that `date_of` returned, a what `fixed_day` returned
-module _ (i a : ℕ) (d : Date) (e : d ≡ dateOf i) (p : a ≡ placeFrom 3 (fixedTests (d .month) (d .day))) where
-  pub by-table : (a ≡ 0 → ⊥) → a ≡ placeFrom 3 (holidayTests i (dateOf i))
-  by-table n = rw (← e) (p ∙ sym (place-left 3 (fixedTests (d .month) (d .day)) _ (λ q. n (p ∙ q))))
+    -- a is what `has_fixed_day` returned, b what `is_buss_und_bettag` returned
+    module _ (a b : Bool) (w : ℕ) (u : a ≡ isFixed (d .month) (d .day)) (v : w ≡ weekday i)
+        (x : b ≡ isBussUndBettag (d .month) (d .day) w) (f : a ≡ false) where
+      rest :
+          (y : Bool) → b ≡ y →
+          placeFrom 16 (y ∷ feastTests i (d .year)) ≡ placeFrom 3 (holidayTests i d)
+      rest y z =
+          rw (← v, ← x, z)
+          (sym (place-right 3 (fixedTests (d .month) (d .day)) (y ∷ feastTests i (d .year)) (omega arith)
+          (no-place (d .month) (d .day) (sym u ∙ f))))
 
-  -- b is what `is_buss_und_bettag` returned: the Wednesday, then the feasts
-  module _ (b : Bool) (w : ℕ) (t : a ≡ 0) (g : w ≡ weekday i) (q : b ≡ isBussUndBettag (d .month) (d .day) w) where
-    rest : (x : Bool) → b ≡ x → placeFrom 16 (x ∷ feastTests i (d .year)) ≡ placeFrom 3 (holidayTests i (dateOf i))
-    rest x u =
-        rw (← e, ← g, ← q, u)
-        (sym (place-right 3 (fixedTests (d .month) (d .day)) (x ∷ feastTests i (d .year)) (omega arith)
-        (sym p ∙ t)))
+      pub by-wednesday : b ≡ true → 16 ≡ placeFrom 3 (holidayTests i d)
+      unfolding placeFrom
+      by-wednesday z = rest true z
 
-    pub by-wednesday : b ≡ true → 16 ≡ placeFrom 3 (holidayTests i (dateOf i))
-    unfolding placeFrom
-    by-wednesday u = rest true u
+      pub by-easter :
+          (r : ℕ) → b ≡ false → r ≡ placeFrom 17 (feasts (back (toZ w64 i -ℤ toZ w64 s))) →
+          r ≡ placeFrom 3 (holidayTests i d)
+      unfolding placeFrom
+      by-easter r z p = feast 17 r p ∙ rest false z
 
-    pub by-easter :
-        (r : ℕ) → b ≡ false → r ≡ placeFrom 17 (feastTests i (d .year)) →
-        r ≡ placeFrom 3 (holidayTests i (dateOf i))
-    unfolding placeFrom
-    by-easter r u s = s ∙ rest false u
+  pub by-table :
+      (a : Bool) (r : ℕ) → a ≡ isFixed (d .month) (d .day) → a ≡ true →
+      r ≡ placeFrom 3 (fixedTests (d .month) (d .day)) → r ≡ placeFrom 3 (holidayTests i d)
+  by-table a r u f p =
+      p ∙ sym (place-left 3 (fixedTests (d .month) (d .day)) _ (has-place (d .month) (d .day) (sym u ∙ f)))
 
-pub ruleset holiday-rules = (by-table, by-wednesday, by-easter)
+pub ruleset tag-rules = (year-from, year-to, month-to, day-to)
 
--- reason: a is what `weekend` returned
-pub weekend-first :
-    (cal : HolidayCalendar) (i a : ℕ) → a ≡ placeFrom 1 (weekendTests i) → (a ≡ 0 → ⊥) → a ≡ reason cal i
-weekend-first BdewMaKo i a p n = p ∙ sym (place-left 1 (weekendTests i) _ (λ q. n (p ∙ q))) ∙ sym (reason-is i)
+pub ruleset holiday-rules = (tag-rules, distance-fits, by-table, by-wednesday, by-easter)
 
-pub holiday-then :
-    (cal : HolidayCalendar) (i a r : ℕ) →
-    a ≡ placeFrom 1 (weekendTests i) → a ≡ 0 → r ≡ placeFrom 3 (holidayTests i (dateOf i)) → r ≡ reason cal i
-holiday-then BdewMaKo i a r p t q =
-    q ∙ sym (place-right 1 (weekendTests i) _ (omega arith) (sym p ∙ t)) ∙ sym (reason-is i)
+-- reason, for the day with index i, whose weekday is w
+pub on-saturday : (cal : HolidayCalendar) (i w : ℕ) → w ≡ weekday i → w ≡ 5 → 1 ≡ reason cal i
+on-saturday BdewMaKo i w e h = sym (saturday-gives i (sym e ∙ h))
+
+pub on-sunday : (cal : HolidayCalendar) (i w : ℕ) → w ≡ weekday i → 5 < w → 2 ≡ reason cal i
+on-sunday BdewMaKo i w e h = sym (sunday-gives i (omega (arith, e)))
+
+no-weekend : (i : ℕ) → weekday i < 5 → placeFrom 1 (weekendTests i) ≡ 0
+unfolding placeFrom
+no-weekend i h = rw (ne-eqb (weekday i) 5 (λ q. omega arith), ne-eqb (weekday i) 6 (λ q. omega arith))
+
+pub on-weekday :
+    (cal : HolidayCalendar) (t : Tag) (w r : ℕ) → t ≡ tagAt (t .index) → w ≡ weekday (t .index) → w < 5 →
+    r ≡ placeFrom 3 (holidayTests (t .index) (t .date)) → r ≡ reason cal (t .index)
+on-weekday BdewMaKo t w r e v h p =
+    let i = t .index in
+    let q : t .date ≡ dateOf i = ap (λ (x : Tag). x .date) e in
+    p ∙ ap (λ (x : Date). placeFrom 3 (holidayTests i x)) q
+    ∙ sym (place-right 1 (weekendTests i) _ (omega arith) (no-weekend i (omega (arith, v)))) ∙ sym (reason-is i)
+
+-- a weekday that is no Saturday and none after it
+pub before-saturday : (w : ℕ) → (w ≡ 5 → ⊥) → w ≤ 5 → w < 5
+before-saturday w n h = omega (arith, n)
+
+pub ruleset reason-rules = (tag-rules, on-saturday, on-sunday, before-saturday)
 
 -- is_werktag: r is what `reason` returned
 pub zero-open : (cal : HolidayCalendar) (i r : ℕ) → r ≡ reason cal i → eqb r 0 ≡ isWerktag cal i

@@ -1,9 +1,14 @@
 -- Easter Sunday.
 --   easterSunday y  = its date in the year y
 --   easterIndex y   = its index
+--   easterFor y m   = the same for the months from March to June, in which the feasts lie that move with it; for any
+--                     other month a day past the calendar
 -- Source: the Anonymous Gregorian algorithm (Nature, 20 April 1876; Meeus, Astronomical Algorithms, chapter 8), in its
 -- own letters. No difference in it goes below 0 in a year of the calendar, so natural numbers serve.
 use Prim.Native.Nat.{ℕ, _+_, _*_, _-_, _/_, _%_}
+use mathlib.Core.Bool.{_&&_, cond}
+use lib.Dec.{leb}
+use Rattle.zaehlung.specs.Walk.{last}
 use Rattle.datum.specs.declared.Date.{Date}
 use Rattle.datum.specs.Calendar.{daysBefore}
 
@@ -26,3 +31,6 @@ easterSunday y =
 
 unfoldable pub easterIndex : ℕ → ℕ
 easterIndex y = daysBefore (easterSunday y)
+
+unfoldable pub easterFor : ℕ → ℕ → ℕ
+easterFor y m = cond (leb 3 m && leb m 6) (easterIndex y) (last + 3)

@@ -2,6 +2,7 @@
 --   placeFrom n bs    = the place of the first test in bs that holds, places being counted from n on; 0 if none holds
 --   weekendTests i    = whether the day with index i is a Saturday, a Sunday
 --   fixedTests m d    = whether day d of month m is the first of the fixed days, the second ..
+--   fixedBits m       = the fixed days of month m, 2 to the power of its day for each
 --   feastTests i y    = whether the day with index i is the first of the year y's feasts by Easter, the second ..
 --   holidayTests i d  = the whole list, for the day with index i and date d
 --   dayTests i d      = all that closes it, in the order of the numbers
@@ -9,9 +10,9 @@
 --   reason cal i      = the reason of the day with index i
 -- Source: document 02, F-2: '0 Werktag, 1 Saturday, 2 Sunday, 3 to 22 the holidays in document 01's order. Weekend goes
 -- before holiday. Two holidays on one date give the lower number, as on 1 May 2008.'
-use Prim.Native.Nat.{ℕ, _+_}
-use mathlib.Core.Bool.{Bool, true, false}
-use mathlib.Core.List.{List, [], _∷_, _++_, map}
+use Prim.Native.Nat.{ℕ, _+_, _^_}
+use mathlib.Core.Bool.{Bool, true, false, cond}
+use mathlib.Core.List.{List, [], _∷_, _++_, map, sum}
 use lib.Dec.{eqb}
 use Rattle.datum.specs.declared.Date.{Date}
 use Rattle.datum.specs.Calendar.{yearStart, yearOf, dateIn, weekday}
@@ -29,6 +30,9 @@ weekendTests i = eqb (weekday i) 5 ∷ eqb (weekday i) 6 ∷ []
 
 abbrev pub fixedTests : ℕ → ℕ → List Bool
 fixedTests m d = map (isDay m d) fixedDays
+
+unfoldable pub fixedBits : ℕ → ℕ
+fixedBits m = sum _+_ 0 (map (λ x. cond (eqb (x .1) m) (2 ^ (x .0)) 0) fixedDays)
 
 abbrev pub feastTests : ℕ → ℕ → List Bool
 feastTests i y = map (isFeast i y) easterOffsets

@@ -3,13 +3,16 @@
 // Document 01, lib.rs (calendar); the reason of a closed day: document 02, F-2. The list is the same in every year.
 ghost use mathlib.Core.Path.{_≡_};
 ghost use mathlib.Core.List.{map};
-ghost use Prim.Native.Nat.{_≤_};
+ghost use Prim.Native.Nat.{_+_, _≤_, _<_};
 ghost use Rattle.zaehlung.specs.Walk.{last};
-ghost use Rattle.datum.specs.Calendar.{firstYear, lastYear, dateOf};
-ghost use Rattle.werktag.specs.Easter.{easterSunday};
-ghost use Rattle.werktag.specs.Werktag.{eqZ, isBussUndBettag, easterOffsets, isWerktag};
-ghost use Rattle.werktag.specs.Reason.{placeFrom, weekendTests, fixedTests, feastTests, holidayTests, reason};
+ghost use Rattle.datum.specs.Calendar.{firstYear, lastYear, weekday};
+ghost use Rattle.datum.specs.Tage.{tagAt};
+ghost use Rattle.werktag.specs.Easter.{easterIndex, easterFor};
+ghost use Rattle.werktag.specs.Werktag.{eqZ, isFixed, isBussUndBettag, easterOffsets, isWerktag};
+ghost use Rattle.werktag.specs.Reason.{placeFrom, weekendTests, fixedTests, fixedBits, holidayTests, reason};
 use datum::Date;
+use datum::tage::Tag;
+use zaehlung::LAST;
 
 /// Weekdays, Monday being 0.
 const WEDNESDAY: u32 = 2;
@@ -22,6 +25,9 @@ const MARCH: u8 = 3;
 const JUNE: u8 = 6;
 
 const NOVEMBER: u8 = 11;
+
+/// A day so far past the calendar that none lies at an offset from it.
+const NO_EASTER: u32 = LAST + 3;
 
 /// Whose holidays count. A holiday of any one Land counts everywhere.
 pub enum HolidayCalendar {
@@ -56,19 +62,30 @@ const BUSS_UND_BETTAG: u8 = NEUJAHR + (FIXED_DAYS as u8);
 /// The first of the feasts that move with Easter Sunday; the others follow.
 const KARFREITAG: u8 = BUSS_UND_BETTAG + 1;
 
-/// The reason of a Saturday or a Sunday.
-fn weekend(day: u32) -> u8
-    requires { ⌜ day ≤ last ⌝ }
-    ensures { λ r. ⌜ r ≡ placeFrom 1 (weekendTests day) ⌝ }
+/// The fixed days of a month, one bit for each of its days: bit 1 of January is Neujahr.
+fn fixed_bits(month: u8) -> u32
+    ensures { λ r. ⌜ r ≡ fixedBits month ⌝ }
 {
-    let weekday = datum::weekday(day);
-    if weekday < SATURDAY {
-        return WERKTAG;
+    match month {
+        1 => 66,
+        3 => 256,
+        5 => 2,
+        8 => 32768,
+        9 => 1048576,
+        10 => 2147483656,
+        11 => 2,
+        12 => 2264924160,
+        _ => 0,
     }
-    if weekday == SATURDAY {
-        return SAMSTAG;
-    }
-    SONNTAG
+}
+
+/// Whether a day is one of the fixed days, without a look at the tables: they are searched where there is something to
+/// find.
+fn has_fixed_day(month: u8, day: u8) -> bool
+    requires { ⌜ (month ≤ 12) × (day ≤ 31) ⌝ }
+    ensures { λ r. ⌜ r ≡ isFixed month day ⌝ }
+{
+    (fixed_bits(month) >> (day as u32)) % 2 == 1
 }
 
 /// The reason of a fixed day: month and day stand side by side in the two tables.
@@ -106,14 +123,15 @@ fn is_buss_und_bettag(month: u8, day: u8, weekday: u32) -> bool
     weekday == WEDNESDAY
 }
 
-/// Easter Sunday by the Anonymous Gregorian algorithm, in its own letters.
+/// The index of Easter Sunday, by the Anonymous Gregorian algorithm in its own letters. Its month is n / 31 and its day
+/// n % 31 + 1: as March has 31 days, that is n - 93 days after 1 March.
 ///
 /// For a year of the calendar: no difference in it then goes below 0.
 ///
 /// In 2026 it is 5 April; the earliest is 22 March (2285), the latest 25 April (2038).
-pub fn easter_sunday(year: u16) -> Date
+pub fn easter_sunday(year: u16) -> u32
     requires { ⌜ (firstYear ≤ year) × (year ≤ lastYear) ⌝ }
-    ensures { λ r. ⌜ r ≡ easterSunday year ⌝ }
+    ensures { λ r. ⌜ (r ≡ easterIndex year) × (r ≤ last) ⌝ }
 {
     let y = year as u32;
     let a = y % 19;
@@ -129,11 +147,30 @@ pub fn easter_sunday(year: u16) -> Date
     let l = (32 + 2 * e + 2 * i - h - k) % 7;
     let m = (a + 11 * h + 22 * l) / 451;
     let n = h + l + 114 - 7 * m;
-    Date {
+    let first_of_march = datum::days_before(Date {
         year,
-        month: (n / 31) as u8,
-        day: (n % 31 + 1) as u8,
+        month: MARCH,
+        day: 1,
+    });
+    first_of_march + (n - 93)
+}
+
+/// Easter Sunday of a year as a month needs it. The earliest feast that moves with it is a Karfreitag of 20 March
+/// (2285), the latest a Fronleichnam of 24 June (2038): from July to February none is near, and Easter need not be
+/// known.
+///
+/// In April 2026: the index of 5 April. In July: a day so far past the calendar that none lies at an offset from it.
+pub fn easter_for(year: u16, month: u8) -> u32
+    requires { ⌜ (firstYear ≤ year) × (year ≤ lastYear) ⌝ }
+    ensures { λ r. ⌜ (r ≡ easterFor year month) × (r ≤ last + 3) ⌝ }
+{
+    if month < MARCH {
+        return NO_EASTER;
     }
+    if JUNE < month {
+        return NO_EASTER;
+    }
+    easter_sunday(year)
 }
 
 /// The reason of a feast by its distance from Easter Sunday, in days.
@@ -152,64 +189,77 @@ fn feast_at(distance: i64) -> u8
     WERKTAG
 }
 
-/// The reason of a feast that moves with Easter Sunday of the day's year. The earliest is a Karfreitag of 20 March
-/// (2285), the latest a Fronleichnam of 24 June (2038): for eight months of the year Easter need not be known.
-fn easter_feast(index: u32, date: Date) -> u8
-    requires { ⌜ (index ≤ last) × (date ≡ dateOf index) ⌝ }
-    ensures { λ r. ⌜ r ≡ placeFrom 17 (feastTests index (date .year)) ⌝ }
+/// The reason of a holiday of the list, for a day whose weekday and whose Easter are known: the fixed days, Buß- und
+/// Bettag, the feasts that move with Easter, by one distance from it. Of two holidays on one date it is the lower:
+/// 1 May 2008, Tag der Arbeit and Christi Himmelfahrt, has 6.
+fn bdew_mako_holiday(tag: Tag, wday: u32, easter: u32) -> u8
+    requires { ⌜ (tag ≡ tagAt (tag .index)) × (tag .index ≤ last) × (wday ≡ weekday (tag .index)) ⌝ }
+    requires { ⌜ (easter ≡ easterFor (tag .date .year) (tag .date .month)) × (easter ≤ last + 3) ⌝ }
+    ensures { λ r. ⌜ r ≡ placeFrom 3 (holidayTests (tag .index) (tag .date)) ⌝ }
 {
-    if date.month < MARCH {
-        return WERKTAG;
+    let month = tag.date.month;
+    let day = tag.date.day;
+    if has_fixed_day(month, day) {
+        return fixed_day(month, day);
     }
-    if JUNE < date.month {
-        return WERKTAG;
-    }
-    let easter = datum::days_before(easter_sunday(date.year));
-    feast_at((index as i64) - (easter as i64))
-}
-
-/// The reason of a holiday of the list: the fixed days, Buß- und Bettag, the feasts that move with Easter. Of two
-/// holidays on one date it is the lower: 1 May 2008, Tag der Arbeit and Christi Himmelfahrt, has 6.
-fn bdew_mako_holiday(index: u32) -> u8
-    requires { ⌜ index ≤ last ⌝ }
-    ensures { λ r. ⌜ r ≡ placeFrom 3 (holidayTests index (dateOf index)) ⌝ }
-{
-    let date = datum::date_of(index);
-    let fixed = fixed_day(date.month, date.day);
-    if fixed != WERKTAG {
-        return fixed;
-    }
-    if is_buss_und_bettag(date.month, date.day, datum::weekday(index)) {
+    if is_buss_und_bettag(month, day, wday) {
         return BUSS_UND_BETTAG;
     }
-    easter_feast(index, date)
+    feast_at((tag.index as i64) - (easter as i64))
 }
 
-/// Why a day, given by its index, is closed: '0 Werktag, 1 Saturday, 2 Sunday, 3 to 22 the holidays', in the list's
-/// order. The weekend goes before a holiday.
+/// Why a weekday is closed, where its Easter is known: what a walk asks, that goes from day to day.
+///
+/// 18 November 2026, Buß- und Bettag, has 16.
+pub fn reason_of_weekday(tag: Tag, wday: u32, easter: u32, cal: HolidayCalendar) -> u8
+    requires { ⌜ (tag ≡ tagAt (tag .index)) × (tag .index ≤ last) × (wday ≡ weekday (tag .index)) ⌝ }
+    requires { ⌜ (easter ≡ easterFor (tag .date .year) (tag .date .month)) × (easter ≤ last + 3) ⌝ }
+    requires { ⌜ wday < 5 ⌝ }
+    ensures { λ r. ⌜ r ≡ reason cal (tag .index) ⌝ }
+{
+    match cal {
+        HolidayCalendar::BdewMaKo => bdew_mako_holiday(tag, wday, easter),
+    }
+}
+
+/// Why a day is closed: '0 Werktag, 1 Saturday, 2 Sunday, 3 to 22 the holidays', in the list's order. The weekend goes
+/// before a holiday.
 ///
 /// 18 November 2026, Buß- und Bettag, has 16; 8 March 2026, a Sunday and Internationaler Frauentag, has 2.
-pub fn reason(day: u32, cal: HolidayCalendar) -> u8
-    requires { ⌜ day ≤ last ⌝ }
-    ensures { λ r. ⌜ r ≡ reason cal day ⌝ }
+pub fn reason(tag: Tag, cal: HolidayCalendar) -> u8
+    requires { ⌜ (tag ≡ tagAt (tag .index)) × (tag .index ≤ last) ⌝ }
+    ensures { λ r. ⌜ r ≡ reason cal (tag .index) ⌝ }
 {
-    let closed = weekend(day);
-    if closed != WERKTAG {
-        return closed;
+    let wday = datum::weekday(tag.index);
+    if wday == SATURDAY {
+        return SAMSTAG;
     }
-    match cal {
-        HolidayCalendar::BdewMaKo => bdew_mako_holiday(day),
+    if SATURDAY < wday {
+        return SONNTAG;
     }
+    reason_of_weekday(tag, wday, easter_for(tag.date.year, tag.date.month), cal)
 }
 
-/// Whether a day, given by its index, is a Werktag: 'not Saturday, Sunday or a holiday (GPKE Teil 1)'.
+/// Whether a weekday is a Werktag, where its Easter is known.
+///
+/// 18 November 2026, Buß- und Bettag, is none.
+pub fn is_open_weekday(tag: Tag, wday: u32, easter: u32, cal: HolidayCalendar) -> bool
+    requires { ⌜ (tag ≡ tagAt (tag .index)) × (tag .index ≤ last) × (wday ≡ weekday (tag .index)) ⌝ }
+    requires { ⌜ (easter ≡ easterFor (tag .date .year) (tag .date .month)) × (easter ≤ last + 3) ⌝ }
+    requires { ⌜ wday < 5 ⌝ }
+    ensures { λ r. ⌜ r ≡ isWerktag cal (tag .index) ⌝ }
+{
+    reason_of_weekday(tag, wday, easter, cal) == WERKTAG
+}
+
+/// Whether a day is a Werktag: 'not Saturday, Sunday or a holiday (GPKE Teil 1)'.
 ///
 /// A holiday of any one Land counts everywhere, and 24 and 31 December count as holidays.
 ///
 /// 18 November 2026, Buß- und Bettag, is none; 7 April 2026, the Tuesday after Easter, is one.
-pub fn is_werktag(day: u32, cal: HolidayCalendar) -> bool
-    requires { ⌜ day ≤ last ⌝ }
-    ensures { λ r. ⌜ r ≡ isWerktag cal day ⌝ }
+pub fn is_werktag(tag: Tag, cal: HolidayCalendar) -> bool
+    requires { ⌜ (tag ≡ tagAt (tag .index)) × (tag .index ≤ last) ⌝ }
+    ensures { λ r. ⌜ r ≡ isWerktag cal (tag .index) ⌝ }
 {
-    reason(day, cal) == WERKTAG
+    reason(tag, cal) == WERKTAG
 }

@@ -1,21 +1,18 @@
--- `werktag::bdew_mako_holiday` meets its contract: a lemma for each return, in the order of the list.
+-- `werktag::bdew_mako_holiday` meets its contract: a rule for each return, in the order of the list.
 -- Assumes nothing.
-use Rattle.werktag.proofs.Rules.{by-table, holiday-rules}
+use Rattle.werktag.proofs.Rules.{holiday-rules}
 use borrow.Author.Needs.{needs}
 use Rattle.werktag.proofs.bdew_mako_holiday.Statement.{statement}
 use Rattle.werktag.proofs.bdew_mako_holiday.Tie as tie
 
-date-of-requires : tie.Need-date-of-requires
-date-of-requires c κs = search needs
+has-fixed-day-requires : tie.Need-has-fixed-day-requires
+has-fixed-day-requires c κs = search (needs, holiday-rules)
 
 fixed-day-requires : tie.Need-fixed-day-requires
 fixed-day-requires c κs = search needs
 
 returns : tie.Need-returns
-returns c = search (needs, by-table, c .if1 .taken)
-
-weekday-requires : tie.Need-weekday-requires
-weekday-requires c κs = search needs
+returns c = search (needs, holiday-rules)
 
 is-buss-und-bettag-requires : tie.Need-is-buss-und-bettag-requires
 is-buss-und-bettag-requires c κs = search needs
@@ -23,8 +20,17 @@ is-buss-und-bettag-requires c κs = search needs
 returns-2 : tie.Need-returns-2
 returns-2 c = search (needs, holiday-rules)
 
-easter-feast-requires : tie.Need-easter-feast-requires
-easter-feast-requires c κs = search (needs, holiday-rules)
+cast-feast-at : tie.Need-cast-feast-at
+cast-feast-at c = search needs
+
+cast-feast-at-2 : tie.Need-cast-feast-at-2
+cast-feast-at-2 c = search needs
+
+sub-feast-at : tie.Need-sub-feast-at
+sub-feast-at c = search (needs, holiday-rules)
+
+feast-at-requires : tie.Need-feast-at-requires
+feast-at-requires c κs = search needs
 
 returns-3 : tie.Need-returns-3
 returns-3 c = search (needs, holiday-rules)
@@ -33,11 +39,13 @@ pub bdew-mako-holiday-spec : {M : Type 1} → statement M
 bdew-mako-holiday-spec =
     tie.close
     (tie.spec
-    date-of-requires
+    has-fixed-day-requires
     fixed-day-requires
     returns
-    weekday-requires
     is-buss-und-bettag-requires
     returns-2
-    easter-feast-requires
+    cast-feast-at
+    cast-feast-at-2
+    sub-feast-at
+    feast-at-requires
     returns-3)

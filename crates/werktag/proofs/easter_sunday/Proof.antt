@@ -1,8 +1,7 @@
--- `werktag::easter_sunday` meets its contract by computation; that no difference goes below 0 is shown in Easter.
+-- `werktag::easter_sunday` meets its contract: no difference goes below 0, and n - 93 days after 1 March is the date that
+-- the algorithm gives.
 -- Assumes nothing.
-use mathlib.Core.Path.{refl}
-use Rattle.werktag.specs.Easter.{easterSunday}
-use Rattle.werktag.proofs.Easter.{enough, room, below-30, month-fits}
+use Rattle.werktag.proofs.Easter.{enough, room, below-30, march-valid, number-from, number-fits, easter-number}
 use borrow.Author.Needs.{needs}
 use Rattle.werktag.proofs.easter_sunday.Statement.{statement}
 use Rattle.werktag.proofs.easter_sunday.Tie as tie
@@ -73,18 +72,19 @@ mul-n c = search needs
 sub-n : tie.Need-sub-n
 sub-n c = search needs
 
-cast-t22 : tie.Need-cast-t22
-cast-t22 c = month-fits _ _ _
+days-before-requires : tie.Need-days-before-requires
+days-before-requires c κs = search (needs, march-valid)
 
-add-t18 : tie.Need-add-t18
-add-t18 c = search needs
+sub-result : tie.Need-sub-result
+sub-result c = number-from (c .before .args .year)
 
-cast-t23 : tie.Need-cast-t23
-cast-t23 c = search needs
+add-result : tie.Need-add-result
+add-result c = search (needs, number-fits)
 
 returns : tie.Need-returns
-unfolding easterSunday
-returns c = refl
+returns c =
+    easter-number (c .before .args .year) (search needs) (search needs) (c .days-before .result) (search needs)
+    (search needs)
 
 pub easter-sunday-spec : {M : Type 1} → statement M
 easter-sunday-spec =
@@ -112,7 +112,7 @@ easter-sunday-spec =
     add-n-2
     mul-n
     sub-n
-    cast-t22
-    add-t18
-    cast-t23
+    days-before-requires
+    sub-result
+    add-result
     returns)

@@ -12,8 +12,4 @@ returns : tie.Need-returns
 returns c = search (needs, zero-open)
 
 pub is-werktag-spec : {M : Type 1} → statement M
-is-werktag-spec =
-    tie.close
-    (tie.spec
-    reason-requires
-    returns)
+is-werktag-spec = tie.close (tie.spec reason-requires returns)
