@@ -2,12 +2,12 @@
 -- that stands beside it, and no other date has that index.
 --   tag-date       what is known of a day taken apart
 --   tag-is         a date of the range beside its index
---   later-rules, earlier-rules  the returns of `later` and of `earlier`: in the month, over its end or its beginning,
---                  and over the year's
+--   later-rules, earlier-rules  the returns of the functions of days later and earlier: in the month, past its end or
+--                  before its first, and past the year's
 -- Assumes nothing.
 use Prim.Native.Nat.{ℕ, zero, suc, _+_, _-_, _≤_, _<_}
 use mathlib.Core.Path.{_≡_, refl, sym, ap, _∙_}
-use mathlib.Core.Bool.{Bool, true, false}
+use mathlib.Core.Bool.{Bool}
 use native.Mathlib.Omega.{arith}
 use native.Mathlib.Numerals.{add-one}
 use native.Mathlib.Decide.{decLt}
@@ -82,23 +82,23 @@ module _ (t : Tag) (n : ℕ) (e : t ≡ tagAt (t .index)) (g : n ≤ 7) where
     pub year-fits : Fits w16 (d .year + 1)
     year-fits = record { fits = omega (arith, v .to) }
 
-    module _ (s : ℕ) (q : s ≡ daysInMonth l (d .month)) where
-      pub later-in-month :
-          d .day + n ≤ s →
-          record { index = t .index + n; date = record { year = d .year; month = d .month; day = d .day + n } }
-          ≡ tagAt (t .index + n)
-      later-in-month a =
-          tag-is _ (t .index + n)
-          (record {
-            from = v .from;
-            to = v .to;
-            month-from = v .month-from;
-            month-to = v .month-to;
-            day-from = omega (arith, v .day-from);
-            day-to = omega (arith, q);
-          })
-          (omega (arith, index, v .day-from))
+    pub later-in-month :
+        d .day + n ≤ daysInMonth l (d .month) →
+        record { index = t .index + n; date = record { year = d .year; month = d .month; day = d .day + n } }
+        ≡ tagAt (t .index + n)
+    later-in-month a =
+        tag-is _ (t .index + n)
+        (record {
+          from = v .from;
+          to = v .to;
+          month-from = v .month-from;
+          month-to = v .month-to;
+          day-from = omega (arith, v .day-from);
+          day-to = omega arith;
+        })
+        (omega (arith, index, v .day-from))
 
+    module _ (s : ℕ) (q : s ≡ daysInMonth l (d .month)) where
       pub later-in-year :
           s < d .day + n → d .month < 12 →
           record { index = t .index + n; date = record { year = d .year; month = d .month + 1; day = d .day + n - s } }

@@ -1,6 +1,6 @@
 // A day taken apart, its index beside its date, and a few days later or earlier without taking it apart again.
 ghost use mathlib.Core.Path.{_≡_};
-ghost use Prim.Native.Nat.{_+_, _-_, _≤_};
+ghost use Prim.Native.Nat.{_+_, _-_, _≤_, _<_};
 ghost use Rattle.zaehlung.specs.Walk.{last};
 ghost use Rattle.datum.specs.Calendar.{isLeap, daysInMonth};
 ghost use Rattle.datum.specs.Tage.{tagAt};
@@ -34,67 +34,88 @@ pub fn month_length(tag: Tag) -> u8
     super::days_in_month(super::is_leap(tag.date.year), tag.date.month)
 }
 
-/// The day `days` days later, up to a week, where its month has `length` days. What the month lacks is carried over
-/// into the next, and from December into the next year.
+/// The day `days` days later, in the same month.
+///
+/// From 28 December 2026 with 3: 31 December.
+pub fn later_in_month(tag: Tag, days: u8) -> Tag
+    requires { ⌜ (tag ≡ tagAt (tag .index)) × (days ≤ 7) × (tag .index + days ≤ last) ⌝ }
+    requires { ⌜ tag .date .day + days ≤ daysInMonth (isLeap (tag .date .year)) (tag .date .month) ⌝ }
+    ensures { λ r. ⌜ r ≡ tagAt (tag .index + days) ⌝ }
+    ensures { λ r. ⌜ (r .date .year ≡ tag .date .year) × (r .date .month ≡ tag .date .month) ⌝ }
+{
+    Tag {
+        index: tag.index + (days as u32),
+        date: Date {
+            year: tag.date.year,
+            month: tag.date.month,
+            day: tag.date.day + days,
+        },
+    }
+}
+
+/// The day `days` days later, up to a week, past the end of a month of `length` days: what the month lacks is carried
+/// over into the next, and from December into the next year.
 ///
 /// From 30 December 2026 with 3: 2 January 2027.
-pub fn later(tag: Tag, length: u8, days: u8) -> Tag
-    requires { ⌜ (tag ≡ tagAt (tag .index)) × (length ≡ daysInMonth (isLeap (tag .date .year)) (tag .date .month)) ⌝ }
-    requires { ⌜ (days ≤ 7) × (tag .index + days ≤ last) ⌝ }
+pub fn into_next_month(tag: Tag, length: u8, days: u8) -> Tag
+    requires { ⌜ (tag ≡ tagAt (tag .index)) × (days ≤ 7) × (tag .index + days ≤ last) ⌝ }
+    requires { ⌜ (length ≡ daysInMonth (isLeap (tag .date .year)) (tag .date .month)) × (length < tag .date .day + days) ⌝ }
     ensures { λ r. ⌜ r ≡ tagAt (tag .index + days) ⌝ }
 {
     let index = tag.index + (days as u32);
-    let year = tag.date.year;
-    let month = tag.date.month;
-    let day = tag.date.day + days;
-    if day <= length {
-        return Tag {
-            index,
-            date: Date { year, month, day },
-        };
-    }
-    if month < super::MONTHS {
+    let day = tag.date.day + days - length;
+    if tag.date.month < super::MONTHS {
         return Tag {
             index,
             date: Date {
-                year,
-                month: month + 1,
-                day: day - length,
+                year: tag.date.year,
+                month: tag.date.month + 1,
+                day,
             },
         };
     }
     Tag {
         index,
         date: Date {
-            year: year + 1,
+            year: tag.date.year + 1,
             month: 1,
-            day: day - length,
+            day,
         },
     }
 }
 
-/// The day `days` days earlier, up to a week. Where the month has not so many days before it, the days of the month
-/// before are counted back from its last, before January from December's.
+/// The day `days` days earlier, in the same month.
+///
+/// From 4 January 2027 with 3: 1 January.
+pub fn earlier_in_month(tag: Tag, days: u8) -> Tag
+    requires { ⌜ (tag ≡ tagAt (tag .index)) × (tag .index ≤ last) × (days ≤ 7) × (days ≤ tag .index) ⌝ }
+    requires { ⌜ days < tag .date .day ⌝ }
+    ensures { λ r. ⌜ r ≡ tagAt (tag .index - days) ⌝ }
+    ensures { λ r. ⌜ (r .date .year ≡ tag .date .year) × (r .date .month ≡ tag .date .month) ⌝ }
+{
+    Tag {
+        index: tag.index - (days as u32),
+        date: Date {
+            year: tag.date.year,
+            month: tag.date.month,
+            day: tag.date.day - days,
+        },
+    }
+}
+
+/// The day `days` days earlier, up to a week, before the month's first: counted back from the last day of the month
+/// before, before January from December's.
 ///
 /// From 2 January 2027 with 3: 30 December 2026.
-pub fn earlier(tag: Tag, days: u8) -> Tag
+pub fn into_month_before(tag: Tag, days: u8) -> Tag
     requires { ⌜ (tag ≡ tagAt (tag .index)) × (tag .index ≤ last) × (days ≤ 7) × (days ≤ tag .index) ⌝ }
+    requires { ⌜ tag .date .day ≤ days ⌝ }
     ensures { λ r. ⌜ r ≡ tagAt (tag .index - days) ⌝ }
 {
     let index = tag.index - (days as u32);
     let year = tag.date.year;
     let month = tag.date.month;
     let day = tag.date.day;
-    if days < day {
-        return Tag {
-            index,
-            date: Date {
-                year,
-                month,
-                day: day - days,
-            },
-        };
-    }
     if 1 < month {
         let length = super::days_in_month(super::is_leap(year), month - 1);
         return Tag {
@@ -114,4 +135,31 @@ pub fn earlier(tag: Tag, days: u8) -> Tag
             day: super::DECEMBER_DAYS + day - days,
         },
     }
+}
+
+/// The day after, which the calendar must have.
+///
+/// After 31 December 2026: 1 January 2027.
+pub fn day_after(tag: Tag) -> Tag
+    requires { ⌜ (tag ≡ tagAt (tag .index)) × (tag .index < last) ⌝ }
+    ensures { λ r. ⌜ r ≡ tagAt (tag .index + 1) ⌝ }
+{
+    let length = month_length(tag);
+    if tag.date.day < length {
+        return later_in_month(tag, 1);
+    }
+    into_next_month(tag, length, 1)
+}
+
+/// The day before, which the calendar must have.
+///
+/// Before 1 January 2027: 31 December 2026.
+pub fn day_before(tag: Tag) -> Tag
+    requires { ⌜ (tag ≡ tagAt (tag .index)) × (tag .index ≤ last) × (0 < tag .index) ⌝ }
+    ensures { λ r. ⌜ r ≡ tagAt (tag .index - 1) ⌝ }
+{
+    if 1 < tag.date.day {
+        return earlier_in_month(tag, 1);
+    }
+    into_month_before(tag, 1)
 }

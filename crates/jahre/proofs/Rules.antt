@@ -23,13 +23,12 @@ use Rattle.zaehlung.specs.Walk.{bit, among}
 use Rattle.zaehlung.specs.Lists.{each}
 use Rattle.zaehlung.proofs.Count.{count-le}
 use Rattle.zaehlung.proofs.Striking.{count-strikes}
-use Rattle.datum.specs.declared.Date.{Date}
-use Rattle.datum.specs.Calendar.{isLeap, isDate, yearLen, yearStart, daysBefore, weekday}
+use Rattle.datum.specs.Calendar.{isLeap, yearLen, yearStart, weekday}
 use Rattle.datum.proofs.Years.{yearLen-bounds}
 use Rattle.werktag.specs.declared.HolidayCalendar.{HolidayCalendar}
-use Rattle.werktag.specs.Easter.{easterSunday, easterIndex}
+use Rattle.werktag.specs.Easter.{easterIndex}
 use Rattle.werktag.specs.Werktag.{isWerktag}
-use Rattle.werktag.proofs.Easter.{easter-is, easter-valid}
+use Rattle.werktag.proofs.Easter.{easter-is}
 use Rattle.jahre.specs.declared.Year.{Year}
 use Rattle.jahre.specs.Year.{yearNumbers, onWeekday, weekdays, fixedIn, bettagIn, himmelfahrtIn}
 use Rattle.jahre.specs.Year.{feastsWith, holidays}
@@ -37,14 +36,7 @@ use Rattle.jahre.proofs.Days.{Usual, usual}
 use Rattle.jahre.proofs.Counts.{inYear, count-weekdays, year-among}
 
 -- year_numbers
-pub easter-date : (k : ℕ) (d : Date) → k ≤ 903 → d ≡ easterSunday (1996 + k) → isDate d ≡ true
-easter-date k d h e = easter-valid (1996 + k) d (omega arith) (omega arith) e
-
-module _ (k s i : ℕ) (d : Date) (p : s ≡ yearStart k) (q : d ≡ easterSunday (1996 + k)) (e : i ≡ daysBefore d) where
-  index : i ≡ easterIndex (1996 + k)
-  unfolding easterIndex
-  index = e ∙ ap daysBefore q
-
+module _ (k s i : ℕ) (p : s ≡ yearStart k) (index : i ≡ easterIndex (1996 + k)) where
   pub in-its-year : s ≤ i
   in-its-year = omega (arith, index, easter-is k)
 
@@ -59,7 +51,7 @@ module _ (k s i : ℕ) (d : Date) (p : s ≡ yearStart k) (q : d ≡ easterSunda
     pub common-year : b ≡ false → _≡_ {A = Year} (record { first = f; leaps = 0; easter = i - s }) (yearNumbers k)
     common-year z = numbers 0 (rw z)
 
-pub ruleset year-rules = (easter-date, in-its-year, leap-year, common-year)
+pub ruleset year-rules = (in-its-year, leap-year, common-year)
 
 -- himmelfahrt
 pub on-may : (l e : ℕ) → e + 39 ≡ 120 + l → e + 49 ≡ himmelfahrtIn l e

@@ -9,7 +9,7 @@ ghost use Rattle.datum.specs.Calendar.{firstYear, lastYear, weekday};
 ghost use Rattle.datum.specs.Tage.{tagAt};
 ghost use Rattle.werktag.specs.Easter.{easterIndex, easterFor};
 ghost use Rattle.werktag.specs.Werktag.{eqZ, isFixed, isBussUndBettag, easterOffsets, isWerktag};
-ghost use Rattle.werktag.specs.Reason.{placeFrom, weekendTests, fixedTests, fixedBits, holidayTests, reason};
+ghost use Rattle.werktag.specs.Reason.{placeFrom, fixedTests, fixedBits, holidayTests, reason};
 use datum::Date;
 use datum::tage::Tag;
 use zaehlung::LAST;

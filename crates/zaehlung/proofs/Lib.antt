@@ -1,6 +1,7 @@
 pub mod Tests
 pub mod Every
 pub mod Turns
+pub mod Skips
 pub mod Count
 pub mod Reach
 pub mod Laws

@@ -17,9 +17,6 @@ year-start-requires c κs = search needs
 easter-sunday-requires : tie.Need-easter-sunday-requires
 easter-sunday-requires c κs = search needs
 
-days-before-requires : tie.Need-days-before-requires
-days-before-requires c κs = search (needs, year-rules)
-
 sub-easter : tie.Need-sub-easter
 sub-easter c = search (needs, year-rules)
 
@@ -43,7 +40,6 @@ year-numbers-spec =
     add-year
     year-start-requires
     easter-sunday-requires
-    days-before-requires
     sub-easter
     weekday-requires
     is-leap-requires
