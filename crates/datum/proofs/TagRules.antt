@@ -2,6 +2,7 @@
 -- that stands beside it, and no other date has that index.
 --   tag-date       what is known of a day taken apart
 --   tag-is         a date of the range beside its index
+--   year-rules     its year, and the year's first day
 --   later-rules, earlier-rules  the returns of the functions of days later and earlier: in the month, past its end or
 --                  before its first, and past the year's
 -- Assumes nothing.
@@ -14,10 +15,10 @@ use native.Mathlib.Decide.{decLt}
 use mir.Syntax.{w8, w16}
 use mir.Val.{Fits}
 use Rattle.zaehlung.specs.Walk.{last}
-use Rattle.zaehlung.proofs.BlockLaws.{start-suc, start-mono}
+use Rattle.zaehlung.proofs.BlockLaws.{start-suc, start-mono, at-sum}
 use Rattle.datum.specs.declared.Date.{Date}
 use Rattle.datum.specs.declared.tage.Tag.{Tag}
-use Rattle.datum.specs.Calendar.{isLeap, yearLen, yearStart, daysInMonth, monthStart, daysBefore, dateOf}
+use Rattle.datum.specs.Calendar.{isLeap, yearLen, yearStart, yearOf, daysInMonth, monthStart, daysBefore, dateIn, dateOf}
 use Rattle.datum.specs.Tage.{tagAt}
 use Rattle.datum.proofs.Years.{start-all, start-none}
 use Rattle.datum.proofs.Dates.{Valid, len-le, len-ge, months-sum, month-first, yearLen-at, date-index, index-date}
@@ -37,6 +38,64 @@ tag-at-rule d j e = ap (λ (x : Date). record { index = j; date = x }) e
 pub tag-date :
     (t : Tag) → t ≡ tagAt (t .index) → t .index ≤ last → Valid (t .date) × (daysBefore (t .date) ≡ t .index)
 tag-date t e h = let q : t .date ≡ dateOf (t .index) = ap (λ (x : Tag). x .date) e in rw q (index-date (t .index) h)
+
+-- the year of a day, and its first
+module _ (t : Tag) (e : t ≡ tagAt (t .index)) (h : t .index ≤ last) where
+  abbrev y : ℕ × ℕ
+  y = yearOf (t .index)
+
+  valid : Valid (t .date)
+  valid = tag-date t e h .0
+
+  year-is : t .date .year ≡ 1996 + y .0
+  unfolding dateOf dateIn
+  year-is = ap (λ (x : Tag). x .date .year) e
+
+  pub year-from : 1996 ≤ t .date .year
+  year-from = valid .from
+
+  pub year-by : t .date .year - 1996 ≤ 903
+  year-by = omega (arith, valid .to)
+
+  pub year-within : t .date .year - 1996 ≤ 904
+  year-within = omega (arith, year-by)
+
+  pub year-number : t .date .year - 1996 ≡ y .0
+  year-number = omega (arith, year-is)
+
+  sum : yearStart (y .0) + y .1 ≡ t .index
+  sum = omega (arith, at-sum yearLen 903 0 (t .index), start-none)
+
+  module _ (s : ℕ) (q : s ≡ yearStart (t .date .year - 1996)) where
+    pub start-by : s ≤ t .index
+    start-by = omega (arith, sum, q ∙ ap yearStart year-number)
+
+    pub day-number : t .index - s ≡ y .1
+    day-number = omega (arith, sum, q ∙ ap yearStart year-number)
+
+  pub day-by : (r : ℕ) → r ≡ y .1 → r ≤ t .index
+  day-by r q = omega (arith, sum)
+
+  pub new-year :
+      (r : ℕ) → r ≡ y .1 →
+      record { index = t .index - r; date = record { year = t .date .year; month = 1; day = 1 } } ≡ tagAt (t .index - r)
+  new-year r q =
+      let u = len-ge (isLeap (t .date .year)) 1 (omega arith) (omega arith) in
+      tag-is _ (t .index - r)
+      (record {
+        from = valid .from;
+        to = valid .to;
+        month-from = omega arith;
+        month-to = omega arith;
+        day-from = omega arith;
+        day-to = omega arith;
+      })
+      (omega (arith, sum, ap yearStart year-number, month-first (isLeap (t .date .year))))
+
+  pub new-year-index : (r : ℕ) → r ≡ y .1 → t .index - r ≡ t .index - y .1
+  new-year-index r q = ap (λ (x : ℕ). t .index - x) q
+
+pub ruleset year-rules = (year-from, year-by, year-within, year-number, start-by, day-number, day-by, new-year, new-year-index)
 
 -- a year with another after it
 last-year : (k : ℕ) → yearStart (suc k) ≤ last → k < 903

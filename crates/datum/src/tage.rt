@@ -2,9 +2,10 @@
 ghost use mathlib.Core.Path.{_≡_};
 ghost use Prim.Native.Nat.{_+_, _-_, _≤_, _<_};
 ghost use Rattle.zaehlung.specs.Walk.{last};
-ghost use Rattle.datum.specs.Calendar.{isLeap, daysInMonth};
+ghost use Rattle.datum.specs.Calendar.{isLeap, yearOf, daysInMonth};
 ghost use Rattle.datum.specs.Tage.{tagAt};
 use super::Date;
+use super::YearDay;
 
 /// A day of the calendar: its index and its date.
 pub struct Tag {
@@ -22,6 +23,35 @@ pub fn tag_at(index: u32) -> Tag
     Tag {
         index,
         date: super::date_of(index),
+    }
+}
+
+/// The year of a day, counted from 1996, and the day in it, counted from 0.
+///
+/// Of 1 March 2026: year 30, day 59.
+pub fn year_day(tag: Tag) -> YearDay
+    requires { ⌜ (tag ≡ tagAt (tag .index)) × (tag .index ≤ last) ⌝ }
+    ensures { λ r. ⌜ (r .year ≡ yearOf (tag .index) .0) × (r .day ≡ yearOf (tag .index) .1) × (r .year ≤ 903) ⌝ }
+{
+    let year = (tag.date.year - super::FIRST_YEAR) as u32;
+    YearDay {
+        year,
+        day: tag.index - super::year_start(year),
+    }
+}
+
+/// The first of January of a day's year.
+pub fn new_year(tag: Tag) -> Tag
+    requires { ⌜ (tag ≡ tagAt (tag .index)) × (tag .index ≤ last) ⌝ }
+    ensures { λ r. ⌜ (r ≡ tagAt (r .index)) × (r .index ≡ tag .index - yearOf (tag .index) .1) ⌝ }
+{
+    Tag {
+        index: tag.index - year_day(tag).day,
+        date: Date {
+            year: tag.date.year,
+            month: 1,
+            day: 1,
+        },
     }
 }
 

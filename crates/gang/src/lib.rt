@@ -3,7 +3,7 @@
 // over; the list is asked from Monday to Friday alone.
 ghost use mathlib.Core.Path.{_≡_};
 ghost use Prim.Native.Nat.{_+_, _-_, _%_, _≤_, _<_};
-ghost use Rattle.zaehlung.specs.Walk.{last, add, sub, between};
+ghost use Rattle.zaehlung.specs.Walk.{last, bit, add, sub, between};
 ghost use Rattle.datum.specs.Tage.{tagAt};
 ghost use Rattle.werktag.specs.Werktag.{isWerktag};
 ghost use Rattle.gang.specs.Stand.{Stands, tagStep, toWeekday, fromWeekday};
@@ -157,6 +157,17 @@ pub fn at_werktag(stand: Stand, cal: HolidayCalendar) -> bool
         return false;
     }
     werktag::is_open_weekday(stand.tag, stand.wday, stand.easter, cal)
+}
+
+/// 1 where a walk stands at a Werktag, else 0.
+pub fn werktage_at(stand: Stand, cal: HolidayCalendar) -> u32
+    requires { ⌜ Stands stand ⌝ }
+    ensures { λ r. ⌜ (r ≡ bit (isWerktag cal (stand .tag .index))) × (r ≤ 1) ⌝ }
+{
+    if at_werktag(stand, cal) {
+        return 1;
+    }
+    0
 }
 
 /// The `n`-th Werktag after `from`, from weekday to weekday.

@@ -2,19 +2,21 @@
 // of Werktage to the day.
 ghost use mathlib.Core.Path.{_≡_};
 ghost use Prim.Native.Nat.{suc, _≤_, _<_};
-ghost use Rattle.zaehlung.specs.Walk.{last, count, add, sub, W, between};
+ghost use Rattle.zaehlung.specs.Walk.{last, count, add, sub, between};
+ghost use Rattle.datum.specs.Tage.{tagAt};
 ghost use Rattle.werktag.specs.Werktag.{isWerktag};
 ghost use Rattle.jahresindex.specs.Werktage.{werktage};
 ghost use Rattle.schritte.specs.StepOf.{stepOf};
+use datum::tage::Tag;
+use gang::TagStep;
 use jahresindex::WERKTAGE;
 use werktag::HolidayCalendar;
 use zaehlung::Step;
 
-/// The three steps: the n-th Werktag after a day, the n-th before it, and W(n).
+/// The two steps: the n-th Werktag after a day, and the n-th before it.
 pub enum StepKind {
     Add,
     Sub,
-    DayAfter,
 }
 
 /// The days of a week, and those of them that may be Werktage.
@@ -25,22 +27,22 @@ const WEEKDAYS: u32 = 5;
 /// The Werktage of the calendar before a day.
 ///
 /// 7,431 before 7 April 2026.
-fn werktage_before(day: u32, cal: HolidayCalendar) -> u32
-    requires { ⌜ day ≤ last ⌝ }
-    ensures { λ r. ⌜ (r ≡ count (isWerktag cal) day) × (r ≤ werktage) ⌝ }
+fn werktage_before(day: Tag, cal: HolidayCalendar) -> u32
+    requires { ⌜ (day ≡ tagAt (day .index)) × (day .index ≤ last) ⌝ }
+    ensures { λ r. ⌜ (r ≡ count (isWerktag cal) (day .index)) × (r ≤ werktage) ⌝ }
 {
-    let at = datum::year_of(day);
+    let at = datum::tage::year_day(day);
     jahresindex::werktage_before_year(at.year, cal) + jahre::werktage_in_year(at.year, at.day, cal)
 }
 
 /// The Werktage of the calendar up to and with a day.
 ///
 /// 7,432 up to 7 April 2026, a Werktag.
-fn werktage_through(day: u32, cal: HolidayCalendar) -> u32
-    requires { ⌜ day ≤ last ⌝ }
-    ensures { λ r. ⌜ (r ≡ count (isWerktag cal) (suc day)) × (r ≤ werktage) ⌝ }
+fn werktage_through(day: Tag, cal: HolidayCalendar) -> u32
+    requires { ⌜ (day ≡ tagAt (day .index)) × (day .index ≤ last) ⌝ }
+    ensures { λ r. ⌜ (r ≡ count (isWerktag cal) (suc (day .index))) × (r ≤ werktage) ⌝ }
 {
-    let at = datum::year_of(day);
+    let at = datum::tage::year_day(day);
     jahresindex::werktage_before_year(at.year, cal)
         + jahre::werktage_in_year(at.year, at.day + 1, cal)
 }
@@ -59,13 +61,17 @@ fn nth_werktag(n: u32, cal: HolidayCalendar) -> Step
     let rest = n - entry.before;
     let days = (rest - 1) / WEEKDAYS * WEEK;
     let passed = jahre::werktage_in_year(entry.year, days + 1, cal);
-    super::walk::add_werktage(datum::year_start(entry.year) + days, rest - passed, cal)
+    let from = datum::tage::tag_at(datum::year_start(entry.year) + days);
+    let TagStep::At(werktag) = gang::add_werktage(from, rest - passed, cal) else {
+        return Step::Outside;
+    };
+    Step::Day(werktag.index)
 }
 
 /// The `n`-th Werktag after `from`: as many Werktage lie up to it as up to `from`, and `n`.
-fn add_werktage(from: u32, n: u32, cal: HolidayCalendar) -> Step
-    requires { ⌜ (from ≤ last) × (1 ≤ n) ⌝ }
-    ensures { λ r. ⌜ r ≡ add (isWerktag cal) from n ⌝ }
+fn add_werktage(from: Tag, n: u32, cal: HolidayCalendar) -> Step
+    requires { ⌜ (from ≡ tagAt (from .index)) × (from .index ≤ last) × (1 ≤ n) ⌝ }
+    ensures { λ r. ⌜ r ≡ add (isWerktag cal) (from .index) n ⌝ }
 {
     let through = werktage_through(from, cal);
     if WERKTAGE - through < n {
@@ -75,9 +81,9 @@ fn add_werktage(from: u32, n: u32, cal: HolidayCalendar) -> Step
 }
 
 /// The `n`-th Werktag before `from`: as many Werktage lie before it as before `from`, less `n`.
-fn sub_werktage(from: u32, n: u32, cal: HolidayCalendar) -> Step
-    requires { ⌜ (from ≤ last) × (1 ≤ n) ⌝ }
-    ensures { λ r. ⌜ r ≡ sub (isWerktag cal) from n ⌝ }
+fn sub_werktage(from: Tag, n: u32, cal: HolidayCalendar) -> Step
+    requires { ⌜ (from ≡ tagAt (from .index)) × (from .index ≤ last) × (1 ≤ n) ⌝ }
+    ensures { λ r. ⌜ r ≡ sub (isWerktag cal) (from .index) n ⌝ }
 {
     let before = werktage_before(from, cal);
     if before < n {
@@ -86,38 +92,23 @@ fn sub_werktage(from: u32, n: u32, cal: HolidayCalendar) -> Step
     nth_werktag(before - n + 1, cal)
 }
 
-/// W(n) of document 01: the day after the Werktag up to which as many lie as before `t`, and `n`.
-fn day_after_werktage(t: u32, n: u32, cal: HolidayCalendar) -> Step
-    requires { ⌜ (t ≤ last) × (1 ≤ n) ⌝ }
-    ensures { λ r. ⌜ r ≡ W (isWerktag cal) t n ⌝ }
-{
-    let before = werktage_before(t, cal);
-    if WERKTAGE - before < n {
-        return Step::Outside;
-    }
-    let Step::Day(werktag) = nth_werktag(before + n, cal) else {
-        return Step::Outside;
-    };
-    super::day_after(werktag)
-}
-
-/// A step through the index, by its kind. One function for the three, so that it stays a call: the loop that walks a
+/// A step through the index, by its kind. One function for both, so that it stays a call: the loop that walks a
 /// few Werktage then stands where a step is asked for, and is as fast as if there were no index.
-pub fn step(kind: StepKind, day: u32, n: u32, cal: HolidayCalendar) -> Step
-    requires { ⌜ (day ≤ last) × (1 ≤ n) ⌝ }
-    ensures { λ r. ⌜ r ≡ stepOf kind (isWerktag cal) day n ⌝ }
+pub fn step(kind: StepKind, day: Tag, n: u32, cal: HolidayCalendar) -> Step
+    requires { ⌜ (day ≡ tagAt (day .index)) × (day .index ≤ last) × (1 ≤ n) ⌝ }
+    ensures { λ r. ⌜ r ≡ stepOf kind (isWerktag cal) (day .index) n ⌝ }
 {
     match kind {
         StepKind::Add => add_werktage(day, n, cal),
         StepKind::Sub => sub_werktage(day, n, cal),
-        StepKind::DayAfter => day_after_werktage(day, n, cal),
     }
 }
 
 /// The Werktage after `from` up to and including `to`: those up to `to`, less those up to `from`.
-pub fn werktage_between(from: u32, to: u32, cal: HolidayCalendar) -> u32
-    requires { ⌜ (from < to) × (to ≤ last) ⌝ }
-    ensures { λ r. ⌜ r ≡ between (isWerktag cal) from to ⌝ }
+pub fn werktage_between(from: Tag, to: Tag, cal: HolidayCalendar) -> u32
+    requires { ⌜ (from ≡ tagAt (from .index)) × (to ≡ tagAt (to .index)) ⌝ }
+    requires { ⌜ (from .index < to .index) × (to .index ≤ last) ⌝ }
+    ensures { λ r. ⌜ r ≡ between (isWerktag cal) (from .index) (to .index) ⌝ }
 {
     werktage_through(to, cal) - werktage_through(from, cal)
 }

@@ -1,15 +1,18 @@
-// Steps over Werktage and the count of Werktage. A day is its index from 1 January 1996, 0 to LAST. What a step or a
-// count is, is defined in zaehlung for any test of a day, day by day; here the test is the holiday list's. Few Werktage
-// are walked, many are counted through the year index.
+// Steps over Werktage and the count of Werktage. A day is taken apart, its index from 1 January 1996 beside its date, and
+// so is the day that a step reaches. What a step or a count is, is defined in zaehlung for any test of a day, day by
+// day; here the test is the holiday list's. Few Werktage are walked, many are counted through the year index.
 ghost use mathlib.Core.Path.{_≡_};
-ghost use Prim.Native.Nat.{_≤_};
-ghost use Rattle.zaehlung.specs.Walk.{last, dayAfter, dayBefore, add, sub, next, W, between};
+ghost use Prim.Native.Nat.{_-_, _≤_};
+ghost use Rattle.zaehlung.specs.Walk.{last, bit, dayAfter, dayBefore, add, sub, next, W, between};
+ghost use Rattle.datum.specs.Tage.{tagAt};
 ghost use Rattle.werktag.specs.Werktag.{isWerktag};
+ghost use Rattle.gang.specs.Stand.{tagStep};
 
 pub mod index;
 pub mod tested;
-pub mod walk;
 
+use datum::tage::Tag;
+use gang::TagStep;
 use index::StepKind;
 use werktag::HolidayCalendar;
 use zaehlung::FIRST;
@@ -19,25 +22,27 @@ use zaehlung::Step;
 /// The day after, Werktag or not, or `Outside` past the calendar's last day.
 ///
 /// After 31 December 2025: 1 January 2026.
-pub fn day_after(day: u32) -> Step
-    ensures { λ r. ⌜ r ≡ dayAfter day ⌝ }
+pub fn day_after(day: Tag) -> TagStep
+    requires { ⌜ (day ≡ tagAt (day .index)) × (day .index ≤ last) ⌝ }
+    ensures { λ r. ⌜ r ≡ tagStep (dayAfter (day .index)) ⌝ }
 {
-    if LAST <= day {
-        return Step::Outside;
+    if LAST <= day.index {
+        return TagStep::Outside;
     }
-    Step::Day(day + 1)
+    TagStep::At(datum::tage::day_after(day))
 }
 
 /// The day before, Werktag or not, or `Outside` before the calendar's first day.
 ///
 /// Before 1 January 2026: 31 December 2025.
-pub fn day_before(day: u32) -> Step
-    ensures { λ r. ⌜ r ≡ dayBefore day ⌝ }
+pub fn day_before(day: Tag) -> TagStep
+    requires { ⌜ (day ≡ tagAt (day .index)) × (day .index ≤ last) ⌝ }
+    ensures { λ r. ⌜ r ≡ tagStep (dayBefore (day .index)) ⌝ }
 {
-    if day <= FIRST {
-        return Step::Outside;
+    if day.index <= FIRST {
+        return TagStep::Outside;
     }
-    Step::Day(day - 1)
+    TagStep::At(datum::tage::day_before(day))
 }
 
 /// Up to so many Werktage a step is walked, and up to so many days a count. From there on the index is faster, whatever
@@ -54,17 +59,17 @@ const FEW_DAYS: u32 = 15;
 ///
 /// Monday 6 January 2025 and 5 Werktage: Tue 7, Wed 8, Thu 9, Fri 10, Mon 13 January. Thursday 2 April 2026 and 1
 /// Werktag, over Easter: Tuesday 7 April.
-pub fn add_werktage(from: u32, n: u32, cal: HolidayCalendar) -> Step
-    requires { ⌜ from ≤ last ⌝ }
-    ensures { λ r. ⌜ r ≡ add (isWerktag cal) from n ⌝ }
+pub fn add_werktage(from: Tag, n: u32, cal: HolidayCalendar) -> TagStep
+    requires { ⌜ (from ≡ tagAt (from .index)) × (from .index ≤ last) ⌝ }
+    ensures { λ r. ⌜ r ≡ tagStep (add (isWerktag cal) (from .index) n) ⌝ }
 {
     if n <= FEW_WERKTAGE {
-        return walk::add_werktage(from, n, cal);
+        return gang::add_werktage(from, n, cal);
     }
     let Step::Day(day) = index::step(StepKind::Add, from, n, cal) else {
-        return Step::Outside;
+        return TagStep::Outside;
     };
-    Step::Day(day)
+    TagStep::At(datum::tage::tag_at(day))
 }
 
 /// The `n`-th Werktag before `from`, or `Outside` where that would be before the calendar's first day: the mirror of
@@ -75,17 +80,17 @@ pub fn add_werktage(from: u32, n: u32, cal: HolidayCalendar) -> Step
 /// With `n = 0`: `from` unchanged, Werktag or not.
 ///
 /// Monday 13 January 2025 less 5 Werktage: Fri 10, Thu 9, Wed 8, Tue 7, and past Heilige Drei Könige Fri 3 January.
-pub fn sub_werktage(from: u32, n: u32, cal: HolidayCalendar) -> Step
-    requires { ⌜ from ≤ last ⌝ }
-    ensures { λ r. ⌜ r ≡ sub (isWerktag cal) from n ⌝ }
+pub fn sub_werktage(from: Tag, n: u32, cal: HolidayCalendar) -> TagStep
+    requires { ⌜ (from ≡ tagAt (from .index)) × (from .index ≤ last) ⌝ }
+    ensures { λ r. ⌜ r ≡ tagStep (sub (isWerktag cal) (from .index) n) ⌝ }
 {
     if n <= FEW_WERKTAGE {
-        return walk::sub_werktage(from, n, cal);
+        return gang::sub_werktage(from, n, cal);
     }
     let Step::Day(day) = index::step(StepKind::Sub, from, n, cal) else {
-        return Step::Outside;
+        return TagStep::Outside;
     };
-    Step::Day(day)
+    TagStep::At(datum::tage::tag_at(day))
 }
 
 /// The Werktage after `from` up to and including `to`: the inverse of `add_werktage`, since from `from` to its `n`-th
@@ -94,15 +99,16 @@ pub fn sub_werktage(from: u32, n: u32, cal: HolidayCalendar) -> Step
 /// 0 if `to` isn't later than `from`.
 ///
 /// From Monday 6 to Monday 13 January 2025: 5.
-pub fn werktage_between(from: u32, to: u32, cal: HolidayCalendar) -> u32
-    requires { ⌜ (from ≤ last) × (to ≤ last) ⌝ }
-    ensures { λ r. ⌜ r ≡ between (isWerktag cal) from to ⌝ }
+pub fn werktage_between(from: Tag, to: Tag, cal: HolidayCalendar) -> u32
+    requires { ⌜ (from ≡ tagAt (from .index)) × (from .index ≤ last) ⌝ }
+    requires { ⌜ (to ≡ tagAt (to .index)) × (to .index ≤ last) ⌝ }
+    ensures { λ r. ⌜ r ≡ between (isWerktag cal) (from .index) (to .index) ⌝ }
 {
-    if to <= from {
+    if to.index <= from.index {
         return 0;
     }
-    if to - from <= FEW_DAYS {
-        return walk::werktage_between(from, to, cal);
+    if to.index - from.index <= FEW_DAYS {
+        return gang::werktage_between(from, to.index, cal);
     }
     index::werktage_between(from, to, cal)
 }
@@ -112,18 +118,25 @@ pub fn werktage_between(from: u32, to: u32, cal: HolidayCalendar) -> u32
 /// `add_werktage` with 0 leaves a Sunday or a holiday where it is; this goes on to the next Werktag.
 ///
 /// From Sunday 12 January 2025: Monday 13 January. From that Monday: the same Monday.
-pub fn next_werktag(from: u32, cal: HolidayCalendar) -> Step
-    requires { ⌜ from ≤ last ⌝ }
-    ensures { λ r. ⌜ r ≡ next (isWerktag cal) from ⌝ }
+pub fn next_werktag(from: Tag, cal: HolidayCalendar) -> TagStep
+    requires { ⌜ (from ≡ tagAt (from .index)) × (from .index ≤ last) ⌝ }
+    ensures { λ r. ⌜ r ≡ tagStep (next (isWerktag cal) (from .index)) ⌝ }
 {
-    let mut day = from;
-    while !werktag::is_werktag(day, cal) {
-        if LAST <= day {
-            return Step::Outside;
-        }
-        day += 1;
+    if werktag::is_werktag(from, cal) {
+        return TagStep::At(from);
     }
-    Step::Day(day)
+    gang::add_werktage(from, 1, cal)
+}
+
+/// How many of `n` Werktage on or after `t` lie after it: `t` may be the first of them.
+fn after_today(t: Tag, n: u32, cal: HolidayCalendar) -> u32
+    requires { ⌜ (t ≡ tagAt (t .index)) × (t .index ≤ last) × (1 ≤ n) ⌝ }
+    ensures { λ r. ⌜ r ≡ n - bit (isWerktag cal (t .index)) ⌝ }
+{
+    if werktag::is_werktag(t, cal) {
+        return n - 1;
+    }
+    n
 }
 
 /// W(n) of document 01: 't for n = 0, else the day after the n-th Werktag on or after t', or `Outside` where that would
@@ -133,15 +146,15 @@ pub fn next_werktag(from: u32, cal: HolidayCalendar) -> Step
 ///
 /// From Saturday 10 January 2026 with 1: the Werktag is Monday 12, so Tuesday 13 January. `add_werktage` reaches the
 /// Monday.
-pub fn day_after_werktage(t: u32, n: u32, cal: HolidayCalendar) -> Step
-    requires { ⌜ t ≤ last ⌝ }
-    ensures { λ r. ⌜ r ≡ W (isWerktag cal) t n ⌝ }
+pub fn day_after_werktage(t: Tag, n: u32, cal: HolidayCalendar) -> TagStep
+    requires { ⌜ (t ≡ tagAt (t .index)) × (t .index ≤ last) ⌝ }
+    ensures { λ r. ⌜ r ≡ tagStep (W (isWerktag cal) (t .index) n) ⌝ }
 {
-    if n <= FEW_WERKTAGE {
-        return walk::day_after_werktage(t, n, cal);
+    if n == 0 {
+        return TagStep::At(t);
     }
-    let Step::Day(day) = index::step(StepKind::DayAfter, t, n, cal) else {
-        return Step::Outside;
+    let TagStep::At(werktag) = add_werktage(t, after_today(t, n, cal), cal) else {
+        return TagStep::Outside;
     };
-    Step::Day(day)
+    day_after(werktag)
 }

@@ -5,6 +5,7 @@ pub mod Skips
 pub mod Count
 pub mod Reach
 pub mod Laws
+pub mod OnOrAfter
 pub mod BlockLaws
 pub mod Search
 pub mod Striking
