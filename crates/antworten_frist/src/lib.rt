@@ -265,7 +265,7 @@ pub fn frist_due_at_answer(
 }
 
 // A single call and a file of questions ask the same. What they share reads the numbers and writes the 32 bytes too, so
-// that neither instant nor answer has to be handed on.
+// that neither instant nor answer has to be handed on. It tests the length for the call: a file's slices have 32 bytes.
 
 /// Writes when a CONTRL is due: what `mf_contrl_due_at` does, and a question of a file. Regelfall received 31 March
 /// 2026 12:00:00 Berlin is due 2 April 00:00.
@@ -275,6 +275,9 @@ pub fn contrl_due_at_reply(seconds: i64, nanos: u32, anlass: u8, answer: &mut [u
         (contrlDueAtAnswer (readInstant seconds nanos) anlass)
         ⌝ }
 {
+    if answer.len() != antwortsatz::ANSWER_BYTES {
+        return antwortsatz::ANSWER_LENGTH;
+    }
     let instant = berlin::read_instant(seconds, nanos);
     let a = contrl_due_at_answer(instant, anlass);
     antwortsatz::reply(answer, a)
@@ -300,6 +303,9 @@ pub fn frist_due_at_reply(
         (readInstant seconds nanos))
         ⌝ }
 {
+    if answer.len() != antwortsatz::ANSWER_BYTES {
+        return antwortsatz::ANSWER_LENGTH;
+    }
     let clock = berlin::read_clock(hour, minute, second, nanos_of_second);
     let instant = berlin::read_instant(seconds, nanos);
     let a = frist_due_at_answer(shape, werktage, clock, instant, cal);

@@ -319,7 +319,7 @@ pub fn eog_ankuendigung_fristgerecht_answer(
 }
 
 // A single call and a file of questions ask the same. What they share writes the 32 bytes too, so that no answer has to
-// be handed on.
+// be handed on. It tests the length for the call: a file's slices have 32 bytes.
 
 /// Writes the verdict of a shape on a transmission date and an anchor: what `mf_vorlauf_check` does, and a question of
 /// a file. `LatestWerktageBefore(1)` for 10 January 2026 against the 12th: TooLate, 0, the 12th.
@@ -337,6 +337,9 @@ pub fn vorlauf_check_reply(
         (vorlaufCheckAnswer (isWerktag cal) code count count2 first second)
         ⌝ }
 {
+    if answer.len() != antwortsatz::ANSWER_BYTES {
+        return antwortsatz::ANSWER_LENGTH;
+    }
     let a = vorlauf_check_answer(code, count, count2, first, second, cal);
     antwortsatz::reply(answer, a)
 }
@@ -356,6 +359,9 @@ pub fn vorlauf_span_reply(
         (vorlaufSpanAnswer (isWerktag cal) code count count2 date)
         ⌝ }
 {
+    if answer.len() != antwortsatz::ANSWER_BYTES {
+        return antwortsatz::ANSWER_LENGTH;
+    }
     let a = vorlauf_span_answer(code, count, count2, date, cal);
     antwortsatz::reply(answer, a)
 }

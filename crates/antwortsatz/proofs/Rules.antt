@@ -1,6 +1,6 @@
 -- What the proofs cite: each rule's premises have the form in which a proof has them, so that `search` finds the rule.
 --   call-rules    for every host call: its answer is what a definition gives, so what `reply` promises of the answer
---                 holds of the definition
+--                 holds of the definition; a slice of another length than 32 is left as it was
 --   bytes-are     for `bytes_of`, whose seconds went through `bits_of`
 --   reply-whole   what a slice of 32 bytes gets
 --   reply-rules   for `reply`: a slice of another length; one byte more is copied; all are copied
@@ -27,7 +27,11 @@ pub call-replied :
     a ≡ b → (r, l′) ≡ reply l a → (r, l′) ≡ reply l b
 call-replied l l′ a b r e p = rw (← e) p
 
-pub ruleset call-rules = (call-replied)
+pub reply-other : (l : List ℕ) (a : Answer) → (length l ≡ 32 → ⊥) → (1, l) ≡ reply l a
+unfolding reply
+reply-other l a h = rw (ne-eqb (length l) 32 h)
+
+pub ruleset call-rules = (call-replied, reply-other)
 
 pub bytes-are :
     (a : Answer) (s : ℕ) → SFits w64 (a .seconds) → s ≡ bitsOf (back (a .seconds)) → laid a s ≡ bytesOf a
@@ -37,10 +41,6 @@ bytes-are a s f e = rw (e, toZ-ofZ f)
 pub reply-whole : (l : List ℕ) (a : Answer) → length l ≡ 32 → reply l a ≡ (a .refusal, bytesOf a)
 unfolding reply
 reply-whole l a h = rw (eq-eqb (length l) 32 h)
-
-pub reply-other : (l : List ℕ) (a : Answer) → (length l ≡ 32 → ⊥) → (1, l) ≡ reply l a
-unfolding reply
-reply-other l a h = rw (ne-eqb (length l) 32 h)
 
 pub copy-more :
     (l b : List ℕ) (a : Answer) (i : ℕ) →

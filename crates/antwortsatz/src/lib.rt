@@ -27,7 +27,7 @@ pub const LEAVES_CALENDAR: u8 = 8;
 pub const FILE_LENGTH: u8 = 9;
 
 /// The answer's length in bytes.
-const ANSWER_BYTES: usize = 32;
+pub const ANSWER_BYTES: usize = 32;
 
 /// The fields of an answer, in the order of their bytes. A field that a call does not use is 0. Bytes 20 to 31 are
 /// three words, named by their first byte: a date is one, and a number, a signed one's bits or an instant have room
@@ -89,7 +89,7 @@ pub fn date_word(date: Date) -> u32
     (date.year as u32) + 65536 * (date.month as u32) + 16777216 * (date.day as u32)
 }
 
-/// "A refusal leaves bytes 1 to 31 zero": `refused(NO_DATE)` has 3 in byte 0. Refusal 1 is never written: `reply`
+/// "A refusal leaves bytes 1 to 31 zero": `refused(NO_DATE)` has 3 in byte 0. Refusal 1 is never written: it
 /// leaves the slice as it was.
 pub fn refused(number: u8) -> Answer
     ensures { λ r. ⌜ r ≡ refused number ⌝ }
@@ -191,7 +191,7 @@ pub fn bytes_of(a: Answer) -> [u8; 32]
 }
 
 /// Writes the answer and returns its refusal number, if the slice has 32 bytes; else returns 1, "which leaves the slice
-/// untouched", as one of 31 bytes. The one writer: every host call ends in it.
+/// untouched", as one of 31 bytes. The one writer: no host call fills an answer without it.
 pub fn reply(answer: &mut [u8], a: Answer) -> u8
     ensures { λ r. ⌜ (r, now (answer .exit)) ≡ reply (now (answer .entry)) a ⌝ }
 {

@@ -35,6 +35,9 @@ pub extern "C" fn mf_aperak_strom_due_at(seconds: i64, nanos: u32, answer: &mut 
         (aperakStromDueAtAnswer (readInstant seconds nanos))
         ⌝ }
 {
+    if answer.len() != antwortsatz::ANSWER_BYTES {
+        return antwortsatz::ANSWER_LENGTH;
+    }
     let instant = berlin::read_instant(seconds, nanos);
     let a = antworten_frist::aperak_strom_due_at_answer(instant);
     antwortsatz::reply(answer, a)
@@ -53,6 +56,9 @@ pub extern "C" fn mf_aperak_strom_allgemein_due_at(
         (aperakStromAllgemeinDueAtAnswer (isWerktag BdewMaKo) (readInstant seconds nanos))
         ⌝ }
 {
+    if answer.len() != antwortsatz::ANSWER_BYTES {
+        return antwortsatz::ANSWER_LENGTH;
+    }
     let instant = berlin::read_instant(seconds, nanos);
     let a = antworten_frist::aperak_strom_allgemein_due_at_answer(
         instant,
@@ -74,6 +80,9 @@ pub extern "C" fn mf_aperak_gas_folgeprozess_due_at(
         (aperakGasFolgeprozessDueAtAnswer (isWerktag BdewMaKo) (readInstant seconds nanos))
         ⌝ }
 {
+    if answer.len() != antwortsatz::ANSWER_BYTES {
+        return antwortsatz::ANSWER_LENGTH;
+    }
     let instant = berlin::read_instant(seconds, nanos);
     let a = antworten_frist::aperak_gas_folgeprozess_due_at_answer(
         instant,
@@ -95,6 +104,9 @@ pub extern "C" fn mf_aperak_gas_initialprozess_due_at(
         (aperakGasInitialprozessDueAtAnswer (isWerktag BdewMaKo) (readInstant seconds nanos))
         ⌝ }
 {
+    if answer.len() != antwortsatz::ANSWER_BYTES {
+        return antwortsatz::ANSWER_LENGTH;
+    }
     let instant = berlin::read_instant(seconds, nanos);
     let a = antworten_frist::aperak_gas_initialprozess_due_at_answer(
         instant,
@@ -112,6 +124,9 @@ pub extern "C" fn mf_aperak_gas_due_at(pid: u32, seconds: i64, nanos: u32, answe
         (aperakGasDueAtAnswer (isWerktag BdewMaKo) pid (readInstant seconds nanos))
         ⌝ }
 {
+    if answer.len() != antwortsatz::ANSWER_BYTES {
+        return antwortsatz::ANSWER_LENGTH;
+    }
     let instant = berlin::read_instant(seconds, nanos);
     let a = antworten_frist::aperak_gas_due_at_answer(pid, instant, HolidayCalendar::BdewMaKo);
     antwortsatz::reply(answer, a)
@@ -126,6 +141,9 @@ pub extern "C" fn mf_add_hours(seconds: i64, nanos: u32, hours: u32, answer: &mu
         (addHoursAnswer (readInstant seconds nanos) hours)
         ⌝ }
 {
+    if answer.len() != antwortsatz::ANSWER_BYTES {
+        return antwortsatz::ANSWER_LENGTH;
+    }
     let instant = berlin::read_instant(seconds, nanos);
     let a = antworten_frist::add_hours_answer(instant, hours);
     antwortsatz::reply(answer, a)
@@ -145,6 +163,9 @@ pub extern "C" fn mf_deadline_at_werktage(
         (deadlineAtWerktageAnswer (isWerktag BdewMaKo) (readInstant seconds nanos) werktage)
         ⌝ }
 {
+    if answer.len() != antwortsatz::ANSWER_BYTES {
+        return antwortsatz::ANSWER_LENGTH;
+    }
     let instant = berlin::read_instant(seconds, nanos);
     let a = antworten_frist::deadline_at_werktage_answer(
         instant,
@@ -168,6 +189,9 @@ pub extern "C" fn mf_end_of_werktag_after(
         (endOfWerktagAfterAnswer (isWerktag BdewMaKo) (readInstant seconds nanos) werktage)
         ⌝ }
 {
+    if answer.len() != antwortsatz::ANSWER_BYTES {
+        return antwortsatz::ANSWER_LENGTH;
+    }
     let instant = berlin::read_instant(seconds, nanos);
     let a = antworten_frist::end_of_werktag_after_answer(
         instant,
@@ -195,6 +219,9 @@ pub extern "C" fn mf_next_werktag_at(
         (readClock hour minute second «nanos_of_second»))
         ⌝ }
 {
+    if answer.len() != antwortsatz::ANSWER_BYTES {
+        return antwortsatz::ANSWER_LENGTH;
+    }
     let instant = berlin::read_instant(seconds, nanos);
     let clock = berlin::read_clock(hour, minute, second, nanos_of_second);
     let a = antworten_frist::next_werktag_at_answer(instant, clock, HolidayCalendar::BdewMaKo);
@@ -219,6 +246,9 @@ pub extern "C" fn mf_nth_werktag_at(
         (readClock hour minute second «nanos_of_second»))
         ⌝ }
 {
+    if answer.len() != antwortsatz::ANSWER_BYTES {
+        return antwortsatz::ANSWER_LENGTH;
+    }
     let instant = berlin::read_instant(seconds, nanos);
     let clock = berlin::read_clock(hour, minute, second, nanos_of_second);
     let a = antworten_frist::nth_werktag_at_answer(instant, n, clock, HolidayCalendar::BdewMaKo);

@@ -19,6 +19,9 @@ pub extern "C" fn mf_is_werktag(year: u16, month: u8, day: u8, answer: &mut [u8]
         (isWerktagAnswer (reason BdewMaKo) (dateFrom year month day))
         ⌝ }
 {
+    if answer.len() != antwortsatz::ANSWER_BYTES {
+        return antwortsatz::ANSWER_LENGTH;
+    }
     let date = Date { year, month, day };
     let a = antworten::kalender::is_werktag_answer(date, HolidayCalendar::BdewMaKo);
     antwortsatz::reply(answer, a)
@@ -33,6 +36,9 @@ pub extern "C" fn mf_next_werktag(year: u16, month: u8, day: u8, answer: &mut [u
         (nextWerktagAnswer (isWerktag BdewMaKo) (dateFrom year month day))
         ⌝ }
 {
+    if answer.len() != antwortsatz::ANSWER_BYTES {
+        return antwortsatz::ANSWER_LENGTH;
+    }
     let date = Date { year, month, day };
     let a = antworten::kalender::next_werktag_answer(date, HolidayCalendar::BdewMaKo);
     antwortsatz::reply(answer, a)
@@ -47,6 +53,9 @@ pub extern "C" fn mf_add_werktage(year: u16, month: u8, day: u8, n: u32, answer:
         (addWerktageAnswer (isWerktag BdewMaKo) (dateFrom year month day) n)
         ⌝ }
 {
+    if answer.len() != antwortsatz::ANSWER_BYTES {
+        return antwortsatz::ANSWER_LENGTH;
+    }
     let date = Date { year, month, day };
     let a = antworten::kalender::add_werktage_answer(date, n, HolidayCalendar::BdewMaKo);
     antwortsatz::reply(answer, a)
@@ -61,6 +70,9 @@ pub extern "C" fn mf_sub_werktage(year: u16, month: u8, day: u8, n: u32, answer:
         (subWerktageAnswer (isWerktag BdewMaKo) (dateFrom year month day) n)
         ⌝ }
 {
+    if answer.len() != antwortsatz::ANSWER_BYTES {
+        return antwortsatz::ANSWER_LENGTH;
+    }
     let date = Date { year, month, day };
     let a = antworten::kalender::sub_werktage_answer(date, n, HolidayCalendar::BdewMaKo);
     antwortsatz::reply(answer, a)
@@ -83,6 +95,9 @@ pub extern "C" fn mf_werktage_between(
         (werktageBetweenAnswer (isWerktag BdewMaKo) (dateFrom year month day) (dateFrom year2 month2 day2))
         ⌝ }
 {
+    if answer.len() != antwortsatz::ANSWER_BYTES {
+        return antwortsatz::ANSWER_LENGTH;
+    }
     let first = Date { year, month, day };
     let second = Date {
         year: year2,
@@ -102,6 +117,9 @@ pub extern "C" fn mf_add_months(year: u16, month: u8, day: u8, n: u32, answer: &
         (addMonthsAnswer (dateFrom year month day) n)
         ⌝ }
 {
+    if answer.len() != antwortsatz::ANSWER_BYTES {
+        return antwortsatz::ANSWER_LENGTH;
+    }
     let date = Date { year, month, day };
     let a = antworten::kalender::add_months_answer(date, n);
     antwortsatz::reply(answer, a)
@@ -116,6 +134,9 @@ pub extern "C" fn mf_subtract_months(year: u16, month: u8, day: u8, n: u32, answ
         (subtractMonthsAnswer (dateFrom year month day) n)
         ⌝ }
 {
+    if answer.len() != antwortsatz::ANSWER_BYTES {
+        return antwortsatz::ANSWER_LENGTH;
+    }
     let date = Date { year, month, day };
     let a = antworten::kalender::subtract_months_answer(date, n);
     antwortsatz::reply(answer, a)

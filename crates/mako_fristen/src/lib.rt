@@ -1,8 +1,9 @@
-// The host calls: read the numbers, ask for the answer, write its 32 bytes.
+// The host calls: test the answer's length, read the numbers, ask for the answer, write its 32 bytes.
 //
 // Each call's promise is one equation: the number that it returns and the slice as it leaves it are what a definition
 // gives, which stands in specs/ of `antworten`, `antworten_frist`, `antworten_vorlauf` or `antworten_frage`. Refusal 1
-// is the writer's; every other is decided in the answer, but 9, which is a file's.
+// is found first, by the call or by what it shares with a file of questions; every other is decided in the answer, but
+// 9, which is a file's.
 mod fragen;
 mod frist;
 mod kalender;

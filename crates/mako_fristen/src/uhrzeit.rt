@@ -25,6 +25,9 @@ pub extern "C" fn mf_berlin_at(
         (berlinAtAnswer (dateFrom year month day) (readClock hour minute second «nanos_of_second»))
         ⌝ }
 {
+    if answer.len() != antwortsatz::ANSWER_BYTES {
+        return antwortsatz::ANSWER_LENGTH;
+    }
     let date = Date { year, month, day };
     let clock = berlin::read_clock(hour, minute, second, nanos_of_second);
     let a = antworten::uhrzeit::berlin_at_answer(date, clock);
@@ -40,6 +43,9 @@ pub extern "C" fn mf_berlin_midnight(year: u16, month: u8, day: u8, answer: &mut
         (berlinMidnightAnswer (dateFrom year month day))
         ⌝ }
 {
+    if answer.len() != antwortsatz::ANSWER_BYTES {
+        return antwortsatz::ANSWER_LENGTH;
+    }
     let date = Date { year, month, day };
     let a = antworten::uhrzeit::berlin_midnight_answer(date);
     antwortsatz::reply(answer, a)
@@ -54,6 +60,9 @@ pub extern "C" fn mf_end_of_day_berlin(year: u16, month: u8, day: u8, answer: &m
         (endOfDayBerlinAnswer (dateFrom year month day))
         ⌝ }
 {
+    if answer.len() != antwortsatz::ANSWER_BYTES {
+        return antwortsatz::ANSWER_LENGTH;
+    }
     let date = Date { year, month, day };
     let a = antworten::uhrzeit::end_of_day_berlin_answer(date);
     antwortsatz::reply(answer, a)
@@ -74,6 +83,9 @@ pub extern "C" fn mf_tagesbeginn_utc(
         (tagesbeginnUtcAnswer (dateFrom year month day) sparte)
         ⌝ }
 {
+    if answer.len() != antwortsatz::ANSWER_BYTES {
+        return antwortsatz::ANSWER_LENGTH;
+    }
     let date = Date { year, month, day };
     let a = antworten::uhrzeit::tagesbeginn_utc_answer(date, sparte);
     antwortsatz::reply(answer, a)
@@ -88,6 +100,9 @@ pub extern "C" fn mf_berlin_date(seconds: i64, nanos: u32, answer: &mut [u8]) ->
         (berlinDateAnswer (readInstant seconds nanos))
         ⌝ }
 {
+    if answer.len() != antwortsatz::ANSWER_BYTES {
+        return antwortsatz::ANSWER_LENGTH;
+    }
     let instant = berlin::read_instant(seconds, nanos);
     let a = antworten::uhrzeit::berlin_date_answer(instant);
     antwortsatz::reply(answer, a)
@@ -102,6 +117,9 @@ pub extern "C" fn mf_tag_des_beginns(seconds: i64, nanos: u32, sparte: u8, answe
         (tagDesBeginnsAnswer (readInstant seconds nanos) sparte)
         ⌝ }
 {
+    if answer.len() != antwortsatz::ANSWER_BYTES {
+        return antwortsatz::ANSWER_LENGTH;
+    }
     let instant = berlin::read_instant(seconds, nanos);
     let a = antworten::uhrzeit::tag_des_beginns_answer(instant, sparte);
     antwortsatz::reply(answer, a)

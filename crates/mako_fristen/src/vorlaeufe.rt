@@ -72,6 +72,9 @@ pub extern "C" fn mf_vorlauf_check_at(
         (readInstant seconds2 nanos2))
         ⌝ }
 {
+    if answer.len() != antwortsatz::ANSWER_BYTES {
+        return antwortsatz::ANSWER_LENGTH;
+    }
     let instant = berlin::read_instant(seconds, nanos);
     let beginning = berlin::read_instant(seconds2, nanos2);
     let a = antworten_vorlauf::vorlauf_check_at_answer(
@@ -125,6 +128,9 @@ pub extern "C" fn mf_abmeldung_fuer(reason: &[u8], eeg: u8, answer: &mut [u8]) -
         (abmeldungFuerAnswer (now (reason .entry)) eeg)
         ⌝ }
 {
+    if answer.len() != antwortsatz::ANSWER_BYTES {
+        return antwortsatz::ANSWER_LENGTH;
+    }
     let a = antworten_vorlauf::abmeldung_fuer_answer(reason, eeg);
     antwortsatz::reply(answer, a)
 }
@@ -149,6 +155,9 @@ pub extern "C" fn mf_abmeldung_check(
         (dateFrom year2 month2 day2))
         ⌝ }
 {
+    if answer.len() != antwortsatz::ANSWER_BYTES {
+        return antwortsatz::ANSWER_LENGTH;
+    }
     let first = Date { year, month, day };
     let second = Date {
         year: year2,
@@ -181,6 +190,9 @@ pub extern "C" fn mf_eog_ankuendigung_fristgerecht(
         (eogAnkuendigungFristgerechtAnswer (isWerktag BdewMaKo) (readInstant seconds nanos) (dateFrom year month day))
         ⌝ }
 {
+    if answer.len() != antwortsatz::ANSWER_BYTES {
+        return antwortsatz::ANSWER_LENGTH;
+    }
     let date = Date { year, month, day };
     let instant = berlin::read_instant(seconds, nanos);
     let a = antworten_vorlauf::eog_ankuendigung_fristgerecht_answer(

@@ -1,11 +1,14 @@
--- `antworten_frist::frist_due_at_reply` meets its contract: its answer is what the definition gives, and `reply`
--- writes it.
+-- `antworten_frist::frist_due_at_reply` meets its contract: a slice of another length is refused first; else its answer
+-- is what the definition gives, and `reply` writes it.
 -- Assumes nothing.
 use Rattle.antwortsatz.proofs.Rules.{call-rules}
 use Rattle.antworten.proofs.Rules.{read-rules, read-same}
 use borrow.Author.Needs.{needs}
 use Rattle.antworten_frist.proofs.frist_due_at_reply.Statement.{statement}
 use Rattle.antworten_frist.proofs.frist_due_at_reply.Tie as tie
+
+returns : tie.Need-returns
+returns c = search (needs, call-rules, c .if1 .taken)
 
 read-clock-requires : tie.Need-read-clock-requires
 read-clock-requires c κs = search needs
@@ -22,9 +25,9 @@ reply-requires c κs = search needs
 same-length : tie.Need-same-length
 same-length c = search needs
 
-returns : tie.Need-returns
-returns c =
-    let a = c .before .before .before .before .before .before .before .before in
+returns-2 : tie.Need-returns-2
+returns-2 c =
+    let a = c .before .before .before .before .before .before .before .before .before in
     let s = c .before .before .before .before .before in
     rw (
       read-same _ _ _ (a .fits .seconds) (s .read-instant .ensures),
@@ -36,9 +39,10 @@ pub frist-due-at-reply-spec : {M : Type 1} → statement M
 frist-due-at-reply-spec =
     tie.close
     (tie.spec
+    returns
     read-clock-requires
     read-instant-requires
     frist-due-at-answer-requires
     reply-requires
     same-length
-    returns)
+    returns-2)

@@ -1,10 +1,13 @@
--- `antworten_vorlauf::vorlauf_span_reply` meets its contract: its answer is what the definition gives, and `reply`
--- writes it.
+-- `antworten_vorlauf::vorlauf_span_reply` meets its contract: a slice of another length is refused first; else its
+-- answer is what the definition gives, and `reply` writes it.
 -- Assumes nothing.
 use Rattle.antwortsatz.proofs.Rules.{call-rules}
 use borrow.Author.Needs.{needs}
 use Rattle.antworten_vorlauf.proofs.vorlauf_span_reply.Statement.{statement}
 use Rattle.antworten_vorlauf.proofs.vorlauf_span_reply.Tie as tie
+
+returns : tie.Need-returns
+returns c = search (needs, call-rules, c .if1 .taken)
 
 vorlauf-span-answer-requires : tie.Need-vorlauf-span-answer-requires
 vorlauf-span-answer-requires c κs = search needs
@@ -15,9 +18,9 @@ reply-requires c κs = search needs
 same-length : tie.Need-same-length
 same-length c = search needs
 
-returns : tie.Need-returns
-returns c = search (needs, call-rules)
+returns-2 : tie.Need-returns-2
+returns-2 c = search (needs, call-rules)
 
 pub vorlauf-span-reply-spec : {M : Type 1} → statement M
 vorlauf-span-reply-spec =
-    tie.close (tie.spec vorlauf-span-answer-requires reply-requires same-length returns)
+    tie.close (tie.spec returns vorlauf-span-answer-requires reply-requires same-length returns-2)

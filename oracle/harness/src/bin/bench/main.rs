@@ -42,6 +42,8 @@ struct Case {
     original: Option<Pass>,
     /// How many of the inputs it gets.
     walked: usize,
+    /// How many bytes the answer has that ours is lent.
+    lent: usize,
 }
 
 impl Case {
@@ -52,6 +54,10 @@ impl Case {
 
     fn without_original(self) -> Case {
         Case { original: None, ..self }
+    }
+
+    fn lending(self, lent: usize) -> Case {
+        Case { lent, ..self }
     }
 }
 
@@ -80,7 +86,8 @@ fn case<T>(
         }
     };
     let walked = inputs.len();
-    Case { what: what.to_owned(), inputs, original: Some(Box::new(original)), walked }
+    let original: Option<Pass> = Some(Box::new(original));
+    Case { what: what.to_owned(), inputs, original, walked, lent: Answer::LEN }
 }
 
 fn cases() -> Vec<Case> {
@@ -146,6 +153,13 @@ fn counts() -> Vec<Case> {
     };
     let near = [over(1, 2016, 40), over(10, 2016, 40)];
     near.into_iter().chain([over(100, 2016, 40).far(), over(900, 1996, 4).far()]).collect()
+}
+
+/// A count over 900 years, refused with 1.
+fn wrong_length() -> Case {
+    let question = Question::new(Call::WerktageBetween);
+    let count = case(question, "31 bytes refused", &spread(1996, 4, 900), |i| i.to);
+    count.without_original().lending(Answer::LEN - 1)
 }
 
 fn clocks(mixed: &[(u32, u32)]) -> Vec<Case> {
@@ -378,10 +392,11 @@ fn mixed(pairs: &[(u32, u32)]) -> Vec<(u32, u32)> {
     keyed.into_iter().map(|(_, pair)| pair).collect()
 }
 
-fn ours(inputs: &[Input]) {
+fn ours(inputs: &[Input], lent: usize) {
     let mut answer = [0; Answer::LEN];
+    let answer = &mut answer[..lent];
     for input in inputs {
-        black_box(black_box(&input.question).ask(black_box(&mut answer)));
+        black_box(black_box(&input.question).ask(black_box(&mut *answer)));
     }
 }
 
@@ -404,14 +419,14 @@ fn median(mut times: Vec<f64>) -> f64 {
 
 /// Nanoseconds of one call, ours and the original's.
 fn measured(case: &Case) -> (f64, Option<f64>) {
-    let Case { inputs, original, walked, .. } = case;
+    let Case { inputs, original, walked, lent, .. } = case;
     let per = |time: f64, inputs: &[Input]| time / inputs.len() as f64;
     let Some(original) = original else {
-        let [time] = medians([&|| ours(inputs)]);
+        let [time] = medians([&|| ours(inputs, *lent)]);
         return (per(time, inputs), None);
     };
     let walked = &inputs[..*walked];
-    let [ours, original] = medians([&|| ours(inputs), &|| original(walked)]);
+    let [ours, original] = medians([&|| ours(inputs, *lent), &|| original(walked)]);
     (per(ours, inputs), Some(per(original, walked)))
 }
 
@@ -459,6 +474,17 @@ fn print_row(name: &str, what: &str, ours: f64, original: f64) {
     println!("{name:36} {what:16} {ours:12.1} {original:12.1} {ratio:8.2}");
 }
 
+fn print_case(case: &Case, only: &str) {
+    let (name, what) = (case.inputs[0].question.call.name(), &case.what);
+    if !format!("{name} {what}").contains(only) {
+        return;
+    }
+    match measured(case) {
+        (ours, Some(original)) => print_row(name, what, ours, original),
+        (ours, None) => println!("{name:36} {what:16} {ours:12.1}"),
+    }
+}
+
 fn main() {
     options::only(&["--only"]);
     let only: String = options::option("--only", String::new());
@@ -482,17 +508,12 @@ fn main() {
     );
     println!("The day test: ours tells why a day is closed, the original only whether.");
     println!("Files have 2048 questions in all, as many of each operation, mixed: per question.");
+    println!("A count over 900 years whose answer has 31 bytes is refused with 1.");
     println!("{:36} {:16} {:>12} {:>12} {:>8}", "call", "", "ours", "original", "ratio");
     for case in cases() {
-        let (name, what) = (case.inputs[0].question.call.name(), &case.what);
-        if !format!("{name} {what}").contains(&only) {
-            continue;
-        }
-        match measured(&case) {
-            (ours, Some(original)) => print_row(name, what, ours, original),
-            (ours, None) => println!("{name:36} {what:16} {ours:12.1}"),
-        }
+        print_case(&case, &only);
     }
     files::print(&only);
+    print_case(&wrong_length(), &only);
     println!("{:53} {:12.1}", "a call that only fills 32 bytes", floor());
 }
