@@ -12,7 +12,7 @@ use native.Mathlib.Decide.{decLt}
 use borrow.Author.Tests.{eq-eqb, ne-eqb, lt-ltb, le-ltb}
 use Rattle.zaehlung.specs.declared.Step.{Step}
 use Rattle.zaehlung.specs.declared.Step.the-variants.{Day, Outside}
-use Rattle.zaehlung.specs.Walk.{last, add, sub, between}
+use Rattle.zaehlung.specs.Walk.{last, bit, add, sub, between}
 use Rattle.zaehlung.proofs.Laws.{add-none, sub-none, between-later}
 use Rattle.zaehlung.proofs.Skips.{ShutOn, ShutBack, leap-open, leap-shut, leap-edge, back-open, back-shut, back-edge}
 use Rattle.zaehlung.proofs.Skips.{more-open, more-shut, more-none}
@@ -68,6 +68,14 @@ module _ (y m z o : ℕ) (p : y ≡ z) (q : m ≡ o) where
 
 pub weekend-closed : (cal : HolidayCalendar) (i w : ℕ) → w ≡ weekday i → 4 < w → false ≡ isWerktag cal i
 weekend-closed cal i w p h = sym (weekend-shut cal i (omega arith))
+
+pub bit-open : (b r : Bool) → r ≡ b → r ≡ true → 1 ≡ bit b
+bit-open b r p q = ap bit (sym q ∙ p)
+
+pub bit-shut : (b r : Bool) → r ≡ b → r ≡ false → 0 ≡ bit b
+bit-shut b r p q = ap bit (sym q ∙ p)
+
+pub ruleset bit-rules = (bit-open, bit-shut)
 
 -- a day of the month with as many days as it has
 pub in-month : (d n s x : ℕ) → s ≡ x → d + n ≤ s → d + n ≤ x

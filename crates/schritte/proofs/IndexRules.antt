@@ -5,7 +5,6 @@
 --   nth-rules     `nth_werktag`: b is the entry of the year k, m the Werktage of its first days that are skipped
 --   step-rules    the steps: b is a count of Werktage, s what `nth_werktag` gave
 --   kind-rules    `step`: r is what the function of its kind gave
---   same-rules    the steps themselves: s is what `step` gave
 --   between-rules the count: x and y are the Werktage up to its two days
 -- Source: the laws of zaehlung, by which a step is said by counts.
 -- Assumes nothing.
@@ -26,10 +25,17 @@ use Rattle.zaehlung.proofs.Laws.{between-count, between-later}
 use Rattle.datum.specs.Calendar.{yearLen, yearStart, yearOf}
 use Rattle.datum.proofs.Years.{start-none, start-all, yearLen-bounds}
 use Rattle.datum.proofs.Dates.{year-below, yearLen-at}
+use Rattle.datum.specs.declared.tage.Tag.{Tag}
+use Rattle.datum.specs.Tage.{tagAt}
+use Rattle.gang.specs.declared.TagStep.{TagStep}
+use Rattle.gang.specs.declared.TagStep.the-variants as reached
+use Rattle.gang.specs.Stand.{tagStep}
+use Rattle.gang.proofs.Rules.{tag-again, tag-within}
+use Rattle.gang.proofs.TagSteps.{at-day, gone}
 use Rattle.werktag.specs.declared.HolidayCalendar.{HolidayCalendar}
 use Rattle.werktag.specs.Werktag.{isWerktag}
 use Rattle.schritte.specs.declared.index.StepKind.{StepKind}
-use Rattle.schritte.specs.declared.index.StepKind.the-variants.{Add, Sub, DayAfter}
+use Rattle.schritte.specs.declared.index.StepKind.the-variants.{Add, Sub}
 use Rattle.schritte.specs.StepOf.{stepOf}
 use Rattle.jahre.proofs.Counts.{weeks-few, year-few}
 use Rattle.jahresindex.specs.Werktage.{werktage}
@@ -142,13 +148,23 @@ module _ (cal : HolidayCalendar) where
             let o = ap yearStart (add-one k) in
             omega (arith, days-in, start-suc yearLen k, start-mono yearLen (k + 1) 904 (omega arith), start-all)
 
-        pub nth-is : (x : Step) → x ≡ add w (s + days) (n - b - m) → x ≡ add w 0 n
-        nth-is x i =
+        nth : add w (s + days) (n - b - m) ≡ add w 0 n
+        nth =
             let o : yearStart k + (days + 1) ≡ suc (s + days) = omega arith in
             let c = ap (count w) o in
-            i
-            ∙ add-add w 0 n (omega arith) (omega arith) (s + days) (n - b - m) guess-in (omega (arith, fewer))
+            add-add w 0 n (omega arith) (omega arith) (s + days) (n - b - m) guess-in (omega (arith, fewer))
             (omega (arith, first-closed, count-among w (yearStart k) (days + 1), fewer))
+
+        -- f is the day from which the rest is walked, x what the walk gave
+        module _ (f : Tag) (x : TagStep) (z : f ≡ tagAt (s + days)) (i : x ≡ tagStep (add w (f .index) (n - b - m))) where
+          walked : add w (f .index) (n - b - m) ≡ add w 0 n
+          walked = ap (λ (y : Tag). add w (y .index) (n - b - m)) z ∙ nth
+
+          pub nth-is : (t : Tag) → x ≡ reached.At t → Day (t .index) ≡ add w 0 n
+          nth-is t q = sym (at-day x (add w (f .index) (n - b - m)) i t q) ∙ walked
+
+          pub nth-out : x ≡ reached.Outside → Outside ≡ add w 0 n
+          nth-out q = sym (gone x (add w (f .index) (n - b - m)) i q) ∙ walked
 
   module _ (d n b : ℕ) (h : d ≤ last) where
     pub add-outside : b ≡ count w (suc d) → werktage - b < n → Outside ≡ add w d n
@@ -164,21 +180,6 @@ module _ (cal : HolidayCalendar) where
     pub sub-is : (s : Step) → b ≡ count w d → 1 ≤ n → n ≤ b → s ≡ add w 0 (b - n + 1) → s ≡ sub w d n
     sub-is s e l m i =
         i ∙ sym (sub-add w 0 (b - n + 1) (omega arith) (omega arith) d n h (omega arith) (omega (arith, first-closed)))
-
-    pub W-outside : b ≡ count w d → werktage - b < n → Outside ≡ W w d n
-    W-outside e l = sym (W-out-iff w d n h .1 (omega (arith, all-is cal, count-mono w last (suc last) (omega arith))))
-
-    module _ (s : Step) (e : b ≡ count w d) (l : 1 ≤ n) (i : s ≡ add w 0 (b + n)) where
-      W-by : onStep Outside s dayAfter ≡ W w d n
-      W-by =
-          ap (λ (x : Step). onStep Outside x dayAfter) i
-          ∙ sym (W-add w 0 (b + n) (omega arith) (omega arith) d n h (omega arith) (omega (arith, first-closed)))
-
-      pub W-gone : s ≡ Outside → Outside ≡ W w d n
-      W-gone z = ap (λ (x : Step). onStep Outside x dayAfter) (sym z) ∙ W-by
-
-      pub W-is : (day : ℕ) (x : Step) → s ≡ Day day → x ≡ dayAfter day → x ≡ W w d n
-      W-is day x z t = t ∙ ap (λ (x : Step). onStep Outside x dayAfter) (sym z) ∙ W-by
 
   pub not-later : (a b : ℕ) → b ≤ a → 0 ≡ between w a b
   not-later a b h = sym (between-later w a b h)
@@ -197,25 +198,12 @@ module _ (k : StepKind) (w : ℕ → Bool) (d n : ℕ) (r : Step) where
   pub kind-sub : k ≡ Sub → r ≡ sub w d n → r ≡ stepOf k w d n
   kind-sub e p = rw e p
 
-  pub kind-after : k ≡ DayAfter → r ≡ W w d n → r ≡ stepOf k w d n
-  kind-after e p = rw e p
-
-pub ruleset kind-rules = (kind-add, kind-sub, kind-after)
-
--- what a step gave, taken apart and put together again
-module _ (x s : Step) (p : s ≡ x) where
-  pub same-day : (d : ℕ) → s ≡ Day d → Day d ≡ x
-  same-day d e = sym e ∙ p
-
-  pub same-outside : s ≡ Outside → Outside ≡ x
-  same-outside e = sym e ∙ p
-
-pub ruleset same-rules = (same-day, same-outside)
+pub ruleset kind-rules = (kind-add, kind-sub)
 
 pub ruleset day-rules = (sum-most, sum-fits, sum-at, day-at, next-at, in-year, next-in-year, next-fits)
 
-pub ruleset nth-rules = (all-of, rest-few, days-few, days-in, fewer, fewer-by, guess-in, nth-is)
+pub ruleset nth-rules = (all-of, rest-few, days-few, days-in, fewer, fewer-by, guess-in, tag-again, tag-within, nth-is, nth-out)
 
-pub ruleset step-rules = (add-outside, add-is, sub-outside, sub-is, W-outside, W-gone, W-is)
+pub ruleset step-rules = (add-outside, add-is, sub-outside, sub-is)
 
 pub ruleset between-rules = (not-later, difference, no-less)

@@ -1,191 +1,117 @@
--- A turn and a return of each loop, for any test w of a day: what a loop's proof asks, with the premises in the form in
--- which it has them. x is what the walk has to give, and the invariant says that the walk from here on gives it; r is
--- what the day test returned.
---   add-edge  sub-edge  W-edge  next-edge                  no day is left: Outside is what the walk gives
---   add-open  sub-open  W-open              between-open   the day tested is a Werktag
---   add-shut  sub-shut  W-shut  next-shut   between-shut   it is none
---   add-done  sub-done  W-done  next-done   between-done   the loop has ended: it holds what the walk gives
---   dayAfter-edge  dayBefore-edge  dayAfter-day  dayBefore-day   the returns of `day_after` and `day_before`
---   rules = all of them, for `search (needs, rules)`
+-- What the proofs of the steps cite, for any test w of a day, with premises in the form in which they stand there.
+--   edge-rules      the returns of `day_after` and `day_before`
+--   same-rules      what a step by indexes gave, taken apart and put together again
+--   next-rules      `next_werktag`: r is what the day test returned
+--   left-rules      `after_today`
+--   W-rules         `day_after_werktage`: m is what `after_today` gave, s what `add_werktage` gave
 -- Source: the definitions of Walk in zaehlung.
 -- Assumes nothing.
 use Prim.Native.Nat.{ℕ, zero, suc, _+_, _-_, _≤_, _<_}
-use mathlib.Core.Bool.{Bool, true, false, not}
+use mathlib.Core.Bool.{Bool, true, false}
 use mathlib.Core.Path.{_≡_, refl, sym, ap, _∙_}
 use native.Mathlib.Omega.{arith}
 use native.Mathlib.Numerals.{add-one}
-use borrow.Author.Tests.{not-true, not-false, lt-ltb, le-ltb}
+use borrow.Author.Tests.{lt-ltb, le-ltb}
 use Rattle.zaehlung.specs.declared.Step.{Step}
 use Rattle.zaehlung.specs.declared.Step.the-variants.{Day, Outside}
-use Rattle.zaehlung.specs.Walk.{last, bit, among, dayAfter, dayBefore, add, sub, next, W, between}
-use Rattle.zaehlung.proofs.Turns.{up-edge, up-open, up-shut, down-edge, down-open, down-shut}
-use Rattle.zaehlung.proofs.Turns.{past-edge, past-open, past-shut, first-edge, first-open, first-shut}
-use Rattle.zaehlung.proofs.Laws.{add-none, sub-none, W-none, between-later}
+use Rattle.zaehlung.specs.Walk.{last, bit, onStep, dayAfter, dayBefore, add, sub, next, W}
+use Rattle.zaehlung.proofs.Laws.{W-none, add-inside, sub-inside}
+use Rattle.zaehlung.proofs.OnOrAfter.{next-open, next-shut, W-open, W-shut}
+use Rattle.datum.specs.declared.tage.Tag.{Tag}
+use Rattle.datum.specs.Tage.{tagAt}
+use Rattle.gang.specs.declared.TagStep.{TagStep}
+use Rattle.gang.specs.declared.TagStep.the-variants as reached
+use Rattle.gang.specs.Stand.{tagStep}
+use Rattle.gang.proofs.TagSteps.{at-day, at-tag, gone}
 
-pub dayAfter-edge : (d : ℕ) → last ≤ d → Outside ≡ dayAfter d
+pub after-edge : (d : ℕ) → last ≤ d → reached.Outside ≡ tagStep (dayAfter d)
 unfolding dayAfter
-dayAfter-edge d h = rw (le-ltb d last h)
+after-edge d h = rw (le-ltb d last h)
 
-pub dayAfter-day : (d : ℕ) → d < last → Day (d + 1) ≡ dayAfter d
+pub after-day : (d : ℕ) (t : Tag) → d < last → t ≡ tagAt (d + 1) → reached.At t ≡ tagStep (dayAfter d)
 unfolding dayAfter
-dayAfter-day d h = rw (lt-ltb d last h, add-one)
+after-day d t h e = rw (lt-ltb d last h, ← add-one d) (ap reached.At e)
 
-pub dayBefore-edge : (d : ℕ) → d ≤ 0 → Outside ≡ dayBefore d
-dayBefore-edge zero h = refl
-dayBefore-edge (suc d) h = absurd (omega arith)
+pub before-edge : (d : ℕ) → d ≤ 0 → reached.Outside ≡ tagStep (dayBefore d)
+before-edge zero h = refl
+before-edge (suc d) h = absurd (omega arith)
 
-pub dayBefore-day : (d : ℕ) → 0 < d → Day (d - 1) ≡ dayBefore d
-dayBefore-day d h = let e : d ≡ suc (d - 1) = omega arith in ap dayBefore (sym e)
+pub before-day : (d : ℕ) (t : Tag) → 0 < d → t ≡ tagAt (d - 1) → reached.At t ≡ tagStep (dayBefore d)
+before-day d t h e =
+    let q : suc (d - 1) ≡ d = omega arith in
+    ap reached.At e ∙ ap (λ (x : ℕ). tagStep (dayBefore x)) q
+
+pub ruleset edge-rules = (after-edge, after-day, before-edge, before-day)
+
+-- s is what the step by indexes gave
+module _ (x s : Step) (p : s ≡ x) where
+  pub same-day : (d : ℕ) (t : Tag) → s ≡ Day d → t ≡ tagAt d → reached.At t ≡ tagStep x
+  same-day d t e q = ap reached.At q ∙ ap tagStep (sym e ∙ p)
+
+  pub same-outside : s ≡ Outside → reached.Outside ≡ tagStep x
+  same-outside e = ap tagStep (sym e ∙ p)
 
 module _ (w : ℕ → Bool) where
-  pub add-edge : (x : Step) (d n : ℕ) → x ≡ add w d n → last ≤ d → 0 < n → Outside ≡ x
-  unfolding add
-  add-edge x d n i h m =
-      let k : last - d ≡ 0 = omega arith in
-      let l : n ≡ suc (n - 1) = omega arith in
-      cc (up-edge w d (n - 1))
+  pub add-within : (s : Step) (d n e : ℕ) → s ≡ add w d n → s ≡ Day e → d ≤ last → e ≤ last
+  add-within s d n e p q h = add-inside w d n e h (sym p ∙ q)
 
-  pub add-open :
-      (x : Step) (d n : ℕ) (r : Bool) →
-      x ≡ add w d n → d < last → 0 < n → r ≡ w (d + 1) → r ≡ true → x ≡ add w (d + 1) (n - 1)
-  unfolding add
-  add-open x d n r i h m p q =
-      let k : last - d ≡ suc (last - (d + 1)) = omega arith in
-      let l : n ≡ suc (n - 1) = omega arith in
-      let s = add-one d in
-      cc (up-open w (last - (d + 1)) d (n - 1) (cc))
+  pub sub-within : (s : Step) (d n e : ℕ) → s ≡ sub w d n → s ≡ Day e → d ≤ last → e ≤ last
+  sub-within s d n e p q h = sub-inside w d n e h (sym p ∙ q)
 
-  pub add-shut :
-      (x : Step) (d n : ℕ) (r : Bool) →
-      x ≡ add w d n → d < last → 0 < n → r ≡ w (d + 1) → r ≡ false → x ≡ add w (d + 1) n
-  unfolding add
-  add-shut x d n r i h m p q =
-      let k : last - d ≡ suc (last - (d + 1)) = omega arith in
-      let l : n ≡ suc (n - 1) = omega arith in
-      let s = add-one d in
-      cc (up-shut w (last - (d + 1)) d (n - 1) (cc))
+  module _ (t : Tag) (e : t ≡ tagAt (t .index)) where
+    abbrev i : ℕ
+    i = t .index
 
-  pub add-done : (x : Step) (d n : ℕ) → x ≡ add w d n → n ≤ 0 → Day d ≡ x
-  add-done x d n i h = let l : n ≡ 0 = omega arith in cc (add-none w d)
+    pub next-here : (r : Bool) → r ≡ w i → r ≡ true → reached.At t ≡ tagStep (next w i)
+    next-here r p q = ap reached.At e ∙ ap tagStep (sym (next-open w i (sym p ∙ q)))
 
-  pub sub-edge : (x : Step) (d n : ℕ) → x ≡ sub w d n → d ≤ 0 → 0 < n → Outside ≡ x
-  unfolding sub
-  sub-edge x d n i h m =
-      let k : d ≡ 0 = omega arith in
-      let l : n ≡ suc (n - 1) = omega arith in
-      cc (down-edge w (n - 1))
+    pub next-later : (r : Bool) (x : TagStep) → r ≡ w i → r ≡ false → x ≡ tagStep (add w i 1) → x ≡ tagStep (next w i)
+    next-later r x p q u = u ∙ ap tagStep (sym (next-shut w i (sym p ∙ q)))
 
-  pub sub-open :
-      (x : Step) (d n : ℕ) (r : Bool) →
-      x ≡ sub w d n → 0 < d → 0 < n → r ≡ w (d - 1) → r ≡ true → x ≡ sub w (d - 1) (n - 1)
-  unfolding sub
-  sub-open x d n r i h m p q =
-      let k : d ≡ suc (d - 1) = omega arith in
-      let l : n ≡ suc (n - 1) = omega arith in
-      cc (down-open w (d - 1) (n - 1) (cc))
+    pub W-here : (n : ℕ) → n ≡ 0 → reached.At t ≡ tagStep (W w i n)
+    W-here n z = ap reached.At e ∙ ap tagStep (sym (ap (W w i) z ∙ W-none w i))
 
-  pub sub-shut :
-      (x : Step) (d n : ℕ) (r : Bool) →
-      x ≡ sub w d n → 0 < d → 0 < n → r ≡ w (d - 1) → r ≡ false → x ≡ sub w (d - 1) n
-  unfolding sub
-  sub-shut x d n r i h m p q =
-      let k : d ≡ suc (d - 1) = omega arith in
-      let l : n ≡ suc (n - 1) = omega arith in
-      cc (down-shut w (d - 1) (n - 1) (cc))
+    module _ (h : i ≤ last) (n m : ℕ) (l : n ≡ 0 → ⊥) (p : m ≡ n - bit (w i)) where
+      by-add : W w i n ≡ onStep Outside (add w i m) dayAfter
+      by-add = go (w i) refl
+        where
+          go : (b : Bool) → w i ≡ b → W w i n ≡ onStep Outside (add w i m) dayAfter
+          go true q =
+              let z = ap bit q in
+              let k : m ≡ n - 1 = omega arith in
+              rw k (W-open w i n h (omega (arith, l)) q)
+          go false q =
+              let z = ap bit q in
+              let k : m ≡ n = omega arith in
+              rw k (W-shut w i n h (omega (arith, l)) q)
 
-  pub sub-done : (x : Step) (d n : ℕ) → x ≡ sub w d n → n ≤ 0 → Day d ≡ x
-  sub-done x d n i h = let l : n ≡ 0 = omega arith in cc (sub-none w d)
+      module _ (s : TagStep) (u : s ≡ tagStep (add w i m)) where
+        pub W-gone : s ≡ reached.Outside → reached.Outside ≡ tagStep (W w i n)
+        W-gone q =
+            ap tagStep (sym (by-add ∙ ap (λ (x : Step). onStep Outside x dayAfter) (gone s (add w i m) u q)))
 
-  -- the day that is left is tested
-  pub W-edge : (x : Step) (d n : ℕ) → x ≡ W w d n → last ≤ d → 0 < n → Outside ≡ x
-  unfolding W
-  W-edge x d n i h m =
-      let k : last - d ≡ 0 = omega arith in
-      let l : n ≡ suc (n - 1) = omega arith in
-      cc (past-edge w d (n - 1))
+        pub W-is : (v : Tag) (x : TagStep) → s ≡ reached.At v → x ≡ tagStep (dayAfter (v .index)) → x ≡ tagStep (W w i n)
+        W-is v x q r =
+            r
+            ∙ ap tagStep (sym (by-add ∙ ap (λ (x : Step). onStep Outside x dayAfter) (at-day s (add w i m) u v q)))
 
-  pub W-open :
-      (x : Step) (d n : ℕ) (r : Bool) →
-      x ≡ W w d n → d < last → 0 < n → r ≡ w d → r ≡ true → x ≡ W w (d + 1) (n - 1)
-  unfolding W
-  W-open x d n r i h m p q =
-      let k : last - d ≡ suc (last - (d + 1)) = omega arith in
-      let l : n ≡ suc (n - 1) = omega arith in
-      let s = add-one d in
-      cc (past-open w (last - (d + 1)) d (n - 1) (cc))
+        pub W-within : (v : Tag) → s ≡ reached.At v → v .index ≤ last
+        W-within v q = add-inside w i m (v .index) h (at-day s (add w i m) u v q)
 
-  pub W-shut :
-      (x : Step) (d n : ℕ) (r : Bool) →
-      x ≡ W w d n → d < last → 0 < n → r ≡ w d → r ≡ false → x ≡ W w (d + 1) n
-  unfolding W
-  W-shut x d n r i h m p q =
-      let k : last - d ≡ suc (last - (d + 1)) = omega arith in
-      let l : n ≡ suc (n - 1) = omega arith in
-      let s = add-one d in
-      cc (past-shut w (last - (d + 1)) d (n - 1) (cc))
+-- the test of 0
+pub some-left : (n : ℕ) → (n ≡ 0 → ⊥) → 1 ≤ n
+some-left n l = omega (arith, l)
 
-  pub W-done : (x : Step) (d n : ℕ) → x ≡ W w d n → n ≤ 0 → Day d ≡ x
-  W-done x d n i h = let l : n ≡ 0 = omega arith in cc (W-none w d)
+pub one-fewer : (n : ℕ) (b r : Bool) → r ≡ b → r ≡ true → n - 1 ≡ n - bit b
+one-fewer n b r p q = ap (λ (x : Bool). n - bit x) (sym q ∙ p)
 
-  -- this loop goes on while the day is no Werktag, so its test is `not r`
-  pub next-edge : (x : Step) (d : ℕ) (r : Bool) → x ≡ next w d → last ≤ d → r ≡ w d → not r ≡ true → Outside ≡ x
-  unfolding next
-  next-edge x d r i h p q =
-      let k : last - d ≡ 0 = omega arith in
-      cc (first-edge w d (sym p ∙ not-true r q))
+pub as-many : (n : ℕ) (b r : Bool) → r ≡ b → r ≡ false → n ≡ n - bit b
+as-many n b r p q = let z = ap bit (sym q ∙ p) in omega arith
 
-  pub next-shut :
-      (x : Step) (d : ℕ) (r : Bool) →
-      x ≡ next w d → d < last → r ≡ w d → not r ≡ true → x ≡ next w (d + 1)
-  unfolding next
-  next-shut x d r i h p q =
-      let k : last - d ≡ suc (last - (d + 1)) = omega arith in
-      let s = add-one d in
-      cc (first-shut w (last - (d + 1)) d (sym p ∙ not-true r q))
+pub ruleset same-rules = (same-day, same-outside, add-within, sub-within)
 
-  pub next-done : (x : Step) (d : ℕ) (r : Bool) → x ≡ next w d → r ≡ w d → not r ≡ false → Day d ≡ x
-  unfolding next
-  next-done x d r i p q = cc (first-open w (last - d) d (sym p ∙ not-false r q))
+pub ruleset next-rules = (next-here, next-later)
 
-  -- the day after a, by its test
-  between-more : (a b : ℕ) → a < b → between w a b ≡ bit (w (a + 1)) + between w (a + 1) b
-  unfolding between among
-  between-more a b h = let k : b - a ≡ suc (b - (a + 1)) = omega arith in rw (k, add-one)
+pub ruleset left-rules = (one-fewer, as-many)
 
-  pub between-open :
-      (x c a b : ℕ) (r : Bool) →
-      x ≡ c + between w a b → a < b → r ≡ w (a + 1) → r ≡ true → x ≡ c + 1 + between w (a + 1) b
-  between-open x c a b r i h p q = let s = ap bit (sym p ∙ q) in omega (arith, between-more a b h)
-
-  pub between-shut :
-      (x c a b : ℕ) (r : Bool) →
-      x ≡ c + between w a b → a < b → r ≡ w (a + 1) → r ≡ false → x ≡ c + between w (a + 1) b
-  between-shut x c a b r i h p q = let s = ap bit (sym p ∙ q) in omega (arith, between-more a b h)
-
-  pub between-done : (x c a b : ℕ) → x ≡ c + between w a b → b ≤ a → c ≡ x
-  between-done x c a b i h = omega (arith, between-later w a b h)
-
-pub ruleset rules = (
-  dayAfter-edge,
-  dayAfter-day,
-  dayBefore-edge,
-  dayBefore-day,
-  W-edge,
-  W-open,
-  W-shut,
-  W-done,
-  add-edge,
-  add-open,
-  add-shut,
-  add-done,
-  sub-edge,
-  sub-open,
-  sub-shut,
-  sub-done,
-  next-edge,
-  next-shut,
-  next-done,
-  between-open,
-  between-shut,
-  between-done,
-)
+pub ruleset W-rules = (some-left, at-tag, W-here, W-gone, W-is, W-within)
