@@ -5,6 +5,7 @@ pub mod Signed
 pub mod FloorLaws
 pub mod Rules
 pub mod TagRules
+pub mod TagSteps
 pub mod MonthRules
 pub mod Months
 pub mod MonthStepRules

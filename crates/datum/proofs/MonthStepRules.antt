@@ -1,6 +1,6 @@
--- What the proofs of the shifts by months ask, with the premises in the form in which a proof has them: d is what
--- `date_of` returned, s and v are what shifts returned, r and u steps.
---   month-some date-month      the month of a date is one: what a shift asks
+-- What the proofs of the shifts by months ask, with the premises in the form in which a proof has them: t is the
+-- day, taken apart, s and v are what shifts returned, r and u steps.
+--   month-some date-month tag-valid  the month of a date is one, and it is a date of the range: what a shift asks
 --   *-dated first-dated        a shift reaches a date of the range: what `to_step` asks
 --   date-valid                 so that date is one of the range: what `days_before` asks
 --   toStep-* later-is earlier-is   the returns of `to_step`, `months_later`, `months_earlier`
@@ -23,41 +23,60 @@ use Rattle.datum.specs.declared.Shifted.{Shifted}
 use Rattle.datum.specs.declared.Shifted.the-variants.{On, Outside as Gone}
 use Rattle.datum.specs.Calendar.{isDate, daysBefore, dateOf}
 use Rattle.datum.specs.MonthShift.{addMonths, subtractMonths}
-use Rattle.datum.proofs.Dates.{index-date, date-index, index-below, valid-is, is-valid}
+use Rattle.datum.specs.declared.tage.Tag.{Tag}
+use Rattle.datum.specs.declared.tage.TagStep.{TagStep}
+use Rattle.datum.specs.declared.tage.TagStep.the-variants as reached
+use Rattle.datum.specs.Tage.{tagAt, tagStep}
+use Rattle.datum.proofs.Dates.{date-index, index-below, valid-is, is-valid}
+use Rattle.datum.proofs.TagRules.{tag-is, tag-date}
 use Rattle.datum.specs.Inside.{insideShift}
 use Rattle.datum.specs.Monate.{toStep, monthsLater, monthsEarlier, M}
 use Rattle.datum.proofs.Months.{added-date, taken-date, M-kept, M-cut, M-out}
 
-pub month-some : (i : ℕ) (d : Date) → i ≤ last → d ≡ dateOf i → 1 ≤ d .month
-month-some i d h e = rw e (index-date i h .0 .month-from)
+later-valid : (n : ℕ) (d : Date) (s : Shifted) → isDate d ≡ true → s ≡ addMonths d n → insideShift s
+later-valid n d s v p = rw p (added-date d n (valid-is d v .day-from))
 
-pub later-dated : (i n : ℕ) (d : Date) (s : Shifted) → i ≤ last → d ≡ dateOf i → s ≡ addMonths d n → insideShift s
-later-dated i n d s h e p = rw (p, e) (added-date (dateOf i) n (index-date i h .0 .day-from))
+-- t is the day, taken apart
+module _ (t : Tag) (e : t ≡ tagAt (t .index)) (h : t .index ≤ last) where
+  pub tag-valid : isDate (t .date) ≡ true
+  tag-valid = is-valid (t .date) (tag-date t e h .0)
 
-pub earlier-dated :
-    (i n : ℕ) (d : Date) (s : Shifted) → i ≤ last → d ≡ dateOf i → s ≡ subtractMonths d n → insideShift s
-earlier-dated i n d s h e p = rw (p, e) (taken-date (dateOf i) n (index-date i h .0 .day-from))
+  pub month-some : 1 ≤ t .date .month
+  month-some = tag-date t e h .0 .month-from
+
+  pub later-dated : (n : ℕ) (s : Shifted) → s ≡ addMonths (t .date) n → insideShift s
+  later-dated n s p = later-valid n (t .date) s tag-valid p
+
+  pub earlier-dated : (n : ℕ) (s : Shifted) → s ≡ subtractMonths (t .date) n → insideShift s
+  earlier-dated n s p = rw p (taken-date (t .date) n (tag-date t e h .0 .day-from))
+
+  pub M-dated :
+      (n : ℕ) (s : Shifted) (u : TagStep) → toStep s ≡ M n (daysBefore (t .date)) → u ≡ tagStep (toStep s) →
+      u ≡ tagStep (M n (t .index))
+  M-dated n s u p q = q ∙ ap tagStep (p ∙ ap (M n) (tag-date t e h .1))
 
 pub date-valid : (s : Shifted) (e : Date) → insideShift s → s ≡ On e → isDate e ≡ true
 date-valid s e h p = rw p at h
 
-pub toStep-on : (s : Shifted) (e : Date) (k : ℕ) → s ≡ On e → k ≡ daysBefore e → Day k ≡ toStep s
-toStep-on s e k p q = rw (p, q)
+pub toStep-on :
+    (s : Shifted) (e : Date) (k : ℕ) → insideShift s → s ≡ On e → k ≡ daysBefore e →
+    reached.At (record { index = k; date = e }) ≡ tagStep (toStep s)
+toStep-on s e k h p q = rw p (ap reached.At (tag-is e k (valid-is e (date-valid s e h p)) (sym q)) ∙ (rw q))
 
-pub toStep-gone : (s : Shifted) → s ≡ Gone → Left ≡ toStep s
+pub toStep-gone : (s : Shifted) → s ≡ Gone → reached.Outside ≡ tagStep (toStep s)
 toStep-gone s p = rw p
 
-pub later-is :
-    (i n : ℕ) (d : Date) (s : Shifted) (r : Step) → d ≡ dateOf i → s ≡ addMonths d n → r ≡ toStep s →
-    r ≡ monthsLater i n
-unfolding monthsLater
-later-is i n d s r e p q = rw (q, p, e)
+module _ (t : Tag) (n : ℕ) (s : Shifted) (r : TagStep) (e : t ≡ tagAt (t .index)) (q : r ≡ tagStep (toStep s)) where
+  date-is : t .date ≡ dateOf (t .index)
+  date-is = ap (λ (x : Tag). x .date) e
 
-pub earlier-is :
-    (i n : ℕ) (d : Date) (s : Shifted) (r : Step) → d ≡ dateOf i → s ≡ subtractMonths d n → r ≡ toStep s →
-    r ≡ monthsEarlier i n
-unfolding monthsEarlier
-earlier-is i n d s r e p q = rw (q, p, e)
+  pub later-is : s ≡ addMonths (t .date) n → r ≡ tagStep (monthsLater (t .index) n)
+  unfolding monthsLater
+  later-is p = q ∙ ap (λ (x : Shifted). tagStep (toStep x)) (p ∙ ap (λ (d : Date). addMonths d n) date-is)
+
+  pub earlier-is : s ≡ subtractMonths (t .date) n → r ≡ tagStep (monthsEarlier (t .index) n)
+  unfolding monthsEarlier
+  earlier-is p = q ∙ ap (λ (x : Shifted). tagStep (toStep x)) (p ∙ ap (λ (d : Date). subtractMonths d n) date-is)
 
 pub first-dated : (y m : ℕ) (s : Shifted) → s ≡ addMonths (record { year = y; month = m; day = 1 }) 1 → insideShift s
 first-dated y m s p = rw p (added-date (record { year = y; month = m; day = 1 }) 1 (omega arith))
@@ -79,7 +98,7 @@ module _ (d : Date) (n : ℕ) (s : Shifted) (v : isDate d ≡ true) (p : s ≡ a
 
   module _ (e : Date) (q : s ≡ On e) where
     pub date-reached : isDate e ≡ true
-    date-reached = date-valid s e (later-dated (daysBefore d) n d s inside (own-date d v) p) q
+    date-reached = date-valid s e (later-valid n d s v p) q
 
     pub reached-month : 1 ≤ e .month
     reached-month = date-month e date-reached
@@ -95,16 +114,6 @@ module _ (d : Date) (n : ℕ) (s : Shifted) (v : isDate d ≡ true) (p : s ≡ a
 
 pub ruleset date-shift-rules = (date-month, date-gone, date-reached, reached-month, date-kept, date-first, first-dated)
 
-pub day-valid : (i : ℕ) (d : Date) → i ≤ last → d ≡ dateOf i → isDate d ≡ true
-day-valid i d h e = rw e (is-valid (dateOf i) (index-date i h .0))
-
-pub M-dated :
-    (n i : ℕ) (d : Date) (s : Shifted) (u : Step) → i ≤ last → d ≡ dateOf i → toStep s ≡ M n (daysBefore d) →
-    u ≡ toStep s → u ≡ M n i
-M-dated n i d s u h e p q =
-    let k : daysBefore d ≡ i = rw e (index-date i h .1) in
-    q ∙ p ∙ ap (M n) k
-
 pub ruleset month-rules = (
   month-some,
   later-dated,
@@ -114,6 +123,6 @@ pub ruleset month-rules = (
   toStep-gone,
   later-is,
   earlier-is,
-  day-valid,
+  tag-valid,
   M-dated,
 )

@@ -1,4 +1,4 @@
-// Months before and after a day given by its index, BGB §188, and M(n, d) of document 01.
+// Months before and after a day, BGB §188, and M(n, d) of document 01.
 ghost use mathlib.Core.Bool.{true};
 ghost use mathlib.Core.Path.{_≡_};
 ghost use Prim.Native.Nat.{_≤_};
@@ -6,18 +6,23 @@ ghost use Rattle.zaehlung.specs.Walk.{last};
 ghost use Rattle.datum.specs.Calendar.{isDate, daysBefore};
 ghost use Rattle.datum.specs.Inside.{insideShift};
 ghost use Rattle.datum.specs.Monate.{toStep, monthsLater, monthsEarlier, M};
+ghost use Rattle.datum.specs.Tage.{tagAt, tagStep};
 use super::Date;
 use super::Shifted;
-use zaehlung::Step;
+use super::tage::Tag;
+use super::tage::TagStep;
 
-/// The index of the date that a shift reached.
-fn to_step(shifted: Shifted) -> Step
+/// The day of the date that a shift reached.
+fn to_step(shifted: Shifted) -> TagStep
     requires { ⌜ insideShift shifted ⌝ }
-    ensures { λ r. ⌜ r ≡ toStep shifted ⌝ }
+    ensures { λ r. ⌜ r ≡ tagStep (toStep shifted) ⌝ }
 {
     match shifted {
-        Shifted::On(date) => Step::Day(super::days_before(date)),
-        Shifted::Outside => Step::Outside,
+        Shifted::On(date) => TagStep::At(Tag {
+            index: super::days_before(date),
+            date,
+        }),
+        Shifted::Outside => TagStep::Outside,
     }
 }
 
@@ -26,11 +31,11 @@ fn to_step(shifted: Shifted) -> Step
 /// `Outside` past the calendar's last day. With `n = 0` the day itself.
 ///
 /// From 31 January 2026 with 1: 28 February 2026.
-pub fn months_later(day: u32, n: u32) -> Step
-    requires { ⌜ day ≤ last ⌝ }
-    ensures { λ r. ⌜ r ≡ monthsLater day n ⌝ }
+pub fn months_later(day: Tag, n: u32) -> TagStep
+    requires { ⌜ (day ≡ tagAt (day .index)) × (day .index ≤ last) ⌝ }
+    ensures { λ r. ⌜ r ≡ tagStep (monthsLater (day .index) n) ⌝ }
 {
-    to_step(super::add_months(super::date_of(day), n))
+    to_step(super::add_months(day.date, n))
 }
 
 /// The day `n` months earlier: 'a day the target month lacks becomes its last (BGB §188)'.
@@ -38,11 +43,11 @@ pub fn months_later(day: u32, n: u32) -> Step
 /// `Outside` before the calendar's first day. With `n = 0` the day itself.
 ///
 /// From 31 March 2024 with 1: 29 February 2024.
-pub fn months_earlier(day: u32, n: u32) -> Step
-    requires { ⌜ day ≤ last ⌝ }
-    ensures { λ r. ⌜ r ≡ monthsEarlier day n ⌝ }
+pub fn months_earlier(day: Tag, n: u32) -> TagStep
+    requires { ⌜ (day ≡ tagAt (day .index)) × (day .index ≤ last) ⌝ }
+    ensures { λ r. ⌜ r ≡ tagStep (monthsEarlier (day .index) n) ⌝ }
 {
-    to_step(super::subtract_months(super::date_of(day), n))
+    to_step(super::subtract_months(day.date, n))
 }
 
 /// M(n, d) of document 01 for a date of the range: 'd plus n months, or, if the day was cut to the month's last, the
@@ -69,14 +74,14 @@ pub fn months_or_first_date(date: Date, n: u32) -> Shifted
     super::add_months(first, 1)
 }
 
-/// M(n, d) of document 01 for a day given by its index.
+/// M(n, d) of document 01 for a day taken apart.
 ///
 /// `Outside` past the calendar's last day. With `n = 0` the day itself: nothing is cut.
 ///
 /// From 31 January 2026 with 1: 1 March 2026. From 28 January with 1: 28 February.
-pub fn months_or_first(day: u32, n: u32) -> Step
-    requires { ⌜ day ≤ last ⌝ }
-    ensures { λ r. ⌜ r ≡ M n day ⌝ }
+pub fn months_or_first(day: Tag, n: u32) -> TagStep
+    requires { ⌜ (day ≡ tagAt (day .index)) × (day .index ≤ last) ⌝ }
+    ensures { λ r. ⌜ r ≡ tagStep (M n (day .index)) ⌝ }
 {
-    to_step(months_or_first_date(super::date_of(day), n))
+    to_step(months_or_first_date(day.date, n))
 }

@@ -13,6 +13,12 @@ pub struct Tag {
     pub date: Date,
 }
 
+/// What a step reaches: a day, taken apart, or none, because the step leaves the calendar.
+pub enum TagStep {
+    At(Tag),
+    Outside,
+}
+
 /// The day of an index, taken apart.
 ///
 /// Of 59: index 59, 29 February 1996.

@@ -18,16 +18,16 @@ use Rattle.zaehlung.proofs.Skips.{ShutOn, ShutBack, leap-open, leap-shut, leap-
 use Rattle.zaehlung.proofs.Skips.{more-open, more-shut, more-none}
 use Rattle.datum.specs.declared.tage.Tag.{Tag}
 use Rattle.datum.specs.Calendar.{isLeap, daysInMonth, weekday}
-use Rattle.datum.specs.Tage.{tagAt}
+use Rattle.datum.specs.Tage.{tagAt, tagStep}
 use Rattle.datum.proofs.TagRules.{day-fits}
 use Rattle.werktag.specs.declared.HolidayCalendar.{HolidayCalendar}
 use Rattle.werktag.specs.Easter.{easterFor}
 use Rattle.werktag.specs.Werktag.{isWerktag}
 use Rattle.werktag.proofs.Reasons.{weekend-shut}
 use Rattle.werktag.proofs.Rules.{tag-rules}
-use Rattle.gang.specs.declared.TagStep.{TagStep}
-use Rattle.gang.specs.declared.TagStep.the-variants as reached
-use Rattle.gang.specs.Stand.{tagStep, toWeekday, fromWeekday}
+use Rattle.datum.specs.declared.tage.TagStep.{TagStep}
+use Rattle.datum.specs.declared.tage.TagStep.the-variants as reached
+use Rattle.gang.specs.Stand.{toWeekday, fromWeekday}
 
 -- t is the day with index j, taken apart
 module _ (t : Tag) (j : ℕ) (e : t ≡ tagAt j) where

@@ -1,7 +1,6 @@
 -- What a walk knows of the day at which it stands.
 --   Stands s     = s has a day of the calendar, taken apart, its weekday, the days of its month, and Easter Sunday
 --                where the month needs it
---   tagStep x    = the day that a step reached, taken apart
 --   toWeekday w  = the days from a day with the weekday w to the next day from Monday to Friday
 --   fromWeekday w = the days back to the last one before it
 -- Source: document 02, F-4: 'take the date apart once, and compare one distance from Easter'.
@@ -9,25 +8,17 @@ use Prim.Native.Nat.{ℕ, _+_, _-_, _≤_}
 use mathlib.Core.Bool.{cond}
 use mathlib.Core.Path.{_≡_}
 use lib.Dec.{eqb, ltb}
-use Rattle.zaehlung.specs.declared.Step.{Step}
-use Rattle.zaehlung.specs.declared.Step.the-variants.{Day, Outside}
 use Rattle.zaehlung.specs.Walk.{last}
 use Rattle.datum.specs.Calendar.{isLeap, daysInMonth, weekday}
 use Rattle.datum.specs.Tage.{tagAt}
 use Rattle.werktag.specs.Easter.{easterFor}
 use Rattle.gang.specs.declared.Stand.{Stand}
-use Rattle.gang.specs.declared.TagStep.{TagStep}
-use Rattle.gang.specs.declared.TagStep.the-variants as reached
 
 abbrev pub Stands : Stand → Type 0
 Stands s =
     (s .tag ≡ tagAt (s .tag .index)) × (s .tag .index ≤ last) × (s .wday ≡ weekday (s .tag .index))
     × (s .length ≡ daysInMonth (isLeap (s .tag .date .year)) (s .tag .date .month))
     × (s .easter ≡ easterFor (s .tag .date .year) (s .tag .date .month)) × (s .easter ≤ last + 3)
-
-abbrev pub tagStep : Step → TagStep
-tagStep (Day d) = reached.At (tagAt d)
-tagStep Outside = reached.Outside
 
 -- from Friday, Saturday and Sunday to Monday, from any other day to the next
 unfoldable pub toWeekday : ℕ → ℕ

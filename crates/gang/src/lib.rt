@@ -4,10 +4,11 @@
 ghost use mathlib.Core.Path.{_≡_};
 ghost use Prim.Native.Nat.{_+_, _-_, _%_, _≤_, _<_};
 ghost use Rattle.zaehlung.specs.Walk.{last, bit, add, sub, between};
-ghost use Rattle.datum.specs.Tage.{tagAt};
+ghost use Rattle.datum.specs.Tage.{tagAt, tagStep};
 ghost use Rattle.werktag.specs.Werktag.{isWerktag};
-ghost use Rattle.gang.specs.Stand.{Stands, tagStep, toWeekday, fromWeekday};
+ghost use Rattle.gang.specs.Stand.{Stands, toWeekday, fromWeekday};
 use datum::tage::Tag;
+use datum::tage::TagStep;
 use werktag::HolidayCalendar;
 use zaehlung::LAST;
 
@@ -27,12 +28,6 @@ pub struct Stand {
     pub wday: u32,
     pub length: u8,
     pub easter: u32,
-}
-
-/// What a step reaches: a day, taken apart, or none, because the step leaves the calendar.
-pub enum TagStep {
-    At(Tag),
-    Outside,
 }
 
 /// The weekday some days later, up to a week.

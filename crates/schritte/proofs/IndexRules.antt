@@ -26,12 +26,11 @@ use Rattle.datum.specs.Calendar.{yearLen, yearStart, yearOf}
 use Rattle.datum.proofs.Years.{start-none, start-all, yearLen-bounds}
 use Rattle.datum.proofs.Dates.{year-below, yearLen-at}
 use Rattle.datum.specs.declared.tage.Tag.{Tag}
-use Rattle.datum.specs.Tage.{tagAt}
-use Rattle.gang.specs.declared.TagStep.{TagStep}
-use Rattle.gang.specs.declared.TagStep.the-variants as reached
-use Rattle.gang.specs.Stand.{tagStep}
+use Rattle.datum.specs.Tage.{tagAt, tagStep}
+use Rattle.datum.specs.declared.tage.TagStep.{TagStep}
+use Rattle.datum.specs.declared.tage.TagStep.the-variants as reached
 use Rattle.gang.proofs.Rules.{tag-again, tag-within}
-use Rattle.gang.proofs.TagSteps.{at-day, gone}
+use Rattle.datum.proofs.TagSteps.{at-day, gone}
 use Rattle.werktag.specs.declared.HolidayCalendar.{HolidayCalendar}
 use Rattle.werktag.specs.Werktag.{isWerktag}
 use Rattle.schritte.specs.declared.index.StepKind.{StepKind}

@@ -18,11 +18,10 @@ use Rattle.zaehlung.specs.Walk.{last, bit, onStep, dayAfter, dayBefore, add, su
 use Rattle.zaehlung.proofs.Laws.{W-none, add-inside, sub-inside}
 use Rattle.zaehlung.proofs.OnOrAfter.{next-open, next-shut, W-open, W-shut}
 use Rattle.datum.specs.declared.tage.Tag.{Tag}
-use Rattle.datum.specs.Tage.{tagAt}
-use Rattle.gang.specs.declared.TagStep.{TagStep}
-use Rattle.gang.specs.declared.TagStep.the-variants as reached
-use Rattle.gang.specs.Stand.{tagStep}
-use Rattle.gang.proofs.TagSteps.{at-day, at-tag, gone}
+use Rattle.datum.specs.Tage.{tagAt, tagStep}
+use Rattle.datum.specs.declared.tage.TagStep.{TagStep}
+use Rattle.datum.specs.declared.tage.TagStep.the-variants as reached
+use Rattle.datum.proofs.TagSteps.{at-day, at-tag, gone}
 
 pub after-edge : (d : ℕ) → last ≤ d → reached.Outside ≡ tagStep (dayAfter d)
 unfolding dayAfter

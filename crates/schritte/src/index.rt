@@ -8,7 +8,7 @@ ghost use Rattle.werktag.specs.Werktag.{isWerktag};
 ghost use Rattle.jahresindex.specs.Werktage.{werktage};
 ghost use Rattle.schritte.specs.StepOf.{stepOf};
 use datum::tage::Tag;
-use gang::TagStep;
+use datum::tage::TagStep;
 use jahresindex::WERKTAGE;
 use werktag::HolidayCalendar;
 use zaehlung::Step;

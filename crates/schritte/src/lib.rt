@@ -4,15 +4,14 @@
 ghost use mathlib.Core.Path.{_≡_};
 ghost use Prim.Native.Nat.{_-_, _≤_};
 ghost use Rattle.zaehlung.specs.Walk.{last, bit, dayAfter, dayBefore, add, sub, next, W, between};
-ghost use Rattle.datum.specs.Tage.{tagAt};
+ghost use Rattle.datum.specs.Tage.{tagAt, tagStep};
 ghost use Rattle.werktag.specs.Werktag.{isWerktag};
-ghost use Rattle.gang.specs.Stand.{tagStep};
 
 pub mod index;
 pub mod tested;
 
 use datum::tage::Tag;
-use gang::TagStep;
+use datum::tage::TagStep;
 use index::StepKind;
 use werktag::HolidayCalendar;
 use zaehlung::FIRST;

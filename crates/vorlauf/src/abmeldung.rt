@@ -5,11 +5,13 @@
 ghost use mathlib.Core.Path.{_≡_};
 ghost use Prim.Native.Nat.{_≤_};
 ghost use Rattle.zaehlung.specs.Walk.{last};
+ghost use Rattle.datum.specs.Tage.{tagAt};
 ghost use Rattle.werktag.specs.Werktag.{isWerktag};
 ghost use Rattle.vorlauf.specs.Abmeldung.{sameBytes, fuerOf, shapeOf, abmeldungCheckOf};
 ghost use Rattle.vorlauf.specs.Inside.{insideAbmeldung};
 use super::VorlaufShape;
 use super::VorlaufVerdict;
+use datum::tage::Tag;
 use werktag::HolidayCalendar;
 
 /// Whether the object is an EEG-Marktlokation or a Tranche of one.
@@ -106,12 +108,15 @@ impl AbmeldungVorlauf {
     /// `EinMonat` from 31 January 2026 against 28 February: TooLate by 2 Werktage, with 28 February.
     pub fn check(
         self,
-        uebertragungstag: u32,
-        zuordnungsende: u32,
+        uebertragungstag: Tag,
+        zuordnungsende: Tag,
         cal: HolidayCalendar,
     ) -> AbmeldungVerdict
-        requires { ⌜ (uebertragungstag ≤ last) × (zuordnungsende ≤ last) ⌝ }
-        ensures { λ r. ⌜ r ≡ abmeldungCheckOf (isWerktag cal) self uebertragungstag zuordnungsende ⌝ }
+        requires { ⌜ (uebertragungstag ≡ tagAt (uebertragungstag .index)) × (uebertragungstag .index ≤ last) ⌝ }
+        requires { ⌜ (zuordnungsende ≡ tagAt (zuordnungsende .index)) × (zuordnungsende .index ≤ last) ⌝ }
+        ensures { λ r. ⌜
+            r ≡ abmeldungCheckOf (isWerktag cal) self (uebertragungstag .index) (zuordnungsende .index)
+            ⌝ }
         ensures { λ r. ⌜ insideAbmeldung r ⌝ }
     {
         let AbmeldungShape::Some(shape) = self.shape() else {

@@ -1,16 +1,20 @@
 // Lead times: may a message of this day ask for that date, and which dates may it ask for?
 //
-// Document 01, vorlauf.rs and 'The span of anchors'. A day is its index from 1 January 1996, 0 to LAST. t is the
-// transmission day (Übertragungstag, ÜT), a the anchor, the date that the message carries.
+// Document 01, vorlauf.rs and 'The span of anchors'. A day comes taken apart, its index beside its
+// date; what is named in a verdict or a span is an index. t is the transmission day (Übertragungstag, ÜT), a the anchor,
+// the date that the message carries.
 ghost use mathlib.Core.Path.{_≡_};
 ghost use Prim.Native.Nat.{_≤_, _<_};
 ghost use Rattle.zaehlung.specs.Walk.{last, onStep, dayAfter, add, W, between};
 ghost use Rattle.datum.specs.Monate.{M};
+ghost use Rattle.datum.specs.Tage.{tagAt, tagStep, stepIndex};
 ghost use Rattle.werktag.specs.Werktag.{isWerktag};
 ghost use Rattle.vorlauf.specs.Verdict.{fruehesterTerminNachTagVorDemLetztenWerktag, notAfter, checkOf};
 ghost use Rattle.vorlauf.specs.Span.{spanFrom, spanBetween, spanOf};
 ghost use Rattle.vorlauf.specs.Inside.{insideVerdict, insideSpan};
 use datum::monate;
+use datum::tage::Tag;
+use datum::tage::TagStep;
 use werktag::HolidayCalendar;
 use zaehlung::Step;
 
@@ -66,9 +70,10 @@ pub enum Span {
 }
 
 /// TooLate: t is after the day on which the window closes, by the Werktage between, and `first` is the date named.
-fn too_late(t: u32, closes: u32, first: u32, cal: HolidayCalendar) -> VorlaufVerdict
-    requires { ⌜ (closes < t) × (t ≤ last) ⌝ }
-    ensures { λ r. ⌜ r ≡ VorlaufVerdict.TooLate (between (isWerktag cal) closes t) first ⌝ }
+fn too_late(t: Tag, closes: Tag, first: u32, cal: HolidayCalendar) -> VorlaufVerdict
+    requires { ⌜ (t ≡ tagAt (t .index)) × (t .index ≤ last) ⌝ }
+    requires { ⌜ (closes ≡ tagAt (closes .index)) × (closes .index < t .index) ⌝ }
+    ensures { λ r. ⌜ r ≡ VorlaufVerdict.TooLate (between (isWerktag cal) (closes .index) (t .index)) first ⌝ }
 {
     let shortfall = schritte::werktage_between(closes, t, cal);
     VorlaufVerdict::TooLate {
@@ -79,162 +84,163 @@ fn too_late(t: u32, closes: u32, first: u32, cal: HolidayCalendar) -> VorlaufVer
 
 /// t is the `n`-th Werktag before the anchor at the latest. `LatestWerktageBefore(1)` from Saturday 10 January 2026
 /// against Monday 12 January: TooLate by 0 Werktage, and the date named is that Monday.
-fn latest_werktage_before(n: u32, t: u32, a: u32, cal: HolidayCalendar) -> VorlaufVerdict
-    requires { ⌜ (t ≤ last) × (a ≤ last) ⌝ }
-    ensures { λ r. ⌜ r ≡ checkOf (isWerktag cal) (VorlaufShape.LatestWerktageBefore n) t a ⌝ }
+fn latest_werktage_before(n: u32, t: Tag, a: Tag, cal: HolidayCalendar) -> VorlaufVerdict
+    requires { ⌜ (t ≡ tagAt (t .index)) × (t .index ≤ last) × (a ≡ tagAt (a .index)) × (a .index ≤ last) ⌝ }
+    ensures { λ r. ⌜ r ≡ checkOf (isWerktag cal) (VorlaufShape.LatestWerktageBefore n) (t .index) (a .index) ⌝ }
 {
-    let Step::Day(closes) = schritte::sub_werktage(a, n, cal) else {
+    let TagStep::At(closes) = schritte::sub_werktage(a, n, cal) else {
         return VorlaufVerdict::Outside;
     };
-    if t <= closes {
+    if t.index <= closes.index {
         return VorlaufVerdict::Ok;
     }
-    let Step::Day(first) = schritte::add_werktage(t, n, cal) else {
+    let TagStep::At(first) = schritte::add_werktage(t, n, cal) else {
         return VorlaufVerdict::Outside;
     };
-    too_late(t, closes, first, cal)
+    too_late(t, closes, first.index, cal)
 }
 
 /// t is the `earliest`-th Werktag before the anchor at the earliest, and the `latest`-th at the latest.
 fn window_werktage_before(
     earliest: u32,
     latest: u32,
-    t: u32,
-    a: u32,
+    t: Tag,
+    a: Tag,
     cal: HolidayCalendar,
 ) -> VorlaufVerdict
-    requires { ⌜ (t ≤ last) × (a ≤ last) ⌝ }
-    ensures { λ r. ⌜ r ≡ checkOf (isWerktag cal) (VorlaufShape.WindowWerktageBefore earliest latest) t a ⌝ }
+    requires { ⌜ (t ≡ tagAt (t .index)) × (t .index ≤ last) × (a ≡ tagAt (a .index)) × (a .index ≤ last) ⌝ }
+    ensures { λ r. ⌜ r ≡ checkOf (isWerktag cal) (VorlaufShape.WindowWerktageBefore earliest latest) (t .index) (a .index) ⌝ }
 {
-    let Step::Day(opens) = schritte::sub_werktage(a, earliest, cal) else {
+    let TagStep::At(opens) = schritte::sub_werktage(a, earliest, cal) else {
         return VorlaufVerdict::Outside;
     };
-    let Step::Day(closes) = schritte::sub_werktage(a, latest, cal) else {
+    let TagStep::At(closes) = schritte::sub_werktage(a, latest, cal) else {
         return VorlaufVerdict::Outside;
     };
-    if t < opens {
+    if t.index < opens.index {
         return VorlaufVerdict::TooEarly {
             excess_wt: schritte::werktage_between(t, opens, cal),
         };
     }
-    if t <= closes {
+    if t.index <= closes.index {
         return VorlaufVerdict::Ok;
     }
-    let Step::Day(first) = schritte::add_werktage(t, latest, cal) else {
+    let TagStep::At(first) = schritte::add_werktage(t, latest, cal) else {
         return VorlaufVerdict::Outside;
     };
-    too_late(t, closes, first, cal)
+    too_late(t, closes, first.index, cal)
 }
 
 /// t is the `n`-th Werktag after the anchor at the latest. Under TooLate the anchor itself is named.
-fn latest_werktage_after(n: u32, t: u32, a: u32, cal: HolidayCalendar) -> VorlaufVerdict
-    requires { ⌜ (t ≤ last) × (a ≤ last) ⌝ }
-    ensures { λ r. ⌜ r ≡ checkOf (isWerktag cal) (VorlaufShape.LatestWerktageAfter n) t a ⌝ }
+fn latest_werktage_after(n: u32, t: Tag, a: Tag, cal: HolidayCalendar) -> VorlaufVerdict
+    requires { ⌜ (t ≡ tagAt (t .index)) × (t .index ≤ last) × (a ≡ tagAt (a .index)) × (a .index ≤ last) ⌝ }
+    ensures { λ r. ⌜ r ≡ checkOf (isWerktag cal) (VorlaufShape.LatestWerktageAfter n) (t .index) (a .index) ⌝ }
 {
-    let Step::Day(closes) = schritte::add_werktage(a, n, cal) else {
+    let TagStep::At(closes) = schritte::add_werktage(a, n, cal) else {
         return VorlaufVerdict::Outside;
     };
-    if t <= closes {
+    if t.index <= closes.index {
         return VorlaufVerdict::Ok;
     }
-    too_late(t, closes, a, cal)
+    too_late(t, closes, a.index, cal)
 }
 
 /// The anchor, the date requested, is the `n`-th Werktag after t at the earliest.
-fn earliest_werktage_after(n: u32, t: u32, a: u32, cal: HolidayCalendar) -> VorlaufVerdict
-    requires { ⌜ (t ≤ last) × (a ≤ last) ⌝ }
-    ensures { λ r. ⌜ r ≡ checkOf (isWerktag cal) (VorlaufShape.EarliestWerktageAfter n) t a ⌝ }
+fn earliest_werktage_after(n: u32, t: Tag, a: Tag, cal: HolidayCalendar) -> VorlaufVerdict
+    requires { ⌜ (t ≡ tagAt (t .index)) × (t .index ≤ last) × (a ≡ tagAt (a .index)) × (a .index ≤ last) ⌝ }
+    ensures { λ r. ⌜ r ≡ checkOf (isWerktag cal) (VorlaufShape.EarliestWerktageAfter n) (t .index) (a .index) ⌝ }
 {
-    let Step::Day(first) = schritte::add_werktage(t, n, cal) else {
+    let TagStep::At(first) = schritte::add_werktage(t, n, cal) else {
         return VorlaufVerdict::Outside;
     };
-    if first <= a {
+    if first.index <= a.index {
         return VorlaufVerdict::Ok;
     }
-    too_late(first, a, first, cal)
+    too_late(first, a, first.index, cal)
 }
 
 /// t lies from the `n`-th Werktag before the anchor to the `n`-th after it. Under TooLate the opening day is named.
-fn korridor(n: u32, t: u32, a: u32, cal: HolidayCalendar) -> VorlaufVerdict
-    requires { ⌜ (t ≤ last) × (a ≤ last) ⌝ }
-    ensures { λ r. ⌜ r ≡ checkOf (isWerktag cal) (VorlaufShape.Korridor n) t a ⌝ }
+fn korridor(n: u32, t: Tag, a: Tag, cal: HolidayCalendar) -> VorlaufVerdict
+    requires { ⌜ (t ≡ tagAt (t .index)) × (t .index ≤ last) × (a ≡ tagAt (a .index)) × (a .index ≤ last) ⌝ }
+    ensures { λ r. ⌜ r ≡ checkOf (isWerktag cal) (VorlaufShape.Korridor n) (t .index) (a .index) ⌝ }
 {
-    let Step::Day(opens) = schritte::sub_werktage(a, n, cal) else {
+    let TagStep::At(opens) = schritte::sub_werktage(a, n, cal) else {
         return VorlaufVerdict::Outside;
     };
-    let Step::Day(closes) = schritte::add_werktage(a, n, cal) else {
+    let TagStep::At(closes) = schritte::add_werktage(a, n, cal) else {
         return VorlaufVerdict::Outside;
     };
-    if t < opens {
+    if t.index < opens.index {
         return VorlaufVerdict::TooEarly {
             excess_wt: schritte::werktage_between(t, opens, cal),
         };
     }
-    if t <= closes {
+    if t.index <= closes.index {
         return VorlaufVerdict::Ok;
     }
-    too_late(t, closes, opens, cal)
+    too_late(t, closes, opens.index, cal)
 }
 
 /// The day after the first Werktag strictly after t: a full Werktag has to lie between t and the date. From a Monday
 /// that is Wednesday.
-fn fruehester_termin_nach_tag_vor_dem_letzten_werktag(t: u32, cal: HolidayCalendar) -> Step
-    requires { ⌜ t ≤ last ⌝ }
-    ensures { λ r. ⌜ r ≡ fruehesterTerminNachTagVorDemLetztenWerktag (isWerktag cal) t ⌝ }
+fn fruehester_termin_nach_tag_vor_dem_letzten_werktag(t: Tag, cal: HolidayCalendar) -> TagStep
+    requires { ⌜ (t ≡ tagAt (t .index)) × (t .index ≤ last) ⌝ }
+    ensures { λ r. ⌜ r ≡ tagStep (fruehesterTerminNachTagVorDemLetztenWerktag (isWerktag cal) (t .index)) ⌝ }
 {
-    let Step::Day(next_day) = schritte::day_after(t) else {
-        return Step::Outside;
+    let TagStep::At(next_day) = schritte::day_after(t) else {
+        return TagStep::Outside;
     };
-    let Step::Day(werktag) = schritte::next_werktag(next_day, cal) else {
-        return Step::Outside;
+    let TagStep::At(werktag) = schritte::next_werktag(next_day, cal) else {
+        return TagStep::Outside;
     };
     schritte::day_after(werktag)
 }
 
 /// t is the day before the last Werktag before the anchor at the latest. From Thursday 8 January 2026: Friday 9 January
 /// is TooLate by 1 Werktag, Saturday 10 January Ok.
-fn tag_vor_dem_letzten_werktag_vor(t: u32, a: u32, cal: HolidayCalendar) -> VorlaufVerdict
-    requires { ⌜ (t ≤ last) × (a ≤ last) ⌝ }
-    ensures { λ r. ⌜ r ≡ checkOf (isWerktag cal) VorlaufShape.TagVorDemLetztenWerktagVor t a ⌝ }
+fn tag_vor_dem_letzten_werktag_vor(t: Tag, a: Tag, cal: HolidayCalendar) -> VorlaufVerdict
+    requires { ⌜ (t ≡ tagAt (t .index)) × (t .index ≤ last) × (a ≡ tagAt (a .index)) × (a .index ≤ last) ⌝ }
+    ensures { λ r. ⌜ r ≡ checkOf (isWerktag cal) VorlaufShape.TagVorDemLetztenWerktagVor (t .index) (a .index) ⌝ }
 {
-    let Step::Day(letzter) = schritte::sub_werktage(a, 1, cal) else {
+    let TagStep::At(letzter) = schritte::sub_werktage(a, 1, cal) else {
         return VorlaufVerdict::Outside;
     };
-    let Step::Day(closes) = schritte::day_before(letzter) else {
+    let TagStep::At(closes) = schritte::day_before(letzter) else {
         return VorlaufVerdict::Outside;
     };
-    if t <= closes {
+    if t.index <= closes.index {
         return VorlaufVerdict::Ok;
     }
-    let Step::Day(first) = fruehester_termin_nach_tag_vor_dem_letzten_werktag(t, cal) else {
+    let TagStep::At(first) = fruehester_termin_nach_tag_vor_dem_letzten_werktag(t, cal) else {
         return VorlaufVerdict::Outside;
     };
-    too_late(t, closes, first, cal)
+    too_late(t, closes, first.index, cal)
 }
 
 /// `Ok` while t is at or before `closes`, else `TooLate` with the date `first`.
-fn not_after(t: u32, closes: u32, first: u32, cal: HolidayCalendar) -> VorlaufVerdict
-    requires { ⌜ (t ≤ last) × (closes ≤ last) ⌝ }
-    ensures { λ r. ⌜ r ≡ notAfter (isWerktag cal) t closes (Step.Day first) ⌝ }
+fn not_after(t: Tag, closes: Tag, first: u32, cal: HolidayCalendar) -> VorlaufVerdict
+    requires { ⌜ (t ≡ tagAt (t .index)) × (t .index ≤ last) ⌝ }
+    requires { ⌜ (closes ≡ tagAt (closes .index)) × (closes .index ≤ last) ⌝ }
+    ensures { λ r. ⌜ r ≡ notAfter (isWerktag cal) (t .index) (closes .index) (Step.Day first) ⌝ }
 {
-    if t <= closes {
+    if t.index <= closes.index {
         return VorlaufVerdict::Ok;
     }
     too_late(t, closes, first, cal)
 }
 
 /// t lies `n` months before the anchor at the latest. The earliest date is computed even when the verdict is Ok.
-fn latest_monate_before(n: u32, t: u32, a: u32, cal: HolidayCalendar) -> VorlaufVerdict
-    requires { ⌜ (t ≤ last) × (a ≤ last) ⌝ }
-    ensures { λ r. ⌜ r ≡ checkOf (isWerktag cal) (VorlaufShape.LatestMonateBefore n) t a ⌝ }
+fn latest_monate_before(n: u32, t: Tag, a: Tag, cal: HolidayCalendar) -> VorlaufVerdict
+    requires { ⌜ (t ≡ tagAt (t .index)) × (t .index ≤ last) × (a ≡ tagAt (a .index)) × (a .index ≤ last) ⌝ }
+    ensures { λ r. ⌜ r ≡ checkOf (isWerktag cal) (VorlaufShape.LatestMonateBefore n) (t .index) (a .index) ⌝ }
 {
-    let Step::Day(closes) = monate::months_earlier(a, n) else {
+    let TagStep::At(closes) = monate::months_earlier(a, n) else {
         return VorlaufVerdict::Outside;
     };
-    let Step::Day(first) = monate::months_later(t, n) else {
+    let TagStep::At(first) = monate::months_later(t, n) else {
         return VorlaufVerdict::Outside;
     };
-    not_after(t, closes, first, cal)
+    not_after(t, closes, first.index, cal)
 }
 
 /// t lies `monate` months and `werktage` Werktage before the anchor at the latest: the months first, then the Werktage
@@ -242,72 +248,72 @@ fn latest_monate_before(n: u32, t: u32, a: u32, cal: HolidayCalendar) -> Vorlauf
 fn latest_monate_und_werktage_before(
     monate: u32,
     werktage: u32,
-    t: u32,
-    a: u32,
+    t: Tag,
+    a: Tag,
     cal: HolidayCalendar,
 ) -> VorlaufVerdict
-    requires { ⌜ (t ≤ last) × (a ≤ last) ⌝ }
-    ensures { λ r. ⌜ r ≡ checkOf (isWerktag cal) (VorlaufShape.LatestMonateUndWerktageBefore monate werktage) t a ⌝ }
+    requires { ⌜ (t ≡ tagAt (t .index)) × (t .index ≤ last) × (a ≡ tagAt (a .index)) × (a .index ≤ last) ⌝ }
+    ensures { λ r. ⌜ r ≡ checkOf (isWerktag cal) (VorlaufShape.LatestMonateUndWerktageBefore monate werktage) (t .index) (a .index) ⌝ }
 {
-    let Step::Day(back) = monate::months_earlier(a, monate) else {
+    let TagStep::At(back) = monate::months_earlier(a, monate) else {
         return VorlaufVerdict::Outside;
     };
-    let Step::Day(closes) = schritte::sub_werktage(back, werktage, cal) else {
+    let TagStep::At(closes) = schritte::sub_werktage(back, werktage, cal) else {
         return VorlaufVerdict::Outside;
     };
-    let Step::Day(on) = schritte::add_werktage(t, werktage, cal) else {
+    let TagStep::At(on) = schritte::add_werktage(t, werktage, cal) else {
         return VorlaufVerdict::Outside;
     };
-    let Step::Day(first) = monate::months_later(on, monate) else {
+    let TagStep::At(first) = monate::months_later(on, monate) else {
         return VorlaufVerdict::Outside;
     };
-    not_after(t, closes, first, cal)
+    not_after(t, closes, first.index, cal)
 }
 
 /// The span from the day of a step on.
-fn span_from(first: Step) -> Span
-    ensures { λ r. ⌜ r ≡ spanFrom first ⌝ }
+fn span_from(first: TagStep) -> Span
+    ensures { λ r. ⌜ r ≡ spanFrom (stepIndex first) ⌝ }
 {
     match first {
-        Step::Day(day) => Span::From(day),
-        Step::Outside => Span::Outside,
+        TagStep::At(day) => Span::From(day.index),
+        TagStep::Outside => Span::Outside,
     }
 }
 
 /// The span between the days of two steps, empty if the first is later.
-fn span_between(first: Step, end: Step) -> Span
-    ensures { λ r. ⌜ r ≡ spanBetween first end ⌝ }
+fn span_between(first: TagStep, end: TagStep) -> Span
+    ensures { λ r. ⌜ r ≡ spanBetween (stepIndex first) (stepIndex end) ⌝ }
 {
-    let Step::Day(f) = first else {
+    let TagStep::At(f) = first else {
         return Span::Outside;
     };
-    let Step::Day(l) = end else {
+    let TagStep::At(l) = end else {
         return Span::Outside;
     };
-    if l < f {
+    if l.index < f.index {
         return Span::Empty;
     }
-    Span::Both(f, l)
+    Span::Both(f.index, l.index)
 }
 
 /// The day after the first Werktag after t.
-fn after_first_werktag(t: u32, cal: HolidayCalendar) -> Step
-    requires { ⌜ t ≤ last ⌝ }
-    ensures { λ r. ⌜ r ≡ onStep Step.Outside (add (isWerktag cal) t 1) dayAfter ⌝ }
+fn after_first_werktag(t: Tag, cal: HolidayCalendar) -> TagStep
+    requires { ⌜ (t ≡ tagAt (t .index)) × (t .index ≤ last) ⌝ }
+    ensures { λ r. ⌜ r ≡ tagStep (onStep Step.Outside (add (isWerktag cal) (t .index) 1) dayAfter) ⌝ }
 {
-    let Step::Day(werktag) = schritte::add_werktage(t, 1, cal) else {
-        return Step::Outside;
+    let TagStep::At(werktag) = schritte::add_werktage(t, 1, cal) else {
+        return TagStep::Outside;
     };
     schritte::day_after(werktag)
 }
 
 /// M(monate, W(werktage)) of document 01.
-fn months_after_werktage(t: u32, monate: u32, werktage: u32, cal: HolidayCalendar) -> Step
-    requires { ⌜ t ≤ last ⌝ }
-    ensures { λ r. ⌜ r ≡ onStep Step.Outside (W (isWerktag cal) t werktage) (M monate) ⌝ }
+fn months_after_werktage(t: Tag, monate: u32, werktage: u32, cal: HolidayCalendar) -> TagStep
+    requires { ⌜ (t ≡ tagAt (t .index)) × (t .index ≤ last) ⌝ }
+    ensures { λ r. ⌜ r ≡ tagStep (onStep Step.Outside (W (isWerktag cal) (t .index) werktage) (M monate)) ⌝ }
 {
-    let Step::Day(day) = schritte::day_after_werktage(t, werktage, cal) else {
-        return Step::Outside;
+    let TagStep::At(day) = schritte::day_after_werktage(t, werktage, cal) else {
+        return TagStep::Outside;
     };
     monate::months_or_first(day, monate)
 }
@@ -321,9 +327,12 @@ impl VorlaufShape {
     ///
     /// `LatestWerktageBefore(1)` from Saturday 10 January 2026 against Monday 12 January: TooLate by 0 Werktage, with
     /// that Monday.
-    pub fn check(self, uebertragungstag: u32, anchor: u32, cal: HolidayCalendar) -> VorlaufVerdict
-        requires { ⌜ (uebertragungstag ≤ last) × (anchor ≤ last) ⌝ }
-        ensures { λ r. ⌜ (r ≡ checkOf (isWerktag cal) self uebertragungstag anchor) × insideVerdict r ⌝ }
+    pub fn check(self, uebertragungstag: Tag, anchor: Tag, cal: HolidayCalendar) -> VorlaufVerdict
+        requires { ⌜ (uebertragungstag ≡ tagAt (uebertragungstag .index)) × (uebertragungstag .index ≤ last) ⌝ }
+        requires { ⌜ (anchor ≡ tagAt (anchor .index)) × (anchor .index ≤ last) ⌝ }
+        ensures { λ r. ⌜
+            (r ≡ checkOf (isWerktag cal) self (uebertragungstag .index) (anchor .index)) × insideVerdict r
+            ⌝ }
     {
         let t = uebertragungstag;
         match self {
@@ -352,9 +361,9 @@ impl VorlaufShape {
     ///
     /// `LatestWerktageBefore(1)` from Saturday 10 January 2026: from Tuesday 13 January. `LatestMonateBefore(1)` from
     /// 31 January 2026: from 1 March.
-    pub fn span(self, uebertragungstag: u32, cal: HolidayCalendar) -> Span
-        requires { ⌜ uebertragungstag ≤ last ⌝ }
-        ensures { λ r. ⌜ (r ≡ spanOf (isWerktag cal) self uebertragungstag) × insideSpan r ⌝ }
+    pub fn span(self, uebertragungstag: Tag, cal: HolidayCalendar) -> Span
+        requires { ⌜ (uebertragungstag ≡ tagAt (uebertragungstag .index)) × (uebertragungstag .index ≤ last) ⌝ }
+        ensures { λ r. ⌜ (r ≡ spanOf (isWerktag cal) self (uebertragungstag .index)) × insideSpan r ⌝ }
     {
         let t = uebertragungstag;
         match self {

@@ -6,9 +6,6 @@ use Rattle.datum.proofs.MonthStepRules.{month-rules}
 use Rattle.datum.proofs.monate.months_earlier.Statement.{statement}
 use Rattle.datum.proofs.monate.months_earlier.Tie as tie
 
-date-of-requires : tie.Need-date-of-requires
-date-of-requires c κs = search needs
-
 subtract-months-requires : tie.Need-subtract-months-requires
 subtract-months-requires c κs = search (needs, month-rules)
 
@@ -20,4 +17,4 @@ returns c = search (needs, month-rules)
 
 pub months-earlier-spec : {M : Type 1} → statement M
 months-earlier-spec =
-    tie.close (tie.spec date-of-requires subtract-months-requires to-step-requires returns)
+    tie.close (tie.spec subtract-months-requires to-step-requires returns)

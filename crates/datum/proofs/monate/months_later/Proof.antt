@@ -6,9 +6,6 @@ use Rattle.datum.proofs.MonthStepRules.{month-rules}
 use Rattle.datum.proofs.monate.months_later.Statement.{statement}
 use Rattle.datum.proofs.monate.months_later.Tie as tie
 
-date-of-requires : tie.Need-date-of-requires
-date-of-requires c κs = search needs
-
 add-months-requires : tie.Need-add-months-requires
 add-months-requires c κs = search (needs, month-rules)
 
@@ -20,4 +17,4 @@ returns c = search (needs, month-rules)
 
 pub months-later-spec : {M : Type 1} → statement M
 months-later-spec =
-    tie.close (tie.spec date-of-requires add-months-requires to-step-requires returns)
+    tie.close (tie.spec add-months-requires to-step-requires returns)

@@ -5,9 +5,6 @@ use borrow.Author.Needs.{needs}
 use Rattle.datum.proofs.monate.months_or_first.Statement.{statement}
 use Rattle.datum.proofs.monate.months_or_first.Tie as tie
 
-date-of-requires : tie.Need-date-of-requires
-date-of-requires c κs = search needs
-
 months-or-first-date-requires : tie.Need-months-or-first-date-requires
 months-or-first-date-requires c κs = search (needs, month-rules)
 
@@ -19,4 +16,4 @@ returns c = search (needs, month-rules)
 
 pub months-or-first-spec : {M : Type 1} → statement M
 months-or-first-spec =
-    tie.close (tie.spec date-of-requires months-or-first-date-requires to-step-requires returns)
+    tie.close (tie.spec months-or-first-date-requires to-step-requires returns)

@@ -1,8 +1,8 @@
 -- `datum::monate::to_step` meets its contract: each arm is a clause of `toStep`, and a date that a shift reached is one
 -- of the range, as the caller shows.
 -- Assumes nothing.
-use borrow.Author.Needs.{needs}
 use Rattle.datum.proofs.MonthStepRules.{month-rules}
+use borrow.Author.Needs.{needs}
 use Rattle.datum.proofs.monate.to_step.Statement.{statement}
 use Rattle.datum.proofs.monate.to_step.Tie as tie
 

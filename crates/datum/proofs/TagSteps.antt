@@ -1,16 +1,16 @@
 -- A step that gives its day taken apart, read as a step.
 --   at-day, at-tag, gone   the day that it reached, taken apart; or none
+--   index-of-step          the step itself
 -- Assumes nothing.
 use Prim.Native.Nat.{ℕ}
 use mathlib.Core.Path.{_≡_, refl, sym, ap, _∙_}
 use native.Mathlib.Omega.{arith}
 use Rattle.zaehlung.specs.declared.Step.{Step}
 use Rattle.zaehlung.specs.declared.Step.the-variants.{Day, Outside}
 use Rattle.datum.specs.declared.tage.Tag.{Tag}
-use Rattle.datum.specs.Tage.{tagAt}
-use Rattle.gang.specs.declared.TagStep.{TagStep}
-use Rattle.gang.specs.declared.TagStep.the-variants as reached
-use Rattle.gang.specs.Stand.{tagStep}
+use Rattle.datum.specs.declared.tage.TagStep.{TagStep}
+use Rattle.datum.specs.declared.tage.TagStep.the-variants as reached
+use Rattle.datum.specs.Tage.{tagAt, tagStep, stepIndex}
 
 -- the day in a step, and whether there is one
 tag-in : TagStep → Tag
@@ -20,6 +20,11 @@ tag-in reached.Outside = tagAt 0
 some : TagStep → ℕ
 some (reached.At t) = 1
 some reached.Outside = 0
+
+-- a step is that of its day taken apart
+undone : (x : Step) → stepIndex (tagStep x) ≡ x
+undone (Day d) = refl
+undone Outside = refl
 
 module _ (s : TagStep) where
   is-day : (x : Step) (t : Tag) → s ≡ tagStep x → s ≡ reached.At t → (x ≡ Day (t .index)) × (t ≡ tagAt (t .index))
@@ -44,3 +49,6 @@ module _ (s : TagStep) where
 
     pub gone : s ≡ reached.Outside → x ≡ Outside
     gone q = is-gone x p q
+
+    pub index-of-step : stepIndex s ≡ x
+    index-of-step = ap stepIndex p ∙ undone x
