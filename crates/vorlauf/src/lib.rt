@@ -9,7 +9,7 @@ ghost use Rattle.zaehlung.specs.Walk.{last, onStep, dayAfter, add, W, between};
 ghost use Rattle.datum.specs.Monate.{M};
 ghost use Rattle.datum.specs.Tage.{tagAt, tagStep, stepIndex};
 ghost use Rattle.werktag.specs.Werktag.{isWerktag};
-ghost use Rattle.vorlauf.specs.Verdict.{fruehesterTerminNachTagVorDemLetztenWerktag, notAfter, checkOf};
+ghost use Rattle.vorlauf.specs.Verdict.{closes, fruehesterTerminNachTagVorDemLetztenWerktag, notAfter, checkOf};
 ghost use Rattle.vorlauf.specs.Span.{spanFrom, spanBetween, spanOf};
 ghost use Rattle.vorlauf.specs.Inside.{insideVerdict, insideSpan};
 use datum::monate;
@@ -82,6 +82,23 @@ fn too_late(t: Tag, closes: Tag, first: u32, cal: HolidayCalendar) -> VorlaufVer
     }
 }
 
+/// `Ok` while t is at or before `closes`, else `TooLate` with the `n`-th Werktag after t, which is computed only then.
+fn not_after_by_werktage(n: u32, t: Tag, closes: Tag, cal: HolidayCalendar) -> VorlaufVerdict
+    requires { ⌜ (t ≡ tagAt (t .index)) × (t .index ≤ last) ⌝ }
+    requires { ⌜ closes ≡ tagAt (closes .index) ⌝ }
+    ensures { λ r. ⌜
+        r ≡ notAfter (isWerktag cal) (t .index) (closes .index) (add (isWerktag cal) (t .index) n)
+        ⌝ }
+{
+    if t.index <= closes.index {
+        return VorlaufVerdict::Ok;
+    }
+    let TagStep::At(first) = schritte::add_werktage(t, n, cal) else {
+        return VorlaufVerdict::Outside;
+    };
+    too_late(t, closes, first.index, cal)
+}
+
 /// t is the `n`-th Werktag before the anchor at the latest. `LatestWerktageBefore(1)` from Saturday 10 January 2026
 /// against Monday 12 January: TooLate by 0 Werktage, and the date named is that Monday.
 fn latest_werktage_before(n: u32, t: Tag, a: Tag, cal: HolidayCalendar) -> VorlaufVerdict
@@ -91,13 +108,7 @@ fn latest_werktage_before(n: u32, t: Tag, a: Tag, cal: HolidayCalendar) -> Vorla
     let TagStep::At(closes) = schritte::sub_werktage(a, n, cal) else {
         return VorlaufVerdict::Outside;
     };
-    if t.index <= closes.index {
-        return VorlaufVerdict::Ok;
-    }
-    let TagStep::At(first) = schritte::add_werktage(t, n, cal) else {
-        return VorlaufVerdict::Outside;
-    };
-    too_late(t, closes, first.index, cal)
+    not_after_by_werktage(n, t, closes, cal)
 }
 
 /// t is the `earliest`-th Werktag before the anchor at the earliest, and the `latest`-th at the latest.
@@ -122,13 +133,7 @@ fn window_werktage_before(
             excess_wt: schritte::werktage_between(t, opens, cal),
         };
     }
-    if t.index <= closes.index {
-        return VorlaufVerdict::Ok;
-    }
-    let TagStep::At(first) = schritte::add_werktage(t, latest, cal) else {
-        return VorlaufVerdict::Outside;
-    };
-    too_late(t, closes, first.index, cal)
+    not_after_by_werktage(latest, t, closes, cal)
 }
 
 /// t is the `n`-th Werktag after the anchor at the latest. Under TooLate the anchor itself is named.
@@ -243,8 +248,21 @@ fn latest_monate_before(n: u32, t: Tag, a: Tag, cal: HolidayCalendar) -> Vorlauf
     not_after(t, closes, first.index, cal)
 }
 
-/// t lies `monate` months and `werktage` Werktage before the anchor at the latest: the months first, then the Werktage
-/// back from the day on which they land. The earliest date is computed even when the verdict is Ok.
+/// The day `monate` months and `werktage` Werktage before the anchor: the months first, then the Werktage back from the
+/// day on which they land.
+fn monate_und_werktage_before(monate: u32, werktage: u32, a: Tag, cal: HolidayCalendar) -> TagStep
+    requires { ⌜ (a ≡ tagAt (a .index)) × (a .index ≤ last) ⌝ }
+    ensures { λ r. ⌜
+        r ≡ tagStep (closes (isWerktag cal) (VorlaufShape.LatestMonateUndWerktageBefore monate werktage) (a .index))
+        ⌝ }
+{
+    let TagStep::At(back) = monate::months_earlier(a, monate) else {
+        return TagStep::Outside;
+    };
+    schritte::sub_werktage(back, werktage, cal)
+}
+
+/// t lies `monate` months and `werktage` Werktage before the anchor at the latest. The earliest date is computed even when the verdict is Ok.
 fn latest_monate_und_werktage_before(
     monate: u32,
     werktage: u32,
@@ -255,10 +273,7 @@ fn latest_monate_und_werktage_before(
     requires { ⌜ (t ≡ tagAt (t .index)) × (t .index ≤ last) × (a ≡ tagAt (a .index)) × (a .index ≤ last) ⌝ }
     ensures { λ r. ⌜ r ≡ checkOf (isWerktag cal) (VorlaufShape.LatestMonateUndWerktageBefore monate werktage) (t .index) (a .index) ⌝ }
 {
-    let TagStep::At(back) = monate::months_earlier(a, monate) else {
-        return VorlaufVerdict::Outside;
-    };
-    let TagStep::At(closes) = schritte::sub_werktage(back, werktage, cal) else {
+    let TagStep::At(closes) = monate_und_werktage_before(monate, werktage, a, cal) else {
         return VorlaufVerdict::Outside;
     };
     let TagStep::At(on) = schritte::add_werktage(t, werktage, cal) else {

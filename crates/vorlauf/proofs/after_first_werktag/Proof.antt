@@ -1,12 +1,12 @@
 -- `vorlauf::after_first_werktag` meets its contract: the definition's two steps are the code's.
 -- Assumes nothing.
 use borrow.Author.Needs.{needs}
-use Rattle.vorlauf.proofs.StepRules.{step-rules}
+use Rattle.vorlauf.proofs.StepRules.{inside-rules, step-rules}
 use Rattle.vorlauf.proofs.after_first_werktag.Statement.{statement}
 use Rattle.vorlauf.proofs.after_first_werktag.Tie as tie
 
 add-werktage-requires : tie.Need-add-werktage-requires
-add-werktage-requires c κs = search needs
+add-werktage-requires c κs = search (needs, inside-rules)
 
 enum-known-werktag : tie.Need-enum-known-werktag
 enum-known-werktag c = search needs
@@ -18,7 +18,7 @@ returns : tie.Need-returns
 returns c = search (needs, step-rules)
 
 day-after-requires : tie.Need-day-after-requires
-day-after-requires c κs = search needs
+day-after-requires c κs = search (needs, inside-rules)
 
 returns-2 : tie.Need-returns-2
 returns-2 c = search (needs, step-rules)

@@ -8,7 +8,7 @@ use Rattle.vorlauf.proofs.earliest_werktage_after.Statement.{statement}
 use Rattle.vorlauf.proofs.earliest_werktage_after.Tie as tie
 
 add-werktage-requires : tie.Need-add-werktage-requires
-add-werktage-requires c κs = search needs
+add-werktage-requires c κs = search (needs, inside-rules)
 
 enum-known-first : tie.Need-enum-known-first
 enum-known-first c = search needs

@@ -7,7 +7,7 @@ use Rattle.vorlauf.proofs.fruehester_termin_nach_tag_vor_dem_letzten_we
 use Rattle.vorlauf.proofs.fruehester_termin_nach_tag_vor_dem_letzten_werktag.Tie as tie
 
 day-after-requires : tie.Need-day-after-requires
-day-after-requires c κs = search needs
+day-after-requires c κs = search (needs, inside-rules)
 
 enum-known-next-day : tie.Need-enum-known-next-day
 enum-known-next-day c = search needs
@@ -31,7 +31,7 @@ returns-2 : tie.Need-returns-2
 returns-2 c = search (needs, step-rules)
 
 day-after-requires-2 : tie.Need-day-after-requires-2
-day-after-requires-2 c κs = search needs
+day-after-requires-2 c κs = search (needs, inside-rules)
 
 returns-3 : tie.Need-returns-3
 returns-3 c = search (needs, step-rules)

@@ -8,7 +8,7 @@ use Rattle.vorlauf.proofs.korridor.Statement.{statement}
 use Rattle.vorlauf.proofs.korridor.Tie as tie
 
 sub-werktage-requires : tie.Need-sub-werktage-requires
-sub-werktage-requires c κs = search needs
+sub-werktage-requires c κs = search (needs, inside-rules)
 
 enum-known-opens : tie.Need-enum-known-opens
 enum-known-opens c = search needs
@@ -20,7 +20,7 @@ returns : tie.Need-returns
 returns c = search (needs, verdict-rules)
 
 add-werktage-requires : tie.Need-add-werktage-requires
-add-werktage-requires c κs = search needs
+add-werktage-requires c κs = search (needs, inside-rules)
 
 enum-known-closes : tie.Need-enum-known-closes
 enum-known-closes c = search needs
@@ -41,7 +41,7 @@ returns-4 : tie.Need-returns-4
 returns-4 c = search (needs, verdict-rules)
 
 too-late-requires : tie.Need-too-late-requires
-too-late-requires c κs = search needs
+too-late-requires c κs = search (needs, inside-rules)
 
 returns-5 : tie.Need-returns-5
 returns-5 c = search (needs, verdict-rules)

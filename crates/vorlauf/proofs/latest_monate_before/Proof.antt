@@ -8,7 +8,7 @@ use Rattle.vorlauf.proofs.latest_monate_before.Statement.{statement}
 use Rattle.vorlauf.proofs.latest_monate_before.Tie as tie
 
 months-earlier-requires : tie.Need-months-earlier-requires
-months-earlier-requires c κs = search needs
+months-earlier-requires c κs = search (needs, inside-rules)
 
 enum-known-closes : tie.Need-enum-known-closes
 enum-known-closes c = search needs
@@ -20,7 +20,7 @@ returns : tie.Need-returns
 returns c = search (needs, verdict-rules)
 
 months-later-requires : tie.Need-months-later-requires
-months-later-requires c κs = search needs
+months-later-requires c κs = search (needs, inside-rules)
 
 enum-known-first : tie.Need-enum-known-first
 enum-known-first c = search needs

@@ -1,17 +1,17 @@
--- `vorlauf::latest_monate_und_werktage_before` meets its contract. Each return is a rule of VerdictRules, by the clause
--- of `checkOf` for this shape, and what a callee is given lies inside the calendar, since a step ends inside.
+-- `vorlauf::latest_monate_und_werktage_before` meets its contract. Each return is a rule of VerdictRules, by the clause of
+-- `checkOf` for this shape.
 -- Assumes nothing.
-use borrow.Author.Needs.{needs}
-use Rattle.vorlauf.proofs.StepRules.{closes-in, inside-rules}
 use Rattle.vorlauf.proofs.VerdictRules.{verdict-rules}
+use Rattle.vorlauf.proofs.StepRules.{inside-rules}
+use borrow.Author.Needs.{needs}
 use Rattle.vorlauf.proofs.latest_monate_und_werktage_before.Statement.{statement}
 use Rattle.vorlauf.proofs.latest_monate_und_werktage_before.Tie as tie
 
-months-earlier-requires : tie.Need-months-earlier-requires
-months-earlier-requires c κs = search (needs, inside-rules)
+monate-und-werktage-before-requires : tie.Need-monate-und-werktage-before-requires
+monate-und-werktage-before-requires c κs = search (needs, inside-rules)
 
-enum-known-back : tie.Need-enum-known-back
-enum-known-back c = search needs
+enum-known-closes : tie.Need-enum-known-closes
+enum-known-closes c = search needs
 
 enum-told : tie.Need-enum-told
 enum-told c = search needs
@@ -19,11 +19,11 @@ enum-told c = search needs
 returns : tie.Need-returns
 returns c = search (needs, verdict-rules)
 
-sub-werktage-requires : tie.Need-sub-werktage-requires
-sub-werktage-requires c κs = search (needs, inside-rules)
+add-werktage-requires : tie.Need-add-werktage-requires
+add-werktage-requires c κs = search (needs, inside-rules)
 
-enum-known-closes : tie.Need-enum-known-closes
-enum-known-closes c = search needs
+enum-known-on : tie.Need-enum-known-on
+enum-known-on c = search needs
 
 enum-told-2 : tie.Need-enum-told-2
 enum-told-2 c = search needs
@@ -31,11 +31,11 @@ enum-told-2 c = search needs
 returns-2 : tie.Need-returns-2
 returns-2 c = search (needs, verdict-rules)
 
-add-werktage-requires : tie.Need-add-werktage-requires
-add-werktage-requires c κs = search needs
+months-later-requires : tie.Need-months-later-requires
+months-later-requires c κs = search (needs, inside-rules)
 
-enum-known-on : tie.Need-enum-known-on
-enum-known-on c = search needs
+enum-known-first : tie.Need-enum-known-first
+enum-known-first c = search needs
 
 enum-told-3 : tie.Need-enum-told-3
 enum-told-3 c = search needs
@@ -43,43 +43,27 @@ enum-told-3 c = search needs
 returns-3 : tie.Need-returns-3
 returns-3 c = search (needs, verdict-rules)
 
-months-later-requires : tie.Need-months-later-requires
-months-later-requires c κs = search (needs, inside-rules)
-
-enum-known-first : tie.Need-enum-known-first
-enum-known-first c = search needs
-
-enum-told-4 : tie.Need-enum-told-4
-enum-told-4 c = search needs
+not-after-requires : tie.Need-not-after-requires
+not-after-requires c κs = search (needs, inside-rules)
 
 returns-4 : tie.Need-returns-4
 returns-4 c = search (needs, verdict-rules)
-
-not-after-requires : tie.Need-not-after-requires
-not-after-requires c κs = search (needs, closes-in)
-
-returns-5 : tie.Need-returns-5
-returns-5 c = search (needs, verdict-rules)
 
 pub latest-monate-und-werktage-before-spec : {M : Type 1} → statement M
 latest-monate-und-werktage-before-spec =
     tie.close
     (tie.spec
-    months-earlier-requires
-    enum-known-back
+    monate-und-werktage-before-requires
+    enum-known-closes
     enum-told
     returns
-    sub-werktage-requires
-    enum-known-closes
-    enum-told-2
-    returns-2
     add-werktage-requires
     enum-known-on
-    enum-told-3
-    returns-3
+    enum-told-2
+    returns-2
     months-later-requires
     enum-known-first
-    enum-told-4
-    returns-4
+    enum-told-3
+    returns-3
     not-after-requires
-    returns-5)
+    returns-4)

@@ -7,7 +7,7 @@ use Rattle.vorlauf.proofs.months_after_werktage.Statement.{statement}
 use Rattle.vorlauf.proofs.months_after_werktage.Tie as tie
 
 day-after-werktage-requires : tie.Need-day-after-werktage-requires
-day-after-werktage-requires c κs = search needs
+day-after-werktage-requires c κs = search (needs, inside-rules)
 
 enum-known-day : tie.Need-enum-known-day
 enum-known-day c = search needs

@@ -2,12 +2,13 @@
 -- of `checkOf` for this shape.
 -- Assumes nothing.
 use borrow.Author.Needs.{needs}
+use Rattle.vorlauf.proofs.StepRules.{inside-rules}
 use Rattle.vorlauf.proofs.VerdictRules.{verdict-rules}
 use Rattle.vorlauf.proofs.tag_vor_dem_letzten_werktag_vor.Statement.{statement}
 use Rattle.vorlauf.proofs.tag_vor_dem_letzten_werktag_vor.Tie as tie
 
 sub-werktage-requires : tie.Need-sub-werktage-requires
-sub-werktage-requires c κs = search needs
+sub-werktage-requires c κs = search (needs, inside-rules)
 
 enum-known-letzter : tie.Need-enum-known-letzter
 enum-known-letzter c = search needs
@@ -19,7 +20,7 @@ returns : tie.Need-returns
 returns c = search (needs, verdict-rules)
 
 day-before-requires : tie.Need-day-before-requires
-day-before-requires c κs = search needs
+day-before-requires c κs = search (needs, inside-rules)
 
 enum-known-closes : tie.Need-enum-known-closes
 enum-known-closes c = search needs
@@ -35,7 +36,7 @@ returns-3 c = search (needs, verdict-rules)
 
 fruehester-termin-nach-tag-vor-dem-letzten-werktag-requires :
     tie.Need-fruehester-termin-nach-tag-vor-dem-letzten-werktag-requires
-fruehester-termin-nach-tag-vor-dem-letzten-werktag-requires c κs = search needs
+fruehester-termin-nach-tag-vor-dem-letzten-werktag-requires c κs = search (needs, inside-rules)
 
 enum-known-first : tie.Need-enum-known-first
 enum-known-first c = search needs
@@ -47,7 +48,7 @@ returns-4 : tie.Need-returns-4
 returns-4 c = search (needs, verdict-rules)
 
 too-late-requires : tie.Need-too-late-requires
-too-late-requires c κs = search needs
+too-late-requires c κs = search (needs, inside-rules)
 
 returns-5 : tie.Need-returns-5
 returns-5 c = search (needs, verdict-rules)

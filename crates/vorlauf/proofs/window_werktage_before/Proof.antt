@@ -1,14 +1,14 @@
--- `vorlauf::window_werktage_before` meets its contract. Each return is a rule of VerdictRules, by the clause of
--- `checkOf` for this shape, and what a callee is given lies inside the calendar, since a step ends inside.
+-- `vorlauf::window_werktage_before` meets its contract. Each return is a rule of VerdictRules, by the clause of `checkOf`
+-- for this shape.
 -- Assumes nothing.
-use borrow.Author.Needs.{needs}
-use Rattle.vorlauf.proofs.StepRules.{inside-rules}
 use Rattle.vorlauf.proofs.VerdictRules.{verdict-rules}
+use Rattle.vorlauf.proofs.StepRules.{inside-rules}
+use borrow.Author.Needs.{needs}
 use Rattle.vorlauf.proofs.window_werktage_before.Statement.{statement}
 use Rattle.vorlauf.proofs.window_werktage_before.Tie as tie
 
 sub-werktage-requires : tie.Need-sub-werktage-requires
-sub-werktage-requires c κs = search needs
+sub-werktage-requires c κs = search (needs, inside-rules)
 
 enum-known-opens : tie.Need-enum-known-opens
 enum-known-opens c = search needs
@@ -20,7 +20,7 @@ returns : tie.Need-returns
 returns c = search (needs, verdict-rules)
 
 sub-werktage-requires-2 : tie.Need-sub-werktage-requires-2
-sub-werktage-requires-2 c κs = search needs
+sub-werktage-requires-2 c κs = search (needs, inside-rules)
 
 enum-known-closes : tie.Need-enum-known-closes
 enum-known-closes c = search needs
@@ -37,26 +37,11 @@ werktage-between-requires c κs = search (needs, inside-rules)
 returns-3 : tie.Need-returns-3
 returns-3 c = search (needs, verdict-rules)
 
+not-after-by-werktage-requires : tie.Need-not-after-by-werktage-requires
+not-after-by-werktage-requires c κs = search (needs, inside-rules)
+
 returns-4 : tie.Need-returns-4
 returns-4 c = search (needs, verdict-rules)
-
-add-werktage-requires : tie.Need-add-werktage-requires
-add-werktage-requires c κs = search needs
-
-enum-known-first : tie.Need-enum-known-first
-enum-known-first c = search needs
-
-enum-told-3 : tie.Need-enum-told-3
-enum-told-3 c = search needs
-
-returns-5 : tie.Need-returns-5
-returns-5 c = search (needs, verdict-rules)
-
-too-late-requires : tie.Need-too-late-requires
-too-late-requires c κs = search needs
-
-returns-6 : tie.Need-returns-6
-returns-6 c = search (needs, verdict-rules)
 
 pub window-werktage-before-spec : {M : Type 1} → statement M
 window-werktage-before-spec =
@@ -72,10 +57,5 @@ window-werktage-before-spec =
     returns-2
     werktage-between-requires
     returns-3
-    returns-4
-    add-werktage-requires
-    enum-known-first
-    enum-told-3
-    returns-5
-    too-late-requires
-    returns-6)
+    not-after-by-werktage-requires
+    returns-4)
