@@ -6,14 +6,18 @@ use mathlib.Core.Bool.{Bool, true, false, not}
 use mathlib.Core.Path.{_≡_, sym, ap, _∙_}
 use native.Mathlib.Omega.{arith}
 use borrow.Author.Tests.{eq-eqb, ne-eqb, not-true, not-false}
-use Rattle.zaehlung.specs.declared.Step.{Step}
-use Rattle.zaehlung.specs.declared.Step.the-variants.{Day, Outside as Left}
+use Rattle.zaehlung.specs.declared.Step.the-variants.{Day}
+use Rattle.datum.specs.declared.tage.Tag.{Tag}
+use Rattle.datum.specs.declared.tage.TagStep.{TagStep}
+use Rattle.datum.specs.declared.tage.TagStep.the-variants.{At, Outside as Gone}
+use Rattle.datum.specs.Tage.{tagStep}
+use Rattle.datum.proofs.TagSteps.{at-day, gone}
 use Rattle.zaehlung.specs.Walk.{last, sub}
 use Rattle.zaehlung.proofs.Laws.{sub-inside}
 use Rattle.berlin.specs.declared.Moment.{Moment}
 use Rattle.berlin.specs.declared.Clock.{Clock}
 use Rattle.berlin.specs.declared.Resolved.{Resolved}
-use Rattle.berlin.specs.declared.Resolved.the-variants.{At, Absent}
+use Rattle.berlin.specs.declared.Resolved.the-variants.{At as Shows, Absent}
 use Rattle.berlin.specs.Berlin.{oClock, isBefore, berlinDate, berlinAt, berlinMidnight}
 use Rattle.berlin.proofs.Proper.{shown-second, midnight-second}
 use Rattle.ankuendigung.specs.declared.Fristgerecht.the-variants.{Nein, Ja, Weder, Outside}
@@ -24,9 +28,9 @@ module _ (e : ℕ) (m : Moment) (c : Clock) (r : Resolved) (u : c ≡ oClock 13)
   thirteen : (y : Resolved) → r ≡ y → berlinAt e (oClock 13) ≡ y
   thirteen y q = ap (berlinAt e) (sym u) ∙ sym p ∙ q
 
-  pub shown : (a : Moment) (b : Bool) → r ≡ At a → b ≡ isBefore a m → not b ≡ isByThirteen e m
+  pub shown : (a : Moment) (b : Bool) → r ≡ Shows a → b ≡ isBefore a m → not b ≡ isByThirteen e m
   unfolding isByThirteen
-  shown a b q g = rw (thirteen (At a) q, g)
+  shown a b q g = rw (thirteen (Shows a) q, g)
 
   pub never : r ≡ Absent → false ≡ isByThirteen e m
   unfolding isByThirteen
@@ -44,29 +48,38 @@ module _ (w : ℕ → Bool) (m n : Moment) (i : ℕ) (b : Bool) (g : n ≡ berli
   unfolding eogAnkuendigungFristgerecht
   neither t = rw (at-midnight false (not-true b t))
 
-  pub no-werktag : (s : Step) → not b ≡ false → s ≡ sub w i 1 → s ≡ Left → Outside ≡ eogAnkuendigungFristgerecht w m i
+  pub no-werktag : (s : TagStep) → not b ≡ false → s ≡ tagStep (sub w i 1) → s ≡ Gone → Outside ≡ eogAnkuendigungFristgerecht w m i
   unfolding eogAnkuendigungFristgerecht
-  no-werktag s t p q = rw (at-midnight true (not-false b t), sym p ∙ q)
+  no-werktag s t p q = rw (at-midnight true (not-false b t), gone s (sub w i 1) p q)
 
-  module _ (s : Step) (e d : ℕ) (t : not b ≡ false) (p : s ≡ sub w i 1) (q : s ≡ Day e) (o : d ≡ berlinDate m) where
+  module _
+      (s : TagStep) (l : Tag) (d : ℕ) (t : not b ≡ false) (p : s ≡ tagStep (sub w i 1)) (q : s ≡ At l)
+      (o : d ≡ berlinDate m) where
+    abbrev e : ℕ
+    e = l .index
+
+    reached : sub w i 1 ≡ Day e
+    reached = at-day s (sub w i 1) p l q
+
     pub earlier : d < e → Nein ≡ eogAnkuendigungFristgerecht w m i
     unfolding eogAnkuendigungFristgerecht
-    earlier h = rw (at-midnight true (not-false b t), sym p ∙ q, ← o, ne-eqb d e (λ z. omega arith))
+    earlier h = rw (at-midnight true (not-false b t), reached, ← o, ne-eqb d e (λ z. omega arith))
 
     pub later : e < d → Nein ≡ eogAnkuendigungFristgerecht w m i
     unfolding eogAnkuendigungFristgerecht
-    later h = rw (at-midnight true (not-false b t), sym p ∙ q, ← o, ne-eqb d e (λ z. omega arith))
+    later h = rw (at-midnight true (not-false b t), reached, ← o, ne-eqb d e (λ z. omega arith))
 
     pub in-time : (r : Bool) → e ≤ d → d ≤ e → r ≡ isByThirteen e m → r ≡ true → Ja ≡ eogAnkuendigungFristgerecht w m i
     unfolding eogAnkuendigungFristgerecht
-    in-time r h l u v = rw (at-midnight true (not-false b t), sym p ∙ q, ← o, eq-eqb d e (omega arith), sym u ∙ v)
+    in-time r h g u v = rw (at-midnight true (not-false b t), reached, ← o, eq-eqb d e (omega arith), sym u ∙ v)
 
     pub too-late :
         (r : Bool) → e ≤ d → d ≤ e → r ≡ isByThirteen e m → r ≡ false → Nein ≡ eogAnkuendigungFristgerecht w m i
     unfolding eogAnkuendigungFristgerecht
-    too-late r h l u v = rw (at-midnight true (not-false b t), sym p ∙ q, ← o, eq-eqb d e (omega arith), sym u ∙ v)
+    too-late r h g u v = rw (at-midnight true (not-false b t), reached, ← o, eq-eqb d e (omega arith), sym u ∙ v)
 
-pub last-inside : (w : ℕ → Bool) (i e : ℕ) (s : Step) → i ≤ last → s ≡ sub w i 1 → s ≡ Day e → e ≤ last
-last-inside w i e s h p q = sub-inside w i 1 e h (sym p ∙ q)
+pub last-inside :
+    (w : ℕ → Bool) (i : ℕ) (l : Tag) (s : TagStep) → i ≤ last → s ≡ tagStep (sub w i 1) → s ≡ At l → l .index ≤ last
+last-inside w i l s h p q = sub-inside w i 1 (l .index) h (at-day s (sub w i 1) p l q)
 
 pub ruleset eog-rules = (neither, no-werktag, earlier, later, in-time, too-late, midnight-second, last-inside)

@@ -4,13 +4,15 @@
 ghost use mathlib.Core.Path.{_≡_};
 ghost use Prim.Native.Nat.{_≤_};
 ghost use Rattle.zaehlung.specs.Walk.{last};
+ghost use Rattle.datum.specs.Tage.{tagAt};
 ghost use Rattle.werktag.specs.Werktag.{isWerktag};
 ghost use Rattle.berlin.specs.Inside.{Proper};
 ghost use Rattle.ankuendigung.specs.Ankuendigung.{eogAnkuendigungFristgerecht, isByThirteen};
 use berlin::Moment;
 use berlin::Resolved;
+use datum::tage::Tag;
+use datum::tage::TagStep;
 use werktag::HolidayCalendar;
-use zaehlung::Step;
 
 /// Whether the Frist was kept; neither, from the beginning on; or that the last Werktag before it leaves the calendar.
 pub enum Fristgerecht {
@@ -41,26 +43,27 @@ fn is_by_thirteen(uez: Moment, day: u32) -> bool
 /// 12 January 00:00 on it is neither.
 pub fn eog_ankuendigung_fristgerecht(
     uez: Moment,
-    zuordnungsbeginn: u32,
+    zuordnungsbeginn: Tag,
     cal: HolidayCalendar,
 ) -> Fristgerecht
-    requires { ⌜ (Proper uez) × (zuordnungsbeginn ≤ last) ⌝ }
-    ensures { λ r. ⌜ r ≡ eogAnkuendigungFristgerecht (isWerktag cal) uez zuordnungsbeginn ⌝ }
+    requires { ⌜ Proper uez ⌝ }
+    requires { ⌜ (zuordnungsbeginn ≡ tagAt (zuordnungsbeginn .index)) × (zuordnungsbeginn .index ≤ last) ⌝ }
+    ensures { λ r. ⌜ r ≡ eogAnkuendigungFristgerecht (isWerktag cal) uez (zuordnungsbeginn .index) ⌝ }
 {
-    if !berlin::is_before(uez, berlin::berlin_midnight(zuordnungsbeginn)) {
+    if !berlin::is_before(uez, berlin::berlin_midnight(zuordnungsbeginn.index)) {
         return Fristgerecht::Weder;
     }
-    let Step::Day(letzter) = schritte::sub_werktage(zuordnungsbeginn, 1, cal) else {
+    let TagStep::At(letzter) = schritte::sub_werktage(zuordnungsbeginn, 1, cal) else {
         return Fristgerecht::Outside;
     };
     let day = berlin::berlin_date(uez);
-    if day < letzter {
+    if day < letzter.index {
         return Fristgerecht::Nein;
     }
-    if letzter < day {
+    if letzter.index < day {
         return Fristgerecht::Nein;
     }
-    if is_by_thirteen(uez, letzter) {
+    if is_by_thirteen(uez, letzter.index) {
         return Fristgerecht::Ja;
     }
     Fristgerecht::Nein

@@ -11,9 +11,7 @@ use mir.Syntax.{w64}
 use mir.Val.{SFits}
 use mir.Facts.{toZ-ofZ}
 use Rattle.zaehlung.specs.declared.Step.{Step}
-use Rattle.zaehlung.specs.declared.Step.the-variants.{Day, Outside}
-use Rattle.zaehlung.specs.Walk.{last, add, sub, next}
-use Rattle.zaehlung.proofs.Laws.{add-inside, sub-inside, next-inside}
+use Rattle.zaehlung.specs.Walk.{last}
 use Rattle.datum.specs.declared.Date.{Date}
 use Rattle.datum.specs.declared.Index.{Index}
 use Rattle.datum.specs.declared.Index.the-variants.{Day as At, NoDate}
@@ -21,7 +19,12 @@ use Rattle.datum.specs.declared.Shifted.{Shifted}
 use Rattle.datum.specs.declared.Shifted.the-variants.{On, Outside as Left}
 use Rattle.datum.specs.Calendar.{isDate, daysBefore, indexOf, dateOf}
 use Rattle.datum.proofs.Dates.{valid-is}
-use Rattle.datum.proofs.RoundTrip.{index-inside}
+use Rattle.datum.specs.declared.tage.Tag.{Tag}
+use Rattle.datum.specs.declared.tage.TagStep.{TagStep}
+use Rattle.datum.specs.declared.tage.TagStep.the-variants as reached
+use Rattle.datum.specs.Tage.{tagAt, tagStep, stepIndex}
+use Rattle.datum.proofs.TagSteps.{at-tag, index-of-step}
+use Rattle.datum.proofs.RoundTrip.{index-inside, index-then-date}
 use Rattle.berlin.specs.declared.Moment.{Moment}
 use Rattle.berlin.specs.declared.Clock.{Clock}
 use Rattle.berlin.specs.declared.Reading.{Reading}
@@ -42,7 +45,7 @@ use Rattle.datum.proofs.Signed.{back, back-pos}
 use Rattle.antwortsatz.specs.declared.Answer.{Answer}
 use Rattle.antwortsatz.specs.Refusals.{noDate, instantOutside, noClock, localTimeAbsent, noBeginning, leavesCalendar}
 use Rattle.antwortsatz.specs.Answers.{refused, ofKind, counted, dated, atInstant}
-use Rattle.antworten.specs.Inside.{inside, insideBeginn, properReading, properClock, properResolved}
+use Rattle.antworten.specs.Inside.{insideBeginn, properReading, properClock, properResolved}
 use Rattle.antworten.specs.Reading.{onDate, stepAnswer, shiftAnswer, onInstant, onClock}
 use Rattle.antworten.specs.Reading.{momentAnswer, resolvedAnswer, beginnAnswer}
 use Rattle.antworten.proofs.Codes.{code-refused, code-taken}
@@ -81,22 +84,16 @@ pub ruleset date-rules = (date-none, date-given, date-valid, date-month)
 pub reason-kind : (k x : ℕ) (r : Answer) → k ≡ x → r ≡ ofKind k → r ≡ ofKind x
 reason-kind k x r e p = rw (← e) p
 
--- a step s that its function returned
-made-inside : (s : Step) → ((e : ℕ) → s ≡ Day e → e ≤ last) → inside s
-made-inside (Day e) f = f e refl
-made-inside Outside f = tt
+-- a date and its index: x is what `index_of` returned for d
+pub date-tag : (d : Date) (x : Index) (i : ℕ) → x ≡ indexOf d → x ≡ At i → record { index = i; date = d } ≡ tagAt i
+date-tag d x i e q = ap (λ (y : Date). record { index = i; date = y }) (sym (index-then-date d i (sym e ∙ q)))
 
-pub add-in : (w : ℕ → Bool) (i n : ℕ) (s : Step) → i ≤ last → s ≡ add w i n → inside s
-add-in w i n s h p = made-inside s (λ e q. add-inside w i n e h (sym p ∙ q))
+-- a step s that its function returned, and t what it promises
+pub step-own : (s : TagStep) (t : Step) → s ≡ tagStep t → s ≡ tagStep (stepIndex s)
+step-own s t e = e ∙ ap tagStep (sym (index-of-step s t e))
 
-pub sub-in : (w : ℕ → Bool) (i n : ℕ) (s : Step) → i ≤ last → s ≡ sub w i n → inside s
-sub-in w i n s h p = made-inside s (λ e q. sub-inside w i n e h (sym p ∙ q))
-
-pub next-in : (w : ℕ → Bool) (i : ℕ) (s : Step) → i ≤ last → s ≡ next w i → inside s
-next-in w i s h p = made-inside s (λ e q. next-inside w i e h (sym p ∙ q))
-
-pub step-made : (s t : Step) (r : Answer) → s ≡ t → r ≡ stepAnswer s → r ≡ stepAnswer t
-step-made s t r e p = p ∙ ap stepAnswer e
+pub step-made : (s : TagStep) (t : Step) (r : Answer) → s ≡ tagStep t → r ≡ stepAnswer (stepIndex s) → r ≡ stepAnswer t
+step-made s t r e p = p ∙ ap stepAnswer (index-of-step s t e)
 
 pub shift-made : (s t : Shifted) (r : Answer) → s ≡ t → r ≡ shiftAnswer s → r ≡ shiftAnswer t
 shift-made s t r e p = p ∙ ap shiftAnswer e
@@ -105,14 +102,14 @@ pub count-made : (n m s t : ℕ) (r : Answer) → n ≡ m → s ≡ t → r ≡ 
 count-made n m s t r e f p = p ∙ ap₂ counted e f
 
 -- step_answer, shift_answer
-pub day-reached : (s : Step) (i : ℕ) → inside s → s ≡ Day i → i ≤ last
-day-reached (Day j) i h e = let q : j ≡ i = cc in omega arith
-day-reached Outside i h e = let z : _≡_ {A = ℕ} 0 1 = cc in absurd (omega arith)
+pub step-day :
+    (s : TagStep) (t : Tag) (r : Answer) → s ≡ tagStep (stepIndex s) → s ≡ reached.At t → r ≡ dated (t .date) →
+    r ≡ stepAnswer (stepIndex s)
+step-day s t r e q p =
+    let z : t .date ≡ dateOf (t .index) = ap (λ (x : Tag). x .date) (at-tag s (stepIndex s) e t q) in
+    p ∙ ap dated z ∙ sym (ap (λ (x : TagStep). stepAnswer (stepIndex x)) q)
 
-pub step-day : (s : Step) (i : ℕ) (d : Date) (r : Answer) → s ≡ Day i → d ≡ dateOf i → r ≡ dated d → r ≡ stepAnswer s
-step-day s i d r e p q = rw (e, ← p) q
-
-pub step-out : (s : Step) (r : Answer) → s ≡ Outside → r ≡ refused leavesCalendar → r ≡ stepAnswer s
+pub step-out : (s : TagStep) (r : Answer) → s ≡ reached.Outside → r ≡ refused leavesCalendar → r ≡ stepAnswer (stepIndex s)
 step-out s r e q = rw e q
 
 pub shift-on : (s : Shifted) (d : Date) (r : Answer) → s ≡ On d → r ≡ dated d → r ≡ shiftAnswer s
@@ -121,16 +118,15 @@ shift-on s d r e q = rw e q
 pub shift-out : (s : Shifted) (r : Answer) → s ≡ Left → r ≡ refused leavesCalendar → r ≡ shiftAnswer s
 shift-out s r e q = rw e q
 
-pub ruleset step-rules = (day-reached, step-day, step-out, shift-on, shift-out)
+pub ruleset step-rules = (step-day, step-out, shift-on, shift-out)
 
 pub ruleset answer-rules = (
   date-refused,
   date-taken,
   day-inside,
   reason-kind,
-  add-in,
-  sub-in,
-  next-in,
+  date-tag,
+  step-own,
   step-made,
   shift-made,
   count-made,

@@ -1,11 +1,9 @@
 -- What functions ask and promise of ranges; no reader need believe it.
---   inside s, insideBeginn b = the day in s, in b, if it holds one, is in the calendar
+--   insideBeginn b = the day in b, if it holds one, is in the calendar
 --   properReading k, properResolved r = the instant in k, in r, if it holds one, is in the calendar
 --   properClock k = the clock in k, if it holds one, is a time of day
 -- Assumes nothing.
 use Prim.Native.Nat.{_≤_}
-use Rattle.zaehlung.specs.declared.Step.{Step}
-use Rattle.zaehlung.specs.declared.Step.the-variants.{Day, Outside}
 use Rattle.zaehlung.specs.Walk.{last}
 use Rattle.berlin.specs.declared.Reading.{Reading}
 use Rattle.berlin.specs.declared.Reading.the-variants.{At as Read, NoInstant}
@@ -16,10 +14,6 @@ use Rattle.berlin.specs.declared.Resolved.the-variants.{At as Shown, Absent as 
 use Rattle.berlin.specs.declared.Beginn.{Beginn}
 use Rattle.berlin.specs.declared.Beginn.the-variants.{Day as Begins, NoBeginning}
 use Rattle.berlin.specs.Inside.{Proper, ProperClock}
-
-abbrev pub inside : Step → Type 0
-inside (Day d) = d ≤ last
-inside Outside = Unit {0}
 
 abbrev pub insideBeginn : Beginn → Type 0
 insideBeginn (Begins i) = i ≤ last

@@ -2,7 +2,7 @@
 ghost use mathlib.Core.Path.{_≡_};
 ghost use Rattle.werktag.specs.Werktag.{isWerktag};
 ghost use Rattle.werktag.specs.Reason.{reason};
-ghost use Rattle.antworten.specs.Inside.{inside};
+ghost use Rattle.datum.specs.Tage.{tagStep, stepIndex};
 ghost use Rattle.antworten.specs.Reading.{stepAnswer, shiftAnswer};
 ghost use Rattle.antworten.specs.Kalender.{isWerktagAnswer, nextWerktagAnswer, addWerktageAnswer};
 ghost use Rattle.antworten.specs.Kalender.{subWerktageAnswer};
@@ -13,17 +13,18 @@ use antwortsatz::NO_DATE;
 use datum::Date;
 use datum::Index;
 use datum::Shifted;
+use datum::tage::Tag;
+use datum::tage::TagStep;
 use werktag::HolidayCalendar;
-use zaehlung::Step;
 
 /// The date of the day that a step reached, or refusal 8.
-fn step_answer(step: Step) -> Answer
-    requires { ⌜ inside step ⌝ }
-    ensures { λ r. ⌜ r ≡ stepAnswer step ⌝ }
+fn step_answer(step: TagStep) -> Answer
+    requires { ⌜ step ≡ tagStep (stepIndex step) ⌝ }
+    ensures { λ r. ⌜ r ≡ stepAnswer (stepIndex step) ⌝ }
 {
     match step {
-        Step::Day(day) => antwortsatz::dated(datum::date_of(day)),
-        Step::Outside => antwortsatz::refused(LEAVES_CALENDAR),
+        TagStep::At(day) => antwortsatz::dated(day.date),
+        TagStep::Outside => antwortsatz::refused(LEAVES_CALENDAR),
     }
 }
 
@@ -42,10 +43,10 @@ fn shift_answer(shifted: Shifted) -> Answer
 pub fn is_werktag_answer(date: Date, cal: HolidayCalendar) -> Answer
     ensures { λ r. ⌜ r ≡ isWerktagAnswer (reason cal) date ⌝ }
 {
-    let Index::Day(day) = datum::index_of(date) else {
+    let Index::Day(index) = datum::index_of(date) else {
         return antwortsatz::refused(NO_DATE);
     };
-    antwortsatz::of_kind(werktag::reason(day, cal))
+    antwortsatz::of_kind(werktag::reason(Tag { index, date }, cal))
 }
 
 /// The first Werktag on or after a date: 3 April 2026 gives 7 April, the Tuesday after Ostern, and 7 April itself. From
@@ -53,10 +54,10 @@ pub fn is_werktag_answer(date: Date, cal: HolidayCalendar) -> Answer
 pub fn next_werktag_answer(date: Date, cal: HolidayCalendar) -> Answer
     ensures { λ r. ⌜ r ≡ nextWerktagAnswer (isWerktag cal) date ⌝ }
 {
-    let Index::Day(from) = datum::index_of(date) else {
+    let Index::Day(index) = datum::index_of(date) else {
         return antwortsatz::refused(NO_DATE);
     };
-    step_answer(schritte::next_werktag(from, cal))
+    step_answer(schritte::next_werktag(Tag { index, date }, cal))
 }
 
 /// The n-th Werktag after a date; "with 0 give the date unchanged, Werktag or not": 2 April 2026 plus 1 is 7 April, 4
@@ -64,20 +65,20 @@ pub fn next_werktag_answer(date: Date, cal: HolidayCalendar) -> Answer
 pub fn add_werktage_answer(date: Date, n: u32, cal: HolidayCalendar) -> Answer
     ensures { λ r. ⌜ r ≡ addWerktageAnswer (isWerktag cal) date n ⌝ }
 {
-    let Index::Day(from) = datum::index_of(date) else {
+    let Index::Day(index) = datum::index_of(date) else {
         return antwortsatz::refused(NO_DATE);
     };
-    step_answer(schritte::add_werktage(from, n, cal))
+    step_answer(schritte::add_werktage(Tag { index, date }, n, cal))
 }
 
 /// The n-th Werktag before a date; with 0 the date unchanged: 7 April 2026 less 1 is 2 April.
 pub fn sub_werktage_answer(date: Date, n: u32, cal: HolidayCalendar) -> Answer
     ensures { λ r. ⌜ r ≡ subWerktageAnswer (isWerktag cal) date n ⌝ }
 {
-    let Index::Day(from) = datum::index_of(date) else {
+    let Index::Day(index) = datum::index_of(date) else {
         return antwortsatz::refused(NO_DATE);
     };
-    step_answer(schritte::sub_werktage(from, n, cal))
+    step_answer(schritte::sub_werktage(Tag { index, date }, n, cal))
 }
 
 /// "Werktage after `from` up to and including `to`; 0 if `to` isn't later": from 2 to 8 April 2026 there are 2, and
@@ -91,7 +92,17 @@ pub fn werktage_between_answer(first: Date, second: Date, cal: HolidayCalendar) 
     let Index::Day(to) = datum::index_of(second) else {
         return antwortsatz::refused(NO_DATE);
     };
-    let count = schritte::tested::count_werktage(from, to, cal);
+    let count = schritte::tested::count_werktage(
+        Tag {
+            index: from,
+            date: first,
+        },
+        Tag {
+            index: to,
+            date: second,
+        },
+        cal,
+    );
     antwortsatz::counted(count.werktage, count.tested)
 }
 

@@ -2,9 +2,11 @@
 // 3, 4, 7 and 8.
 ghost use mathlib.Core.Bool.{true};
 ghost use mathlib.Core.Path.{_≡_};
-ghost use Prim.Native.Nat.{_<_};
+ghost use Prim.Native.Nat.{_≤_, _<_};
 ghost use lib.ListN.{length, getD};
+ghost use Rattle.zaehlung.specs.Walk.{last};
 ghost use Rattle.datum.specs.Calendar.{isDate, daysBefore};
+ghost use Rattle.datum.specs.Tage.{tagAt};
 ghost use Rattle.werktag.specs.Werktag.{isWerktag};
 ghost use Rattle.datum.specs.Monate.{M};
 ghost use Rattle.vorlauf.specs.Span.{spanFrom};
@@ -30,6 +32,7 @@ use berlin::Sparte;
 use datum::Date;
 use datum::Index;
 use datum::Shifted;
+use datum::tage::Tag;
 use vorlauf::Span;
 use vorlauf::VorlaufShape;
 use vorlauf::VorlaufVerdict;
@@ -78,9 +81,9 @@ fn eeg_of(code: u8) -> Eeg
     }
 }
 
-// Kind, Werktage and date of a verdict, or refusal 8.
-fn verdict_answer(found: VorlaufVerdict) -> Answer
-    requires { ⌜ insideVerdict found ⌝ }
+// Kind, Werktage and date of a verdict, or refusal 8. The date is seldom far from the transmission day t.
+fn verdict_answer(found: VorlaufVerdict, t: Tag) -> Answer
+    requires { ⌜ (insideVerdict found) × (t ≡ tagAt (t .index)) × (t .index ≤ last) ⌝ }
     ensures { λ r. ⌜ r ≡ verdictAnswer found ⌝ }
 {
     match found {
@@ -88,7 +91,13 @@ fn verdict_answer(found: VorlaufVerdict) -> Answer
         VorlaufVerdict::TooLate {
             shortfall_wt,
             earliest_possible,
-        } => { antwortsatz::judged(1, shortfall_wt, datum::date_of(earliest_possible)) }
+        } => {
+            antwortsatz::judged(
+                1,
+                shortfall_wt,
+                datum::tage::date_near(t, earliest_possible),
+            )
+        }
         VorlaufVerdict::TooEarly { excess_wt } => {
             antwortsatz::judged(2, excess_wt, antwortsatz::zero_date())
         }
@@ -97,28 +106,32 @@ fn verdict_answer(found: VorlaufVerdict) -> Answer
 }
 
 // A deregistration's verdict, or kind 3 where it has no shape.
-fn abmeldung_answer(found: AbmeldungVerdict) -> Answer
-    requires { ⌜ insideAbmeldung found ⌝ }
+fn abmeldung_answer(found: AbmeldungVerdict, t: Tag) -> Answer
+    requires { ⌜ (insideAbmeldung found) × (t ≡ tagAt (t .index)) × (t .index ≤ last) ⌝ }
     ensures { λ r. ⌜ r ≡ abmeldungAnswer found ⌝ }
 {
     match found {
-        AbmeldungVerdict::Verdict(found) => verdict_answer(found),
+        AbmeldungVerdict::Verdict(found) => verdict_answer(found, t),
         AbmeldungVerdict::NoShape => antwortsatz::of_kind(3),
     }
 }
 
-// Kind and ends of a span, or refusal 8.
-fn span_answer(span: Span) -> Answer
-    requires { ⌜ insideSpan span ⌝ }
+// Kind and ends of a span, or refusal 8. The ends are seldom far from the transmission day t.
+fn span_answer(span: Span, t: Tag) -> Answer
+    requires { ⌜ (insideSpan span) × (t ≡ tagAt (t .index)) × (t .index ≤ last) ⌝ }
     ensures { λ r. ⌜ r ≡ spanAnswer span ⌝ }
 {
     match span {
-        Span::From(first) => {
-            antwortsatz::spanned(0, datum::date_of(first), antwortsatz::zero_date())
-        }
-        Span::Both(first, last) => {
-            antwortsatz::spanned(1, datum::date_of(first), datum::date_of(last))
-        }
+        Span::From(first) => antwortsatz::spanned(
+            0,
+            datum::tage::date_near(t, first),
+            antwortsatz::zero_date(),
+        ),
+        Span::Both(first, last) => antwortsatz::spanned(
+            1,
+            datum::tage::date_near(t, first),
+            datum::tage::date_near(t, last),
+        ),
         Span::Empty => antwortsatz::of_kind(2),
         Span::Outside => antwortsatz::refused(LEAVES_CALENDAR),
     }
@@ -164,13 +177,21 @@ pub fn vorlauf_check_answer(
         return antwortsatz::refused(UNKNOWN_CODE);
     }
     let shape = shape_of(code, count, count2);
-    let Index::Day(uebertragungstag) = datum::index_of(first) else {
+    let Index::Day(day) = datum::index_of(first) else {
         return antwortsatz::refused(NO_DATE);
     };
-    let Index::Day(anchor) = datum::index_of(second) else {
+    let Index::Day(anchor_day) = datum::index_of(second) else {
         return antwortsatz::refused(NO_DATE);
     };
-    verdict_answer(shape.check(uebertragungstag, anchor, cal))
+    let uebertragungstag = Tag {
+        index: day,
+        date: first,
+    };
+    let anchor = Tag {
+        index: anchor_day,
+        date: second,
+    };
+    verdict_answer(shape.check(uebertragungstag, anchor, cal), uebertragungstag)
 }
 
 // The verdict for a transmission instant and an anchor that begins a day in a Sparte.
@@ -190,11 +211,12 @@ fn check_at_instants(
     let Reading::At(begins) = beginning else {
         return antwortsatz::refused(INSTANT_OUTSIDE);
     };
-    let Beginn::Day(anchor) = berlin::tag_des_beginns(begins, sparte) else {
+    let Beginn::Day(anchor_day) = berlin::tag_des_beginns(begins, sparte) else {
         return antwortsatz::refused(NO_BEGINNING);
     };
-    let uebertragungstag = berlin::berlin_date(transmitted);
-    verdict_answer(shape.check(uebertragungstag, anchor, cal))
+    let uebertragungstag = datum::tage::tag_at(berlin::berlin_date(transmitted));
+    let anchor = datum::tage::tag_at(anchor_day);
+    verdict_answer(shape.check(uebertragungstag, anchor, cal), uebertragungstag)
 }
 
 /// The same with a transmission instant and an anchor given as a day's beginning: "4 for either, 7 for the anchor, 8".
@@ -253,8 +275,11 @@ pub fn vorlauf_span_answer(
         return antwortsatz::refused(NO_DATE);
     }
     let VorlaufShape::LatestMonateBefore(n) = shape else {
-        let uebertragungstag = datum::days_before(date);
-        return span_answer(shape.span(uebertragungstag, cal));
+        let uebertragungstag = Tag {
+            index: datum::days_before(date),
+            date,
+        };
+        return span_answer(shape.span(uebertragungstag, cal), uebertragungstag);
     };
     month_span_answer(date, n)
 }
@@ -287,14 +312,25 @@ pub fn abmeldung_check_answer(
         return antwortsatz::refused(UNKNOWN_CODE);
     }
     let eeg = eeg_of(code);
-    let Index::Day(uebertragungstag) = datum::index_of(first) else {
+    let Index::Day(day) = datum::index_of(first) else {
         return antwortsatz::refused(NO_DATE);
     };
-    let Index::Day(zuordnungsende) = datum::index_of(second) else {
+    let Index::Day(end_day) = datum::index_of(second) else {
         return antwortsatz::refused(NO_DATE);
+    };
+    let uebertragungstag = Tag {
+        index: day,
+        date: first,
+    };
+    let zuordnungsende = Tag {
+        index: end_day,
+        date: second,
     };
     let vorlauf = AbmeldungVorlauf::fuer(reason, eeg);
-    abmeldung_answer(vorlauf.check(uebertragungstag, zuordnungsende, cal))
+    abmeldung_answer(
+        vorlauf.check(uebertragungstag, zuordnungsende, cal),
+        uebertragungstag,
+    )
 }
 
 /// Whether an announcement keeps its Frist, 13:00 of the last Werktag before the beginning: "13:00 exactly is yes. From
@@ -309,13 +345,13 @@ pub fn eog_ankuendigung_fristgerecht_answer(
     requires { ⌜ properReading instant ⌝ }
     ensures { λ r. ⌜ r ≡ eogAnkuendigungFristgerechtAnswer (isWerktag cal) instant date ⌝ }
 {
-    let Index::Day(beginn) = datum::index_of(date) else {
+    let Index::Day(index) = datum::index_of(date) else {
         return antwortsatz::refused(NO_DATE);
     };
     let Reading::At(uez) = instant else {
         return antwortsatz::refused(INSTANT_OUTSIDE);
     };
-    announced_answer(ankuendigung::eog_ankuendigung_fristgerecht(uez, beginn, cal))
+    announced_answer(ankuendigung::eog_ankuendigung_fristgerecht(uez, Tag { index, date }, cal))
 }
 
 // A single call and a file of questions ask the same. What they share writes the 32 bytes too, so that no answer has to

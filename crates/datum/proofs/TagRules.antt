@@ -2,7 +2,9 @@
 -- that stands beside it, and no other date has that index.
 --   tag-date       what is known of a day taken apart
 --   tag-is         a date of the range beside its index
+--   tag-index tag-again tag-within  what a function gave for the day with an index, by its own
 --   year-rules     its year, and the year's first day
+--   near-rules     `date_near`
 --   later-rules, earlier-rules  the returns of the functions of days later and earlier: in the month, past its end or
 --                  before its first, and past the year's
 -- Assumes nothing.
@@ -27,6 +29,17 @@ pub tag-is : (d : Date) (j : ℕ) → Valid d → daysBefore d ≡ j → record 
 tag-is d j v q =
     let z : d ≡ dateOf j = sym (rw q at (date-index d v)) in
     ap (λ (x : Date). record { index = j; date = x }) z
+
+-- t is the day with index j, taken apart
+module _ (t : Tag) (j : ℕ) (e : t ≡ tagAt j) where
+  pub tag-index : t .index ≡ j
+  tag-index = ap (λ (x : Tag). x .index) e
+
+  pub tag-again : t ≡ tagAt (t .index)
+  tag-again = e ∙ ap tagAt (sym tag-index)
+
+  pub tag-within : j ≤ last → t .index ≤ last
+  tag-within h = omega (arith, tag-index)
 
 pub length-rule :
     (y m s : ℕ) (x : Bool) → x ≡ isLeap y → s ≡ daysInMonth x m → s ≡ daysInMonth (isLeap y) m
@@ -115,10 +128,10 @@ unfolding daysInMonth
 december l = refl
 
 -- a month has as many days as are counted back from its last
-pub enough-days : (n m s d : ℕ) (x : Bool) → n ≤ 7 → 1 < m → m ≤ 12 → s ≡ daysInMonth x (m - 1) → n ≤ s + d
+pub enough-days : (n m s d : ℕ) (x : Bool) → n ≤ 28 → 1 < m → m ≤ 12 → s ≡ daysInMonth x (m - 1) → n ≤ s + d
 enough-days n m s d x g h i o = omega (arith, len-ge x (m - 1) (omega arith) (omega arith))
 
-module _ (t : Tag) (n : ℕ) (e : t ≡ tagAt (t .index)) (g : n ≤ 7) where
+module _ (t : Tag) (n : ℕ) (e : t ≡ tagAt (t .index)) (g : n ≤ 28) where
   abbrev d : Date
   d = t .date
 
@@ -282,6 +295,21 @@ module _ (t : Tag) (n : ℕ) (e : t ≡ tagAt (t .index)) (g : n ≤ 7) where
             day-to = omega (arith, december b′);
           })
           (rw z (omega (arith, month-first l, months-sum b′, december b′, from .day-from)))
+
+-- date_near: n is the number of days between
+pub near-later :
+    (t r : Tag) (i n : ℕ) → t .index ≤ i → n ≡ i - t .index → r ≡ tagAt (t .index + n) → r .date ≡ dateOf i
+near-later t r i n h q e =
+    let k : t .index + n ≡ i = omega arith in
+    ap (λ (x : Tag). x .date) (e ∙ ap tagAt k)
+
+pub near-earlier :
+    (t r : Tag) (i n : ℕ) → i < t .index → n ≡ t .index - i → r ≡ tagAt (t .index - n) → r .date ≡ dateOf i
+near-earlier t r i n h q e =
+    let k : t .index - n ≡ i = omega arith in
+    ap (λ (x : Tag). x .date) (e ∙ ap tagAt k)
+
+pub ruleset near-rules = (near-later, near-earlier)
 
 pub ruleset later-rules = (day-fits, year-fits, later-in-month, later-in-year, later-over-year)
 

@@ -2,10 +2,14 @@
 ghost use mathlib.Core.Path.{_≡_};
 ghost use Prim.Native.Nat.{_+_, _-_, _≤_, _<_};
 ghost use Rattle.zaehlung.specs.Walk.{last};
-ghost use Rattle.datum.specs.Calendar.{isLeap, yearOf, daysInMonth};
+ghost use Rattle.datum.specs.Calendar.{isLeap, yearOf, daysInMonth, dateOf};
 ghost use Rattle.datum.specs.Tage.{tagAt};
 use super::Date;
 use super::YearDay;
+
+/// The days that every month has: so many are counted on into the next month, or back into the one before, and no
+/// further.
+const NEAR: u32 = super::SHORTEST_MONTH as u32;
 
 /// A day of the calendar: its index and its date.
 pub struct Tag {
@@ -74,7 +78,7 @@ pub fn month_length(tag: Tag) -> u8
 ///
 /// From 28 December 2026 with 3: 31 December.
 pub fn later_in_month(tag: Tag, days: u8) -> Tag
-    requires { ⌜ (tag ≡ tagAt (tag .index)) × (days ≤ 7) × (tag .index + days ≤ last) ⌝ }
+    requires { ⌜ (tag ≡ tagAt (tag .index)) × (days ≤ 28) × (tag .index + days ≤ last) ⌝ }
     requires { ⌜ tag .date .day + days ≤ daysInMonth (isLeap (tag .date .year)) (tag .date .month) ⌝ }
     ensures { λ r. ⌜ r ≡ tagAt (tag .index + days) ⌝ }
     ensures { λ r. ⌜ (r .date .year ≡ tag .date .year) × (r .date .month ≡ tag .date .month) ⌝ }
@@ -89,12 +93,12 @@ pub fn later_in_month(tag: Tag, days: u8) -> Tag
     }
 }
 
-/// The day `days` days later, up to a week, past the end of a month of `length` days: what the month lacks is carried
+/// The day `days` days later, up to four weeks, past the end of a month of `length` days: what the month lacks is carried
 /// over into the next, and from December into the next year.
 ///
 /// From 30 December 2026 with 3: 2 January 2027.
 pub fn into_next_month(tag: Tag, length: u8, days: u8) -> Tag
-    requires { ⌜ (tag ≡ tagAt (tag .index)) × (days ≤ 7) × (tag .index + days ≤ last) ⌝ }
+    requires { ⌜ (tag ≡ tagAt (tag .index)) × (days ≤ 28) × (tag .index + days ≤ last) ⌝ }
     requires { ⌜ (length ≡ daysInMonth (isLeap (tag .date .year)) (tag .date .month)) × (length < tag .date .day + days) ⌝ }
     ensures { λ r. ⌜ r ≡ tagAt (tag .index + days) ⌝ }
 {
@@ -124,7 +128,7 @@ pub fn into_next_month(tag: Tag, length: u8, days: u8) -> Tag
 ///
 /// From 4 January 2027 with 3: 1 January.
 pub fn earlier_in_month(tag: Tag, days: u8) -> Tag
-    requires { ⌜ (tag ≡ tagAt (tag .index)) × (tag .index ≤ last) × (days ≤ 7) × (days ≤ tag .index) ⌝ }
+    requires { ⌜ (tag ≡ tagAt (tag .index)) × (tag .index ≤ last) × (days ≤ 28) × (days ≤ tag .index) ⌝ }
     requires { ⌜ days < tag .date .day ⌝ }
     ensures { λ r. ⌜ r ≡ tagAt (tag .index - days) ⌝ }
     ensures { λ r. ⌜ (r .date .year ≡ tag .date .year) × (r .date .month ≡ tag .date .month) ⌝ }
@@ -139,12 +143,12 @@ pub fn earlier_in_month(tag: Tag, days: u8) -> Tag
     }
 }
 
-/// The day `days` days earlier, up to a week, before the month's first: counted back from the last day of the month
+/// The day `days` days earlier, up to four weeks, before the month's first: counted back from the last day of the month
 /// before, before January from December's.
 ///
 /// From 2 January 2027 with 3: 30 December 2026.
 pub fn into_month_before(tag: Tag, days: u8) -> Tag
-    requires { ⌜ (tag ≡ tagAt (tag .index)) × (tag .index ≤ last) × (days ≤ 7) × (days ≤ tag .index) ⌝ }
+    requires { ⌜ (tag ≡ tagAt (tag .index)) × (tag .index ≤ last) × (days ≤ 28) × (days ≤ tag .index) ⌝ }
     requires { ⌜ tag .date .day ≤ days ⌝ }
     ensures { λ r. ⌜ r ≡ tagAt (tag .index - days) ⌝ }
 {
@@ -173,6 +177,29 @@ pub fn into_month_before(tag: Tag, days: u8) -> Tag
     }
 }
 
+/// The day `days` days later, up to four weeks.
+fn later(tag: Tag, days: u8) -> Tag
+    requires { ⌜ (tag ≡ tagAt (tag .index)) × (days ≤ 28) × (tag .index + days ≤ last) ⌝ }
+    ensures { λ r. ⌜ r ≡ tagAt (tag .index + days) ⌝ }
+{
+    let length = month_length(tag);
+    if tag.date.day + days <= length {
+        return later_in_month(tag, days);
+    }
+    into_next_month(tag, length, days)
+}
+
+/// The day `days` days earlier, up to four weeks.
+fn earlier(tag: Tag, days: u8) -> Tag
+    requires { ⌜ (tag ≡ tagAt (tag .index)) × (tag .index ≤ last) × (days ≤ 28) × (days ≤ tag .index) ⌝ }
+    ensures { λ r. ⌜ r ≡ tagAt (tag .index - days) ⌝ }
+{
+    if days < tag.date.day {
+        return earlier_in_month(tag, days);
+    }
+    into_month_before(tag, days)
+}
+
 /// The day after, which the calendar must have.
 ///
 /// After 31 December 2026: 1 January 2027.
@@ -180,11 +207,7 @@ pub fn day_after(tag: Tag) -> Tag
     requires { ⌜ (tag ≡ tagAt (tag .index)) × (tag .index < last) ⌝ }
     ensures { λ r. ⌜ r ≡ tagAt (tag .index + 1) ⌝ }
 {
-    let length = month_length(tag);
-    if tag.date.day < length {
-        return later_in_month(tag, 1);
-    }
-    into_next_month(tag, length, 1)
+    later(tag, 1)
 }
 
 /// The day before, which the calendar must have.
@@ -194,8 +217,26 @@ pub fn day_before(tag: Tag) -> Tag
     requires { ⌜ (tag ≡ tagAt (tag .index)) × (tag .index ≤ last) × (0 < tag .index) ⌝ }
     ensures { λ r. ⌜ r ≡ tagAt (tag .index - 1) ⌝ }
 {
-    if 1 < tag.date.day {
-        return earlier_in_month(tag, 1);
+    earlier(tag, 1)
+}
+
+/// The date of an index, from a day that may be near: up to four weeks from it nothing is taken apart anew.
+///
+/// Of 10,961 from 30 December 2025: 4 January 2026.
+pub fn date_near(tag: Tag, index: u32) -> Date
+    requires { ⌜ (tag ≡ tagAt (tag .index)) × (tag .index ≤ last) × (index ≤ last) ⌝ }
+    ensures { λ r. ⌜ r ≡ dateOf index ⌝ }
+{
+    if index < tag.index {
+        let days = tag.index - index;
+        if NEAR < days {
+            return super::date_of(index);
+        }
+        return earlier(tag, days as u8).date;
     }
-    into_month_before(tag, 1)
+    let days = index - tag.index;
+    if NEAR < days {
+        return super::date_of(index);
+    }
+    later(tag, days as u8).date
 }

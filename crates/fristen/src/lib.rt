@@ -319,7 +319,7 @@ fn nth_werktag_on(day: u32, n: u32, at: Clock, cal: HolidayCalendar) -> Due
     requires { ⌜ (day ≤ last) × ProperClock at ⌝ }
     ensures { λ r. ⌜ (r ≡ nthWerktagOn (isWerktag cal) day n at) × properDue r ⌝ }
 {
-    let Step::Day(due) = schritte::add_werktage(day, n, cal) else {
+    let Step::Day(due) = schritte::nth_werktag_after(day, n, cal) else {
         return Due::Outside;
     };
     clock_on(due, at)
@@ -348,7 +348,7 @@ pub fn end_of_werktag_after(received: Moment, werktage: u32, cal: HolidayCalenda
     ensures { λ r. ⌜ (r ≡ endOfWerktagAfter (isWerktag cal) received werktage) × properDue r ⌝ }
 {
     let day = berlin::berlin_date(received);
-    let Step::Day(due) = schritte::add_werktage(day, werktage, cal) else {
+    let Step::Day(due) = schritte::nth_werktag_after(day, werktage, cal) else {
         return Due::Outside;
     };
     Due::At(berlin::end_of_day_berlin(due))
@@ -394,7 +394,7 @@ fn same_day_at(received: Moment, at: Clock, cal: HolidayCalendar) -> Due
     let Resolved::At(same_day) = berlin::berlin_at(day, at) else {
         return Due::Absent;
     };
-    if !werktag::is_werktag(day, cal) {
+    if !werktag::is_werktag_at(day, cal) {
         return nth_werktag_on(day, 1, at, cal);
     }
     if berlin::is_before(received, same_day) {

@@ -10,6 +10,8 @@ use mathlib.Core.Path.{_≡_, sym, ap, _∙_}
 use native.Mathlib.Omega.{arith}
 use native.Mathlib.Decide.{decLt}
 use borrow.Author.Tests.{eq-eqb, ne-eqb, lt-ltb, le-ltb}
+use mir.Syntax.{w8}
+use mir.Val.{Fits}
 use Rattle.zaehlung.specs.declared.Step.{Step}
 use Rattle.zaehlung.specs.declared.Step.the-variants.{Day, Outside}
 use Rattle.zaehlung.specs.Walk.{last, bit, add, sub, between}
@@ -19,7 +21,7 @@ use Rattle.zaehlung.proofs.Skips.{more-open, more-shut, more-none}
 use Rattle.datum.specs.declared.tage.Tag.{Tag}
 use Rattle.datum.specs.Calendar.{isLeap, daysInMonth, weekday}
 use Rattle.datum.specs.Tage.{tagAt, tagStep}
-use Rattle.datum.proofs.TagRules.{day-fits}
+use Rattle.datum.proofs.TagRules.{day-fits, tag-index, tag-again, tag-within}
 use Rattle.werktag.specs.declared.HolidayCalendar.{HolidayCalendar}
 use Rattle.werktag.specs.Easter.{easterFor}
 use Rattle.werktag.specs.Werktag.{isWerktag}
@@ -29,16 +31,10 @@ use Rattle.datum.specs.declared.tage.TagStep.{TagStep}
 use Rattle.datum.specs.declared.tage.TagStep.the-variants as reached
 use Rattle.gang.specs.Stand.{toWeekday, fromWeekday}
 
--- t is the day with index j, taken apart
-module _ (t : Tag) (j : ℕ) (e : t ≡ tagAt j) where
-  pub tag-index : t .index ≡ j
-  tag-index = ap (λ (x : Tag). x .index) e
-
-  pub tag-again : t ≡ tagAt (t .index)
-  tag-again = e ∙ ap tagAt (sym tag-index)
-
-  pub tag-within : j ≤ last → t .index ≤ last
-  tag-within h = omega (arith, tag-index)
+-- a week is less than what is near
+pub week-fits :
+    (t : Tag) (n : ℕ) → t ≡ tagAt (t .index) → n ≤ 7 → t .index + n ≤ last → Fits w8 (t .date .day + n)
+week-fits t n e g h = day-fits t n e (omega arith) h
 
 pub weekday-on :
     (t : Tag) (i n w v : ℕ) → t ≡ tagAt (i + n) → w ≡ weekday i → v ≡ (w + n) % 7 → v ≡ weekday (t .index)
@@ -86,7 +82,7 @@ back-within t i n e h = omega (arith, tag-index t (i - n) e)
 
 pub ruleset stand-rules = (
   tag-rules,
-  day-fits,
+  week-fits,
   tag-index,
   tag-again,
   tag-within,

@@ -29,7 +29,7 @@ use Rattle.datum.specs.declared.tage.Tag.{Tag}
 use Rattle.datum.specs.Tage.{tagAt, tagStep}
 use Rattle.datum.specs.declared.tage.TagStep.{TagStep}
 use Rattle.datum.specs.declared.tage.TagStep.the-variants as reached
-use Rattle.gang.proofs.Rules.{tag-again, tag-within}
+use Rattle.datum.proofs.TagRules.{tag-again, tag-within}
 use Rattle.datum.proofs.TagSteps.{at-day, gone}
 use Rattle.werktag.specs.declared.HolidayCalendar.{HolidayCalendar}
 use Rattle.werktag.specs.Werktag.{isWerktag}

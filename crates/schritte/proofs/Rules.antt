@@ -3,6 +3,7 @@
 --   same-rules      what a step by indexes gave, taken apart and put together again
 --   next-rules      `next_werktag`: r is what the day test returned
 --   left-rules      `after_today`
+--   index-rules     `nth_werktag_after`
 --   W-rules         `day_after_werktage`: m is what `after_today` gave, s what `add_werktage` gave
 -- Source: the definitions of Walk in zaehlung.
 -- Assumes nothing.
@@ -22,6 +23,7 @@ use Rattle.datum.specs.Tage.{tagAt, tagStep}
 use Rattle.datum.specs.declared.tage.TagStep.{TagStep}
 use Rattle.datum.specs.declared.tage.TagStep.the-variants as reached
 use Rattle.datum.proofs.TagSteps.{at-day, at-tag, gone}
+use Rattle.datum.proofs.TagRules.{tag-again, tag-within}
 
 pub after-edge : (d : ℕ) → last ≤ d → reached.Outside ≡ tagStep (dayAfter d)
 unfolding dayAfter
@@ -106,6 +108,22 @@ one-fewer n b r p q = ap (λ (x : Bool). n - bit x) (sym q ∙ p)
 
 pub as-many : (n : ℕ) (b r : Bool) → r ≡ b → r ≡ false → n ≡ n - bit b
 as-many n b r p q = let z = ap bit (sym q ∙ p) in omega arith
+
+-- f is the day with index d, taken apart, s what the step from it gave
+module _ (w : ℕ → Bool) (d n : ℕ) (f : Tag) (e : f ≡ tagAt d) where
+  from-index : add w (f .index) n ≡ add w d n
+  from-index = ap (λ (x : Tag). add w (x .index) n) e
+
+  pub after-index : (r : Step) → r ≡ add w (f .index) n → r ≡ add w d n
+  after-index r p = p ∙ from-index
+
+  pub after-day-index : (s : TagStep) (t : Tag) → s ≡ tagStep (add w (f .index) n) → s ≡ reached.At t → Day (t .index) ≡ add w d n
+  after-day-index s t p q = sym (at-day s (add w (f .index) n) p t q) ∙ from-index
+
+  pub after-gone-index : (s : TagStep) → s ≡ tagStep (add w (f .index) n) → s ≡ reached.Outside → Outside ≡ add w d n
+  after-gone-index s p q = sym (gone s (add w (f .index) n) p q) ∙ from-index
+
+pub ruleset index-rules = (tag-again, tag-within, after-index, after-day-index, after-gone-index)
 
 pub ruleset same-rules = (same-day, same-outside, add-within, sub-within)
 

@@ -71,6 +71,23 @@ pub fn add_werktage(from: Tag, n: u32, cal: HolidayCalendar) -> TagStep
     TagStep::At(datum::tage::tag_at(day))
 }
 
+/// The `n`-th Werktag after a day that is known by its index alone, as that of an instant is: it is taken apart here.
+///
+/// With `n = 0`: the day unchanged, Werktag or not.
+pub fn nth_werktag_after(day: u32, n: u32, cal: HolidayCalendar) -> Step
+    requires { ⌜ day ≤ last ⌝ }
+    ensures { λ r. ⌜ r ≡ add (isWerktag cal) day n ⌝ }
+{
+    let from = datum::tage::tag_at(day);
+    if FEW_WERKTAGE < n {
+        return index::step(StepKind::Add, from, n, cal);
+    }
+    let TagStep::At(werktag) = gang::add_werktage(from, n, cal) else {
+        return Step::Outside;
+    };
+    Step::Day(werktag.index)
+}
+
 /// The `n`-th Werktag before `from`, or `Outside` where that would be before the calendar's first day: the mirror of
 /// `add_werktage`.
 ///

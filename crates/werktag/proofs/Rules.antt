@@ -25,7 +25,7 @@ use Rattle.zaehlung.proofs.BlockLaws.{start-suc, start-mono}
 use Rattle.zaehlung.proofs.Every.{run, run-at}
 use Rattle.zaehlung.proofs.Tests.{and-left, and-right, and-no}
 use Rattle.datum.proofs.Dates.{Valid, len-le}
-use Rattle.datum.proofs.TagRules.{tag-date}
+use Rattle.datum.proofs.TagRules.{tag-date, tag-index, tag-again, tag-within}
 use Rattle.datum.proofs.Signed.{back, pos-fits, neg-fits, back-pos, sub-pos, sub-neg, sub-fits, same-bits}
 use Rattle.werktag.specs.declared.HolidayCalendar.{HolidayCalendar}
 use Rattle.werktag.specs.declared.HolidayCalendar.the-variants.{BdewMaKo}
@@ -407,3 +407,11 @@ pub ruleset reason-rules = (tag-rules, on-saturday, on-sunday, before-saturday)
 -- is_werktag: r is what `reason` returned
 pub zero-open : (cal : HolidayCalendar) (i r : ℕ) → r ≡ reason cal i → eqb r 0 ≡ isWerktag cal i
 zero-open cal i r e = rw e (reason-zero cal i)
+
+-- is_werktag_at: t is what `tag_at` returned for the day i
+pub open-at :
+    (cal : HolidayCalendar) (t : Tag) (i : ℕ) (r : Bool) → t ≡ tagAt i → r ≡ isWerktag cal (t .index) →
+    r ≡ isWerktag cal i
+open-at cal t i r e p = p ∙ ap (isWerktag cal) (tag-index t i e)
+
+pub ruleset at-rules = (tag-again, tag-within, open-at)

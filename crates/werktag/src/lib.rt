@@ -263,3 +263,11 @@ pub fn is_werktag(tag: Tag, cal: HolidayCalendar) -> bool
 {
     reason(tag, cal) == WERKTAG
 }
+
+/// Whether a day that is known by its index alone is a Werktag: it is taken apart here.
+pub fn is_werktag_at(day: u32, cal: HolidayCalendar) -> bool
+    requires { ⌜ day ≤ last ⌝ }
+    ensures { λ r. ⌜ r ≡ isWerktag cal day ⌝ }
+{
+    is_werktag(datum::tage::tag_at(day), cal)
+}

@@ -9,8 +9,8 @@ use Rattle.fristen.proofs.end_of_werktag_after.Tie as tie
 berlin-date-requires : tie.Need-berlin-date-requires
 berlin-date-requires c κs = search needs
 
-add-werktage-requires : tie.Need-add-werktage-requires
-add-werktage-requires c κs = search needs
+nth-werktag-after-requires : tie.Need-nth-werktag-after-requires
+nth-werktag-after-requires c κs = search needs
 
 enum-known-due : tie.Need-enum-known-due
 enum-known-due c = search needs
@@ -32,7 +32,7 @@ end-of-werktag-after-spec =
     tie.close
     (tie.spec
     berlin-date-requires
-    add-werktage-requires
+    nth-werktag-after-requires
     enum-known-due
     enum-told
     returns

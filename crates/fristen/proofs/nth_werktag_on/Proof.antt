@@ -6,8 +6,8 @@ use borrow.Author.Needs.{needs}
 use Rattle.fristen.proofs.nth_werktag_on.Statement.{statement}
 use Rattle.fristen.proofs.nth_werktag_on.Tie as tie
 
-add-werktage-requires : tie.Need-add-werktage-requires
-add-werktage-requires c κs = search needs
+nth-werktag-after-requires : tie.Need-nth-werktag-after-requires
+nth-werktag-after-requires c κs = search needs
 
 enum-known-due : tie.Need-enum-known-due
 enum-known-due c = search needs
@@ -28,7 +28,7 @@ pub nth-werktag-on-spec : {M : Type 1} → statement M
 nth-werktag-on-spec =
     tie.close
     (tie.spec
-    add-werktage-requires
+    nth-werktag-after-requires
     enum-known-due
     enum-told
     returns

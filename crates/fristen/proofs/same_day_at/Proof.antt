@@ -20,8 +20,8 @@ enum-told c = search needs
 returns : tie.Need-returns
 returns c = search (needs, same-rules)
 
-is-werktag-requires : tie.Need-is-werktag-requires
-is-werktag-requires c κs = search needs
+is-werktag-at-requires : tie.Need-is-werktag-at-requires
+is-werktag-at-requires c κs = search needs
 
 nth-werktag-on-requires : tie.Need-nth-werktag-on-requires
 nth-werktag-on-requires c κs = search needs
@@ -50,7 +50,7 @@ same-day-at-spec =
     enum-known-same-day
     enum-told
     returns
-    is-werktag-requires
+    is-werktag-at-requires
     nth-werktag-on-requires
     returns-2
     is-before-requires

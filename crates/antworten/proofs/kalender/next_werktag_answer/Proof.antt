@@ -10,8 +10,8 @@ use Rattle.antworten.proofs.kalender.next_werktag_answer.Tie as tie
 index-of-requires : tie.Need-index-of-requires
 index-of-requires c κs = search needs
 
-enum-known-from : tie.Need-enum-known-from
-enum-known-from c = search needs
+enum-known-index : tie.Need-enum-known-index
+enum-known-index c = search needs
 
 enum-told : tie.Need-enum-told
 enum-told c = search needs
@@ -38,7 +38,7 @@ next-werktag-answer-spec =
     tie.close
     (tie.spec
     index-of-requires
-    enum-known-from
+    enum-known-index
     enum-told
     refused-requires
     returns

@@ -8,9 +8,6 @@ use Rattle.antworten.proofs.kalender.step_answer.Tie as tie
 enum-known-step : tie.Need-enum-known-step
 enum-known-step c = search needs
 
-date-of-requires : tie.Need-date-of-requires
-date-of-requires c κs = search (needs, step-rules)
-
 dated-requires : tie.Need-dated-requires
 dated-requires c κs = search needs
 
@@ -31,7 +28,6 @@ step-answer-spec =
     tie.close
     (tie.spec
     enum-known-step
-    date-of-requires
     dated-requires
     enum-told
     refused-requires
