@@ -2,13 +2,13 @@
 -- form in which they stand there.
 -- Assumes nothing.
 use Prim.Native.Nat.{ℕ, _≤_}
-use mathlib.Core.Bool.{Bool}
-use mathlib.Core.Path.{_≡_, sym, ap, _∙_}
+use mathlib.Core.Bool.{Bool, true, false, not}
+use mathlib.Core.Path.{_≡_, sym, ap, ap₂, _∙_}
 use Rattle.zaehlung.specs.Walk.{last}
 use Rattle.datum.specs.declared.Date.{Date}
 use Rattle.datum.specs.declared.Shifted.{Shifted}
 use Rattle.datum.specs.declared.Shifted.the-variants.{On, Outside as Gone}
-use Rattle.datum.specs.Calendar.{daysBefore, dateOf}
+use Rattle.datum.specs.Calendar.{isDate, daysBefore, dateOf}
 use Rattle.datum.proofs.Dates.{valid-is, date-index}
 use Rattle.berlin.specs.declared.Moment.{Moment}
 use Rattle.berlin.specs.declared.Beginn.{Beginn}
@@ -41,7 +41,10 @@ use Rattle.antworten.specs.Reading.{onBeginn}
 use Rattle.antworten_vorlauf.specs.VorlaufReading.{verdictAnswer, abmeldungAnswer, spanAnswer, caseCode}
 use Rattle.antworten_vorlauf.specs.VorlaufReading.{announcedAnswer}
 use Rattle.antworten.proofs.Codes.{code-refused, code-taken}
-use Rattle.antworten.proofs.Rules.{date-refused, date-taken, day-inside, date-none, date-given, date-valid}
+use Rattle.antworten.proofs.Rules.{date-refused, date-taken, day-inside, date-tag, date-none, date-given, date-valid}
+use Rattle.datum.specs.declared.tage.Tag.{Tag}
+use Rattle.datum.specs.Tage.{tagAt}
+use Rattle.datum.proofs.TagRules.{tag-is, tag-index, tag-again, tag-within}
 use Rattle.antworten.proofs.Rules.{instant-refused, instant-taken, instant-proper}
 
 -- verdict_answer
@@ -111,7 +114,12 @@ pub months-same :
 unfolding spanOf
 months-same w u n t r p e = rw e p
 
--- t is what `days_before` returned for d
+-- t is what `days_before` returned for d, b what `is_date` returned
+pub given-tag :
+    (d : Date) (b : Bool) (t : ℕ) → b ≡ isDate d → not b ≡ false → t ≡ daysBefore d →
+    record { index = t; date = d } ≡ tagAt t
+given-tag d b t g f e = tag-is d t (valid-is d (date-valid d b g f)) (sym e)
+
 pub days-same :
     (w : ℕ → Bool) (u : VorlaufShape) (d : Date) (t : ℕ) (s : Span) (r : Answer) → t ≡ daysBefore d → s ≡ spanOf w u t →
     r ≡ spanAnswer s → r ≡ spanAnswer (spanOf w u (daysBefore d))
@@ -159,10 +167,20 @@ module _ (m : Moment) (s : Sparte) (b : Beginn) (k : b ≡ tagDesBeginns m s) wh
 pub verdict-same : (v u : VorlaufVerdict) (r : Answer) → v ≡ u → r ≡ verdictAnswer v → r ≡ verdictAnswer u
 verdict-same v u r e p = p ∙ ap verdictAnswer e
 
+-- check_days: t and a are what `tag_at` returned
+pub verdict-days :
+    (w : ℕ → Bool) (s : VorlaufShape) (t a : Tag) (d i : ℕ) (v : VorlaufVerdict) (r : Answer) → t ≡ tagAt d →
+    a ≡ tagAt i → v ≡ checkOf w s (t .index) (a .index) → r ≡ verdictAnswer v → r ≡ verdictAnswer (checkOf w s d i)
+verdict-days w s t a d i v r g k q p =
+    p ∙ ap verdictAnswer (q ∙ ap₂ (checkOf w s) (tag-index t d g) (tag-index a i k))
+
+pub ruleset days-rules = (tag-again, tag-within, verdict-days)
+
+-- d is what `berlin_date` returned
 pub verdict-at :
-    (w : ℕ → Bool) (s : VorlaufShape) (d e a : ℕ) (v : VorlaufVerdict) (r : Answer) → d ≡ e → v ≡ checkOf w s d a →
-    r ≡ verdictAnswer v → r ≡ verdictAnswer (checkOf w s e a)
-verdict-at w s d e a v r g q p = p ∙ ap verdictAnswer (q ∙ ap (λ (x : ℕ). checkOf w s x a) g)
+    (w : ℕ → Bool) (s : VorlaufShape) (d e a : ℕ) (r : Answer) → d ≡ e → r ≡ verdictAnswer (checkOf w s d a) →
+    r ≡ verdictAnswer (checkOf w s e a)
+verdict-at w s d e a r g p = p ∙ ap (λ (x : ℕ). verdictAnswer (checkOf w s x a)) g
 
 pub case-same :
     (v u : AbmeldungVorlauf) (k : ℕ) (r : Answer) → v ≡ u → k ≡ caseCode v → r ≡ ofKind k → r ≡ ofKind (caseCode u)
@@ -177,9 +195,10 @@ abmeldung-same w v u t a x r e q p =
 pub announced-same : (x y : Fristgerecht) (r : Answer) → x ≡ y → r ≡ announcedAnswer x → r ≡ announcedAnswer y
 announced-same x y r e p = p ∙ ap announcedAnswer e
 
-pub ruleset vorlauf-rules = (date-refused, date-taken, day-inside, code-refused, code-taken, verdict-same)
+pub ruleset vorlauf-rules = (date-refused, date-taken, day-inside, date-tag, code-refused, code-taken, verdict-same)
 
-pub ruleset vorlauf-span-rules = (date-none, date-given, date-valid, code-refused, code-taken, days-same, months-same)
+pub ruleset vorlauf-span-rules =
+    (date-none, date-given, date-valid, given-tag, code-refused, code-taken, days-same, months-same)
 
 pub ruleset check-at-rules = (
   instant-refused,
@@ -193,7 +212,8 @@ pub ruleset check-at-rules = (
   verdict-at,
 )
 
-pub ruleset fuer-rules = (date-refused, date-taken, day-inside, code-refused, code-taken, case-same, abmeldung-same)
+pub ruleset fuer-rules =
+    (date-refused, date-taken, day-inside, date-tag, code-refused, code-taken, case-same, abmeldung-same)
 
 pub ruleset eog-rules =
-    (date-refused, date-taken, day-inside, instant-refused, instant-taken, instant-proper, announced-same)
+    (date-refused, date-taken, day-inside, date-tag, instant-refused, instant-taken, instant-proper, announced-same)

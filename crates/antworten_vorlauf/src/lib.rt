@@ -9,6 +9,7 @@ ghost use Rattle.datum.specs.Calendar.{isDate, daysBefore};
 ghost use Rattle.datum.specs.Tage.{tagAt};
 ghost use Rattle.werktag.specs.Werktag.{isWerktag};
 ghost use Rattle.datum.specs.Monate.{M};
+ghost use Rattle.vorlauf.specs.Verdict.{checkOf};
 ghost use Rattle.vorlauf.specs.Span.{spanFrom};
 ghost use Rattle.vorlauf.specs.Inside.{insideVerdict, insideSpan, insideAbmeldung};
 ghost use Rattle.antwortsatz.specs.Bytes.{reply};
@@ -194,6 +195,15 @@ pub fn vorlauf_check_answer(
     verdict_answer(shape.check(uebertragungstag, anchor, cal), uebertragungstag)
 }
 
+// The verdict for two days that are known by their indexes alone, as those of instants are: they are taken apart here.
+fn check_days(shape: VorlaufShape, day: u32, anchor: u32, cal: HolidayCalendar) -> Answer
+    requires { ⌜ (day ≤ last) × (anchor ≤ last) ⌝ }
+    ensures { λ r. ⌜ r ≡ verdictAnswer (checkOf (isWerktag cal) shape day anchor) ⌝ }
+{
+    let t = datum::tage::tag_at(day);
+    verdict_answer(shape.check(t, datum::tage::tag_at(anchor), cal), t)
+}
+
 // The verdict for a transmission instant and an anchor that begins a day in a Sparte.
 fn check_at_instants(
     shape: VorlaufShape,
@@ -211,12 +221,10 @@ fn check_at_instants(
     let Reading::At(begins) = beginning else {
         return antwortsatz::refused(INSTANT_OUTSIDE);
     };
-    let Beginn::Day(anchor_day) = berlin::tag_des_beginns(begins, sparte) else {
+    let Beginn::Day(anchor) = berlin::tag_des_beginns(begins, sparte) else {
         return antwortsatz::refused(NO_BEGINNING);
     };
-    let uebertragungstag = datum::tage::tag_at(berlin::berlin_date(transmitted));
-    let anchor = datum::tage::tag_at(anchor_day);
-    verdict_answer(shape.check(uebertragungstag, anchor, cal), uebertragungstag)
+    check_days(shape, berlin::berlin_date(transmitted), anchor, cal)
 }
 
 /// The same with a transmission instant and an anchor given as a day's beginning: "4 for either, 7 for the anchor, 8".

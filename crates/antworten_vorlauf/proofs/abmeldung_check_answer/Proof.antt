@@ -20,8 +20,8 @@ eeg-of-requires c κs = search needs
 index-of-requires : tie.Need-index-of-requires
 index-of-requires c κs = search needs
 
-enum-known-uebertragungstag : tie.Need-enum-known-uebertragungstag
-enum-known-uebertragungstag c = search needs
+enum-known-day : tie.Need-enum-known-day
+enum-known-day c = search needs
 
 enum-told : tie.Need-enum-told
 enum-told c = search needs
@@ -36,8 +36,8 @@ returns-2 c = search (needs, fuer-rules)
 index-of-requires-2 : tie.Need-index-of-requires-2
 index-of-requires-2 c κs = search needs
 
-enum-known-zuordnungsende : tie.Need-enum-known-zuordnungsende
-enum-known-zuordnungsende c = search needs
+enum-known-end-day : tie.Need-enum-known-end-day
+enum-known-end-day c = search needs
 
 enum-told-2 : tie.Need-enum-told-2
 enum-told-2 c = search needs
@@ -56,7 +56,7 @@ check-requires : tie.Need-check-requires
 check-requires c κs = search (needs, fuer-rules)
 
 abmeldung-answer-requires : tie.Need-abmeldung-answer-requires
-abmeldung-answer-requires c κs = search needs
+abmeldung-answer-requires c κs = search (needs, fuer-rules)
 
 returns-4 : tie.Need-returns-4
 unfolding abmeldungCheckAnswer
@@ -70,12 +70,12 @@ abmeldung-check-answer-spec =
     returns
     eeg-of-requires
     index-of-requires
-    enum-known-uebertragungstag
+    enum-known-day
     enum-told
     refused-requires-2
     returns-2
     index-of-requires-2
-    enum-known-zuordnungsende
+    enum-known-end-day
     enum-told-2
     refused-requires-3
     returns-3

@@ -1,5 +1,5 @@
--- `antworten_vorlauf::check_at_instants` meets its contract: what is refused is refused in order, and the rest goes to
--- the layer below.
+-- `antworten_vorlauf::check_at_instants` meets its contract: what is refused is refused in order, and the rest goes to the
+-- layer below.
 -- Assumes nothing.
 use Rattle.antworten_vorlauf.proofs.Rules.{check-at-rules}
 use Rattle.antworten_vorlauf.specs.Vorlauf.{checkAtInstants}
@@ -52,11 +52,8 @@ returns-3 c = search (needs, check-at-rules)
 berlin-date-requires : tie.Need-berlin-date-requires
 berlin-date-requires c κs = search (needs, check-at-rules)
 
-check-requires : tie.Need-check-requires
-check-requires c κs = search (needs, check-at-rules)
-
-verdict-answer-requires : tie.Need-verdict-answer-requires
-verdict-answer-requires c κs = search needs
+check-days-requires : tie.Need-check-days-requires
+check-days-requires c κs = search (needs, check-at-rules)
 
 returns-4 : tie.Need-returns-4
 unfolding checkAtInstants
@@ -80,6 +77,5 @@ check-at-instants-spec =
     refused-requires-3
     returns-3
     berlin-date-requires
-    check-requires
-    verdict-answer-requires
+    check-days-requires
     returns-4)

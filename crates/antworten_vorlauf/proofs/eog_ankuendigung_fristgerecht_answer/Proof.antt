@@ -10,8 +10,8 @@ use Rattle.antworten_vorlauf.proofs.eog_ankuendigung_fristgerecht_answe
 index-of-requires : tie.Need-index-of-requires
 index-of-requires c κs = search needs
 
-enum-known-beginn : tie.Need-enum-known-beginn
-enum-known-beginn c = search needs
+enum-known-index : tie.Need-enum-known-index
+enum-known-index c = search needs
 
 enum-told : tie.Need-enum-told
 enum-told c = search needs
@@ -40,7 +40,7 @@ eog-ankuendigung-fristgerecht-requires : tie.Need-eog-ankuendigung-fristgerecht-
 eog-ankuendigung-fristgerecht-requires c κs = search (needs, eog-rules)
 
 announced-answer-requires : tie.Need-announced-answer-requires
-announced-answer-requires c κs = search needs
+announced-answer-requires c κs = search (needs, eog-rules)
 
 returns-3 : tie.Need-returns-3
 unfolding eogAnkuendigungFristgerechtAnswer
@@ -51,7 +51,7 @@ eog-ankuendigung-fristgerecht-answer-spec =
     tie.close
     (tie.spec
     index-of-requires
-    enum-known-beginn
+    enum-known-index
     enum-told
     refused-requires
     returns

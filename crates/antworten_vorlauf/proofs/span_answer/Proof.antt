@@ -8,8 +8,8 @@ use Rattle.antworten_vorlauf.proofs.span_answer.Tie as tie
 enum-known-span : tie.Need-enum-known-span
 enum-known-span c = search needs
 
-date-of-requires : tie.Need-date-of-requires
-date-of-requires c κs = search (needs, span-rules)
+date-near-requires : tie.Need-date-near-requires
+date-near-requires c κs = search (needs, span-rules)
 
 zero-date-requires : tie.Need-zero-date-requires
 zero-date-requires c κs = search needs
@@ -20,11 +20,11 @@ spanned-requires c κs = search needs
 enum-known-span-2 : tie.Need-enum-known-span-2
 enum-known-span-2 c = search needs
 
-date-of-requires-2 : tie.Need-date-of-requires-2
-date-of-requires-2 c κs = search (needs, span-rules)
+date-near-requires-2 : tie.Need-date-near-requires-2
+date-near-requires-2 c κs = search (needs, span-rules)
 
-date-of-requires-3 : tie.Need-date-of-requires-3
-date-of-requires-3 c κs = search (needs, span-rules)
+date-near-requires-3 : tie.Need-date-near-requires-3
+date-near-requires-3 c κs = search (needs, span-rules)
 
 spanned-requires-2 : tie.Need-spanned-requires-2
 spanned-requires-2 c κs = search needs
@@ -58,12 +58,12 @@ span-answer-spec =
     tie.close
     (tie.spec
     enum-known-span
-    date-of-requires
+    date-near-requires
     zero-date-requires
     spanned-requires
     enum-known-span-2
-    date-of-requires-2
-    date-of-requires-3
+    date-near-requires-2
+    date-near-requires-3
     spanned-requires-2
     enum-told
     of-kind-requires

@@ -17,8 +17,8 @@ judged-requires c κs = search needs
 enum-known-found : tie.Need-enum-known-found
 enum-known-found c = search needs
 
-date-of-requires : tie.Need-date-of-requires
-date-of-requires c κs = search (needs, verdict-rules)
+date-near-requires : tie.Need-date-near-requires
+date-near-requires c κs = search (needs, verdict-rules)
 
 judged-requires-2 : tie.Need-judged-requires-2
 judged-requires-2 c κs = search needs
@@ -58,7 +58,7 @@ verdict-answer-spec =
     zero-date-requires
     judged-requires
     enum-known-found
-    date-of-requires
+    date-near-requires
     judged-requires-2
     enum-known-found-2
     zero-date-requires-2

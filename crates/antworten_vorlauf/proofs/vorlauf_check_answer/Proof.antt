@@ -20,8 +20,8 @@ shape-of-requires c κs = search needs
 index-of-requires : tie.Need-index-of-requires
 index-of-requires c κs = search needs
 
-enum-known-uebertragungstag : tie.Need-enum-known-uebertragungstag
-enum-known-uebertragungstag c = search needs
+enum-known-day : tie.Need-enum-known-day
+enum-known-day c = search needs
 
 enum-told : tie.Need-enum-told
 enum-told c = search needs
@@ -36,8 +36,8 @@ returns-2 c = search (needs, vorlauf-rules)
 index-of-requires-2 : tie.Need-index-of-requires-2
 index-of-requires-2 c κs = search needs
 
-enum-known-anchor : tie.Need-enum-known-anchor
-enum-known-anchor c = search needs
+enum-known-anchor-day : tie.Need-enum-known-anchor-day
+enum-known-anchor-day c = search needs
 
 enum-told-2 : tie.Need-enum-told-2
 enum-told-2 c = search needs
@@ -53,7 +53,7 @@ check-requires : tie.Need-check-requires
 check-requires c κs = search (needs, vorlauf-rules)
 
 verdict-answer-requires : tie.Need-verdict-answer-requires
-verdict-answer-requires c κs = search needs
+verdict-answer-requires c κs = search (needs, vorlauf-rules)
 
 returns-4 : tie.Need-returns-4
 unfolding vorlaufCheckAnswer
@@ -67,12 +67,12 @@ vorlauf-check-answer-spec =
     returns
     shape-of-requires
     index-of-requires
-    enum-known-uebertragungstag
+    enum-known-day
     enum-told
     refused-requires-2
     returns-2
     index-of-requires-2
-    enum-known-anchor
+    enum-known-anchor-day
     enum-told-2
     refused-requires-3
     returns-3

@@ -34,10 +34,10 @@ days-before-requires : tie.Need-days-before-requires
 days-before-requires c κs = search (needs, vorlauf-span-rules)
 
 span-requires : tie.Need-span-requires
-span-requires c κs = search needs
+span-requires c κs = search (needs, vorlauf-span-rules)
 
 span-answer-requires : tie.Need-span-answer-requires
-span-answer-requires c κs = search needs
+span-answer-requires c κs = search (needs, vorlauf-span-rules)
 
 returns-3 : tie.Need-returns-3
 unfolding vorlaufSpanAnswer
