@@ -1,7 +1,7 @@
 -- What the proofs of this crate's functions cite: a lemma for each return and each turn of a loop, with premises in the
 -- form in which they stand there.
 -- Assumes nothing.
-use Prim.Native.Nat.{ℕ, suc, _+_, _-_, _/_, _%_, _^_, _≤_, _<_}
+use Prim.Native.Nat.{ℕ, zero, suc, _+_, _-_, _/_, _%_, _^_, _≤_, _<_}
 use mathlib.Core.Bool.{Bool, true, false, not, _&&_}
 use mathlib.Core.List.{List, [], _∷_, map, sum}
 use mathlib.Core.Path.{_≡_, refl, sym, ap, subst, _∙_}
@@ -34,7 +34,7 @@ use Rattle.werktag.specs.Werktag.{eqZ, fixedDays, isDay, isFixed, isBuss
 use Rattle.werktag.specs.Reason.{placeFrom, weekendTests, fixedTests, fixedBits, feastTests, holidayTests, reason}
 use Rattle.werktag.proofs.Place.{place-hit, place-miss, place-none, place-left, place-right, place-zero, map-at}
 use Rattle.werktag.proofs.Easter.{easter-between}
-use Rattle.werktag.proofs.Reasons.{reason-is, reason-zero, saturday-gives, sunday-gives}
+use Rattle.werktag.proofs.Reasons.{reason-is, reason-zero, weekend-shut, saturday-gives, sunday-gives}
 use Rattle.werktag.proofs.Signed.{eq-eqZ, ne-eqZ, from-distance}
 
 -- fixed_bits: a month that has fixed days, and one that has none
@@ -368,6 +368,11 @@ module _ (t : Tag) (e : t ≡ tagAt (t .index)) (h : t .index ≤ last) where
       unfolding placeFrom
       by-easter r z p = feast 17 r p ∙ rest false z
 
+      known : (r : ℕ) → b ≡ false → r ≡ placeFrom 17 (feasts (pos i -ℤ pos s)) → r ≡ placeFrom 3 (holidayTests i d)
+      unfolding placeFrom
+      known r z p =
+          p ∙ ap (λ (k : ℕ). placeFrom 17 (feasts (pos i -ℤ pos k))) q ∙ by-known 17 ∙ rest false z
+
   pub by-table :
       (a : Bool) (r : ℕ) → a ≡ isFixed (d .month) (d .day) → a ≡ true →
       r ≡ placeFrom 3 (fixedTests (d .month) (d .day)) → r ≡ placeFrom 3 (holidayTests i d)
@@ -404,9 +409,111 @@ before-saturday w n h = omega (arith, n)
 
 pub ruleset reason-rules = (tag-rules, on-saturday, on-sunday, before-saturday)
 
--- is_werktag: r is what `reason` returned
-pub zero-open : (cal : HolidayCalendar) (i r : ℕ) → r ≡ reason cal i → eqb r 0 ≡ isWerktag cal i
-zero-open cal i r e = rw e (reason-zero cal i)
+-- is_feast: the days from Karfreitag on, as distances from Easter Sunday
+dist : ℕ → ℤ
+dist zero = negsuc 1
+dist (suc zero) = negsuc 0
+dist (suc (suc n)) = pos n
+
+dist-is : (i e : ℕ) → e ≤ i + 2 → pos i -ℤ pos e ≡ dist (i + 2 - e)
+unfolding dist
+dist-is i e h =
+    elim (decLt i e) [
+      | no l ↦
+          let k : i + 2 - e ≡ suc (suc (i - e)) = omega arith in
+          rw k (sub-pos i e (omega arith))
+      | yes l ↦ elim (decLt (i + 1) e) [
+        | yes g ↦
+            let k : i + 2 - e ≡ 0 = omega arith in
+            let z : e - suc i ≡ 1 = omega arith in
+            rw k (sub-neg i e l ∙ ap negsuc z)
+        | no g ↦
+            let k : i + 2 - e ≡ 1 = omega arith in
+            let z : e - suc i ≡ 0 = omega arith in
+            rw k (sub-neg i e l ∙ ap negsuc z)
+      ]
+    ]
+
+abbrev feast-bit : ℕ → Bool
+feast-bit k = eqb (4618443616891699209 / 2 ^ k % 2) 1
+
+feast-agree : ℕ → Bool
+feast-agree k = agree (feast-bit k) (any (eqZ (dist k)) easterOffsets)
+
+all-feasts : run feast-agree 63 0 ≡ true
+unfolding run feast-agree agree any dist
+all-feasts = refl
+
+module _ (i e : ℕ) where
+  pub feast-before : i + 2 < e → false ≡ any (eqZ (pos i -ℤ pos e)) easterOffsets
+  unfolding any
+  feast-before h = rw (sub-neg i e (omega arith), ne-eqb (e - suc i) 1 (λ q. omega arith))
+
+  pub feast-after : e ≤ i + 2 → 62 < i + 2 - e → false ≡ any (eqZ (pos i -ℤ pos e)) easterOffsets
+  unfolding any
+  feast-after h g =
+      rw (
+        sub-pos i e (omega arith),
+        ne-eqb (i - e) 1 (λ q. omega arith),
+        ne-eqb (i - e) 39 (λ q. omega arith),
+        ne-eqb (i - e) 49 (λ q. omega arith),
+        ne-eqb (i - e) 50 (λ q. omega arith),
+        ne-eqb (i - e) 60 (λ q. omega arith),
+      )
+
+  pub feast-by-bit :
+      e ≤ i + 2 → i + 2 - e ≤ 62 → feast-bit (i + 2 - e) ≡ any (eqZ (pos i -ℤ pos e)) easterOffsets
+  unfolding feast-agree
+  feast-by-bit h g =
+      let k = i + 2 - e in
+      let t = run-at feast-agree 63 0 all-feasts k (omega arith) (omega arith) in
+      agree-is (feast-bit k) (any (eqZ (dist k)) easterOffsets) t
+      ∙ ap (λ (z : ℤ). any (eqZ z) easterOffsets) (sym (dist-is i e h))
+
+pub ruleset is-feast-rules = (feast-before, feast-after, feast-by-bit)
+
+-- bdew_mako_open: t is the day, w its weekday, a and b what the tests of the fixed days and the Wednesday returned
+closed : (i r : ℕ) → r ≡ reason BdewMaKo i → (r ≡ 0 → ⊥) → false ≡ isWerktag BdewMaKo i
+closed i r e n = sym (ne-eqb r 0 n) ∙ rw e (reason-zero BdewMaKo i)
+
+module _
+    (t : Tag) (e : t ≡ tagAt (t .index)) (h : t .index ≤ last) (w : ℕ) (v : w ≡ weekday (t .index)) (l : w < 5)
+    (a : Bool) (u : a ≡ isFixed (t .date .month) (t .date .day)) where
+  pub shut-fixed : a ≡ true → false ≡ isWerktag BdewMaKo (t .index)
+  shut-fixed f =
+      let r = placeFrom 3 (fixedTests (t .date .month) (t .date .day)) in
+      closed (t .index) r (on-weekday BdewMaKo t w r e v l (by-table t e h a r u f refl))
+      (has-place (t .date .month) (t .date .day) (sym u ∙ f))
+
+  module _
+      (s : ℕ) (q : s ≡ easterFor (t .date .year) (t .date .month)) (g : s ≤ last + 3) (b : Bool)
+      (x : b ≡ isBussUndBettag (t .date .month) (t .date .day) w) (f : a ≡ false) where
+    pub shut-wednesday : b ≡ true → false ≡ isWerktag BdewMaKo (t .index)
+    shut-wednesday z =
+        closed (t .index) 16 (on-weekday BdewMaKo t w 16 e v l (by-wednesday t e h s q g a b w u v x f z))
+        (λ k. omega arith)
+
+    pub by-feast :
+        (c : Bool) → b ≡ false → c ≡ any (eqZ (pos (t .index) -ℤ pos s)) easterOffsets →
+        not c ≡ isWerktag BdewMaKo (t .index)
+    unfolding any
+    by-feast c z p =
+        let y = feasts (pos (t .index) -ℤ pos s) in
+        let r = placeFrom 17 y in
+        ap not p ∙ sym (place-zero 17 y (omega arith))
+        ∙ rw (on-weekday BdewMaKo t w r e v l (known t e h s q g a b w u v x f r z refl)) (reason-zero BdewMaKo (t .index))
+
+pub ruleset open-rules = (tag-rules, shut-fixed, shut-wednesday, by-feast)
+
+-- is_open_weekday
+pub of-list : (cal : HolidayCalendar) (i : ℕ) (r : Bool) → r ≡ isWerktag BdewMaKo i → r ≡ isWerktag cal i
+of-list BdewMaKo i r p = p
+
+-- is_werktag
+pub on-weekend : (cal : HolidayCalendar) (i w : ℕ) → w ≡ weekday i → 5 ≤ w → false ≡ isWerktag cal i
+on-weekend cal i w e h = sym (weekend-shut cal i (omega (arith, e)))
+
+pub ruleset werktag-rules = (tag-rules, on-weekend)
 
 -- is_werktag_at: t is what `tag_at` returned for the day i
 pub open-at :

@@ -4,6 +4,9 @@
 ghost use mathlib.Core.Path.{_≡_};
 ghost use mathlib.Core.List.{map};
 ghost use Prim.Native.Nat.{_+_, _≤_, _<_};
+ghost use lib.IntN.{pos, _-ℤ_};
+ghost use Rattle.zaehlung.specs.Lists.{any};
+ghost use Rattle.werktag.specs.declared.HolidayCalendar.the-variants.{BdewMaKo};
 ghost use Rattle.zaehlung.specs.Walk.{last};
 ghost use Rattle.datum.specs.Calendar.{firstYear, lastYear, weekday};
 ghost use Rattle.datum.specs.Tage.{tagAt};
@@ -208,7 +211,7 @@ fn bdew_mako_holiday(tag: Tag, wday: u32, easter: u32) -> u8
     feast_at((tag.index as i64) - (easter as i64))
 }
 
-/// Why a weekday is closed, where its Easter is known: what a walk asks, that goes from day to day.
+/// Why a weekday is closed, where its Easter is known.
 ///
 /// 18 November 2026, Buß- und Bettag, has 16.
 pub fn reason_of_weekday(tag: Tag, wday: u32, easter: u32, cal: HolidayCalendar) -> u8
@@ -240,7 +243,49 @@ pub fn reason(tag: Tag, cal: HolidayCalendar) -> u8
     reason_of_weekday(tag, wday, easter_for(tag.date.year, tag.date.month), cal)
 }
 
-/// Whether a weekday is a Werktag, where its Easter is known.
+/// The feasts that move with Easter, one bit for each day from Karfreitag on: the offsets, and 2.
+const FEAST_BITS: u64 = 4618443616891699209;
+
+const KARFREITAG_BEFORE: u32 = 2;
+
+const FRONLEICHNAM_BIT: u32 = 62;
+
+/// Whether a day lies at one of the offsets from Easter Sunday, without a look at the table.
+fn is_feast(index: u32, easter: u32) -> bool
+    requires { ⌜ (index ≤ last) × (easter ≤ last + 3) ⌝ }
+    ensures { λ r. ⌜ r ≡ any (eqZ (pos index -ℤ pos easter)) easterOffsets ⌝ }
+{
+    let day = index + KARFREITAG_BEFORE;
+    if day < easter {
+        return false;
+    }
+    let after = day - easter;
+    if FRONLEICHNAM_BIT < after {
+        return false;
+    }
+    (FEAST_BITS >> (after as u64)) % 2 == 1
+}
+
+/// Whether a weekday is none of the list's holidays.
+fn bdew_mako_open(tag: Tag, wday: u32, easter: u32) -> bool
+    requires { ⌜ (tag ≡ tagAt (tag .index)) × (tag .index ≤ last) × (wday ≡ weekday (tag .index)) ⌝ }
+    requires { ⌜ (easter ≡ easterFor (tag .date .year) (tag .date .month)) × (easter ≤ last + 3) ⌝ }
+    requires { ⌜ wday < 5 ⌝ }
+    ensures { λ r. ⌜ r ≡ isWerktag BdewMaKo (tag .index) ⌝ }
+{
+    let month = tag.date.month;
+    let day = tag.date.day;
+    if has_fixed_day(month, day) {
+        return false;
+    }
+    if is_buss_und_bettag(month, day, wday) {
+        return false;
+    }
+    !is_feast(tag.index, easter)
+}
+
+/// Whether a weekday is a Werktag, where its Easter is known: what a walk asks, that goes from day to day. It needs no
+/// reason, and so no table.
 ///
 /// 18 November 2026, Buß- und Bettag, is none.
 pub fn is_open_weekday(tag: Tag, wday: u32, easter: u32, cal: HolidayCalendar) -> bool
@@ -249,7 +294,9 @@ pub fn is_open_weekday(tag: Tag, wday: u32, easter: u32, cal: HolidayCalendar) -
     requires { ⌜ wday < 5 ⌝ }
     ensures { λ r. ⌜ r ≡ isWerktag cal (tag .index) ⌝ }
 {
-    reason_of_weekday(tag, wday, easter, cal) == WERKTAG
+    match cal {
+        HolidayCalendar::BdewMaKo => bdew_mako_open(tag, wday, easter),
+    }
 }
 
 /// Whether a day is a Werktag: 'not Saturday, Sunday or a holiday (GPKE Teil 1)'.
@@ -261,7 +308,11 @@ pub fn is_werktag(tag: Tag, cal: HolidayCalendar) -> bool
     requires { ⌜ (tag ≡ tagAt (tag .index)) × (tag .index ≤ last) ⌝ }
     ensures { λ r. ⌜ r ≡ isWerktag cal (tag .index) ⌝ }
 {
-    reason(tag, cal) == WERKTAG
+    let wday = datum::weekday(tag.index);
+    if SATURDAY <= wday {
+        return false;
+    }
+    is_open_weekday(tag, wday, easter_for(tag.date.year, tag.date.month), cal)
 }
 
 /// Whether a day that is known by its index alone is a Werktag: it is taken apart here.
