@@ -2,7 +2,7 @@
 -- form in which they stand there.
 -- Assumes nothing.
 use Prim.Native.Nat.{ℕ, zero, suc, _+_, _*_, _-_, _/_, _%_, _≤_, _<_}
-use mathlib.Core.Bool.{Bool, true, false}
+use mathlib.Core.Bool.{Bool, true, false, not, _&&_, _||_}
 use mathlib.Core.Path.{_≡_, refl, sym, ap, ap₂, _∙_}
 use mathlib.Core.List.{List, [], _∷_}
 use native.Mathlib.Omega.{arith}
@@ -11,31 +11,72 @@ use lib.Dec.{eqb, leb}
 use lib.ListN.{getD, List·getD-eq-default}
 use mir.Syntax.{w8, w32}
 use mir.Val.{Fits}
-use borrow.Author.Tests.{eqb-true, eq-eqb, ne-eqb, le-leb, lt-leb}
+use borrow.Author.Tests.{eqb-true, leb-true, eq-eqb, ne-eqb, le-leb, lt-leb}
 use Rattle.zaehlung.specs.Walk.{bit, last}
-use Rattle.zaehlung.specs.Blocks.{start}
+use Rattle.zaehlung.specs.Blocks.{start, at}
 use Rattle.zaehlung.proofs.BlockLaws.{at-sum, at-below}
 use Rattle.datum.specs.declared.Date.{Date}
 use Rattle.datum.specs.declared.Index.the-variants.{Day, NoDate}
 use Rattle.datum.specs.Calendar.{isLeap, yearStart, yearOf, months, daysInMonth, monthStart, monthOf, dateIn}
 use Rattle.datum.specs.Calendar.{dateOf, daysBefore, indexOf, isDate}
 use Rattle.zaehlung.proofs.Every.{run, run-at}
+use Rattle.zaehlung.proofs.Tests.{and-left, and-right, and-yes, agree, agree-is}
 use Rattle.datum.proofs.Years.{closed, year-found, year-le, start-none}
 use Rattle.datum.proofs.Dates.{all-le, at-most, len-le, months-sum, month-first, start-month, month-found}
 use Rattle.datum.proofs.Dates.{valid-is, is-valid, len-ge, index-below, year-below}
 
--- is_leap
-pub leap-not4 : (y : ℕ) → (y % 4 ≡ 0 → ⊥) → false ≡ isLeap y
-unfolding isLeap
-leap-not4 y h = rw (ne-eqb (y % 4) 0 h)
+-- is_leap: what 4 and 16 say of a multiple of 25
+mult-25 : (y : ℕ) → y % 25 ≡ 0 → y ≡ 25 * (y / 25)
+mult-25 y h = omega arith
 
-pub leap-not100 : (y : ℕ) → y % 4 ≡ 0 → (y % 100 ≡ 0 → ⊥) → true ≡ isLeap y
-unfolding isLeap
-leap-not100 y g h = rw (eq-eqb (y % 4) 0 g, ne-eqb (y % 100) 0 h)
+by-4 : (k : ℕ) → (25 * k) % 4 ≡ k % 4
+by-4 k = omega arith
 
-pub leap-400 : (y : ℕ) → y % 4 ≡ 0 → y % 100 ≡ 0 → eqb (y % 400) 0 ≡ isLeap y
+multiple-16 : (a b : ℕ) → (16 * a + b) % 16 ≡ b % 16
+multiple-16 a b = omega arith
+
+by-16 : (k : ℕ) → (25 * k) % 16 ≡ (25 * (k % 16)) % 16
+by-16 k =
+    let e : 25 * k ≡ 16 * (25 * (k / 16)) + 25 * (k % 16) = omega arith in
+    rw e (multiple-16 (25 * (k / 16)) (25 * (k % 16)))
+
+by-100 : (k : ℕ) → (25 * k) % 100 ≡ 25 * (k % 4)
+by-100 k = omega arith
+
+by-400 : (k : ℕ) → (25 * k) % 400 ≡ 25 * (k % 16)
+by-400 k = omega arith
+
+-- the four tests of k % 16, for every remainder
+tests-16 : ℕ → Bool
+tests-16 r =
+    agree (eqb ((25 * r) % 16) 0) (eqb (r % 4) 0 && (not (eqb (25 * (r % 4)) 0) || eqb (25 * r) 0))
+
+all-16 : run tests-16 16 0 ≡ true
+unfolding run tests-16 agree
+all-16 = refl
+
+by-remainder : (k : ℕ) → k % 4 ≡ k % 16 % 4
+by-remainder k = omega arith
+
+below-16 : (k : ℕ) → k % 16 < 16
+below-16 k = omega arith
+
+leap-of-25 : (k : ℕ) → eqb ((25 * k) % 16) 0 ≡ isLeap (25 * k)
+unfolding isLeap tests-16
+leap-of-25 k =
+    let r = k % 16 in
+    let t = run-at tests-16 16 0 all-16 r (omega arith) (below-16 k) in
+    rw (by-16 k, by-4 k, by-100 k, by-400 k, by-remainder k) (agree-is _ _ t)
+
+pub leap-25 : (y : ℕ) → y % 25 ≡ 0 → eqb (y % 16) 0 ≡ isLeap y
+leap-25 y h = rw (mult-25 y h) (leap-of-25 (y / 25))
+
+not-100 : (y : ℕ) → (y % 25 ≡ 0 → ⊥) → y % 100 ≡ 0 → ⊥
+not-100 y h e = h (omega arith)
+
+pub leap-other : (y : ℕ) → (y % 25 ≡ 0 → ⊥) → eqb (y % 4) 0 ≡ isLeap y
 unfolding isLeap
-leap-400 y g h = rw (eq-eqb (y % 4) 0 g, eq-eqb (y % 100) 0 h)
+leap-other y h = rw (ne-eqb (y % 100) 0 (not-100 y h)) (sym (and-yes (eqb (y % 4) 0)))
 
 -- days_in_month
 pub len-none : (l : Bool) (m : ℕ) → 12 < m → 0 ≡ daysInMonth l m
@@ -50,65 +91,111 @@ pub len-february : (l : Bool) (m : ℕ) → m ≡ 2 → l ≡ false → 28 ≡ d
 unfolding daysInMonth
 len-february l m e t = rw (e, t)
 
+-- every other month, in a common year and in a leap year
+odd-test : Bool → ℕ → Bool
+odd-test l m = eqb m 2 || eqb (30 + (m + m / 8) % 2) (daysInMonth l m)
+
+all-odd : (l : Bool) → run (odd-test l) 12 1 ≡ true
+unfolding run odd-test daysInMonth
+all-odd true = refl
+all-odd false = refl
+
 pub len-other :
-    (l : Bool) (m : ℕ) → (m ≡ 2 → ⊥) →
-    getD (0 ∷ 31 ∷ 28 ∷ 31 ∷ 30 ∷ 31 ∷ 30 ∷ 31 ∷ 31 ∷ 30 ∷ 31 ∷ 30 ∷ 31 ∷ []) m 0 ≡ daysInMonth l m
+    (l : Bool) (m : ℕ) → 1 ≤ m → m ≤ 12 → (m ≡ 2 → ⊥) → 30 + (m + m / 8) % 2 ≡ daysInMonth l m
+unfolding odd-test
+len-other l m a b h =
+    let t = run-at (odd-test l) 12 1 (all-odd l) m (omega arith) (omega arith) in
+    eqb-true (30 + (m + m / 8) % 2) (daysInMonth l m) (rw (ne-eqb m 2 h) at t)
+
+pub len-zero : (l : Bool) (m : ℕ) → m < 1 → 0 ≡ daysInMonth l m
 unfolding daysInMonth
-len-other l zero h = refl
-len-other l (suc zero) h = refl
-len-other l (suc (suc zero)) h = absurd (h refl)
-len-other l (suc (suc (suc m))) h = refl
+len-zero l zero h = refl
+len-zero l (suc m) h = absurd (omega arith)
 
--- month_start: the table of a common year, one more after a leap year's February
-abbrev pub before : List ℕ
-before = 0 ∷ 0 ∷ 31 ∷ 59 ∷ 90 ∷ 120 ∷ 151 ∷ 181 ∷ 212 ∷ 243 ∷ 273 ∷ 304 ∷ 334 ∷ 365 ∷ []
+-- month_start, for every month
+abbrev even : ℕ → ℕ
+even m = (367 * m - 362) / 12
 
--- the table's rule, tested at the months from r on: x more than the table
-agrees : Bool → ℕ → ℕ → Bool
-agrees l x m = eqb (getD before m 0 + x) (monthStart l m)
+-- x is what is taken off
+starts-test : Bool → ℕ → ℕ → Bool
+starts-test l x m = eqb (even m - x) (monthStart l m) && (leb x (even m) && leb (even m - x) 366)
 
-common : run (agrees false 0) 14 0 ≡ true
-unfolding run agrees start daysInMonth
-common = refl
+early : (l : Bool) → run (starts-test l 0) 2 1 ≡ true
+unfolding run starts-test start daysInMonth
+early true = refl
+early false = refl
 
-early : run (agrees true 0) 3 0 ≡ true
-unfolding run agrees start daysInMonth
-early = refl
+late-leap : run (starts-test true 1) 11 3 ≡ true
+unfolding run starts-test start daysInMonth
+late-leap = refl
 
-late : run (agrees true 1) 11 3 ≡ true
-unfolding run agrees start daysInMonth
-late = refl
+late-common : run (starts-test false 2) 11 3 ≡ true
+unfolding run starts-test start daysInMonth
+late-common = refl
 
-pub start-common : (l : Bool) (m : ℕ) → m ≤ 13 → l ≡ false → getD before m 0 ≡ monthStart l m
-unfolding agrees
-start-common l m h e =
-    rw e (let q = eqb-true (getD before m 0 + 0) (monthStart false m)
-    (run-at (agrees false 0) 14 0 common m (omega arith) (omega arith)) in omega arith)
+record Starts (l : Bool) (x m : ℕ) : Type 0 where
+  pub is : even m - x ≡ monthStart l m
+  pub by : x ≤ even m
+  pub few : even m - x ≤ 366
 
-pub start-early : (l : Bool) (m : ℕ) → m ≤ 13 → l ≡ true → m ≤ 2 → getD before m 0 ≡ monthStart l m
-unfolding agrees
-start-early l m h e g =
-    rw e (let q = eqb-true (getD before m 0 + 0) (monthStart true m)
-    (run-at (agrees true 0) 3 0 early m (omega arith) (omega arith)) in omega arith)
+starts-is : (l : Bool) (x m : ℕ) → starts-test l x m ≡ true → Starts l x m
+unfolding starts-test
+starts-is l x m t =
+    let u = and-right (eqb (even m - x) (monthStart l m)) _ t in
+    record {
+      is = eqb-true (even m - x) (monthStart l m) (and-left (eqb (even m - x) (monthStart l m)) _ t);
+      by = leb-true x (even m) (and-left (leb x (even m)) (leb (even m - x) 366) u);
+      few = leb-true (even m - x) 366 (and-right (leb x (even m)) (leb (even m - x) 366) u);
+    }
 
-pub start-late : (l : Bool) (m : ℕ) → m ≤ 13 → l ≡ true → 2 < m → getD before m 0 + 1 ≡ monthStart l m
-unfolding agrees
-start-late l m h e g =
-    rw e (let q = eqb-true (getD before m 0 + 1) (monthStart true m)
-    (run-at (agrees true 1) 11 3 late m (omega arith) (omega arith)) in omega arith)
+at-early : (l : Bool) (m : ℕ) → 1 ≤ m → m < 3 → Starts l 0 m
+at-early l m a b = starts-is l 0 m (run-at (starts-test l 0) 2 1 (early l) m (omega arith) (omega arith))
 
-pub before-le : (m : ℕ) → getD before m 0 ≤ 366
-unfolding all-le
-before-le m = at-most 366 before refl m
+at-late : (l : Bool) (x m : ℕ) → run (starts-test l x) 11 3 ≡ true → 3 ≤ m → m ≤ 13 → Starts l x m
+at-late l x m t a b = starts-is l x m (run-at (starts-test l x) 11 3 t m (omega arith) (omega arith))
 
-pub before-more : (m : ℕ) → getD before m 0 + 1 ≤ 366
-unfolding all-le
-before-more m = let h = at-most 365 before refl m in omega arith
+module _ (l : Bool) (m : ℕ) (b : m ≤ 13) where
+  pub start-early : 1 ≤ m → m < 3 → even m ≡ monthStart l m
+  start-early a h = omega (arith, at-early l m a h .is)
 
-pub before-fits : (m : ℕ) → Fits w32 (getD before m 0 + 1)
-before-fits m = record { fits = omega (arith, before-le m) }
+  pub start-early-few : 1 ≤ m → m < 3 → even m ≤ 366
+  start-early-few a h = omega (arith, at-early l m a h .few)
 
-pub ruleset start-rules = (start-common, start-early, start-late, before-le, before-more, before-fits)
+  -- l is known
+  of-leap : l ≡ true → 3 ≤ m → Starts l 1 m
+  of-leap e h = rw e (at-late true 1 m late-leap h b)
+
+  of-common : l ≡ false → 3 ≤ m → Starts l 2 m
+  of-common e h = rw e (at-late false 2 m late-common h b)
+
+  pub start-leap : l ≡ true → 3 ≤ m → even m - 1 ≡ monthStart l m
+  start-leap e h = of-leap e h .is
+
+  pub start-leap-by : l ≡ true → 3 ≤ m → 1 ≤ even m
+  start-leap-by e h = of-leap e h .by
+
+  pub start-leap-few : l ≡ true → 3 ≤ m → even m - 1 ≤ 366
+  start-leap-few e h = of-leap e h .few
+
+  pub start-common : l ≡ false → 3 ≤ m → even m - 2 ≡ monthStart l m
+  start-common e h = of-common e h .is
+
+  pub start-common-by : l ≡ false → 3 ≤ m → 2 ≤ even m
+  start-common-by e h = of-common e h .by
+
+  pub start-common-few : l ≡ false → 3 ≤ m → even m - 2 ≤ 366
+  start-common-few e h = of-common e h .few
+
+pub ruleset start-rules = (
+  start-early,
+  start-early-few,
+  start-leap,
+  start-leap-by,
+  start-leap-few,
+  start-common,
+  start-common-by,
+  start-common-few,
+)
 
 -- year_start
 solve : (s p q r k : ℕ) → s + 483 + q ≡ 365 * k + (p + r) → q ≤ p → 365 * k + (p + r - q) - 483 ≡ s
@@ -148,35 +235,81 @@ bit-le : (b : Bool) → bit b ≤ 1
 bit-le true = omega arith
 bit-le false = omega arith
 
--- month_of: the guess starts by the day, since no month has 32 days
-pub guess-by : (l : Bool) (r : ℕ) → monthStart l (r / 32 + 1) ≤ r
-guess-by l r = let e : r / 32 + 1 ≡ suc (r / 32) = omega arith in rw e (omega (arith, start-month l (r / 32)))
+-- month_of, for every day: x is by how much the day of the year of 367 days is later
+abbrev month-367 : ℕ → ℕ
+month-367 r = (12 * r + 373) / 367
 
-pub guess-le : (l : Bool) (r : ℕ) → r < 365 + bit l → r / 32 + 1 ≤ 12
-guess-le l r h = omega (arith, bit-le l)
+month-test : Bool → ℕ → ℕ → Bool
+month-test l x r =
+    eqb (month-367 (r + x)) (monthOf l r .0) && (leb 1 (month-367 (r + x)) && leb (month-367 (r + x)) 12)
 
-pub month-again : (l : Bool) (r m s : ℕ) → r < 365 + bit l → m ≤ 12 → s ≡ monthStart l (m + 1) → s ≤ r → m + 1 ≤ 12
-month-again l r m s h g e a =
-    elim (decLe (m + 1) 12) [
-      | yes y ↦ y
-      | no y ↦ absurd
-          (let z : m + 1 ≡ 13 = omega arith in omega (arith, ap (monthStart l) z, months-sum l))
-    ]
+january : (l : Bool) → run (month-test l 0) (59 + bit l) 0 ≡ true
+unfolding run month-test at daysInMonth
+january true = refl
+january false = refl
 
-pub month-less :
-    (l : Bool) (r m s : ℕ) → r < 365 + bit l → m ≤ 12 → s ≡ monthStart l (m + 1) → s ≤ r → 12 - (m + 1) < 12 - m
-month-less l r m s h g e a = let k = month-again l r m s h g e a in omega arith
+march-leap : run (month-test true 1) 306 60 ≡ true
+unfolding run month-test at daysInMonth
+march-leap = refl
 
-pub month-is :
-    (l : Bool) (r m s : ℕ) → 1 ≤ m → m ≤ 12 → monthStart l m ≤ r → s ≡ monthStart l (m + 1) → r < s → m ≡ monthOf l r .0
-month-is l r m s g h a e b = sym (ap (λ (p : ℕ × ℕ). p .0) (month-found l r m g h a (omega arith)))
+march-common : run (month-test false 2) 306 59 ≡ true
+unfolding run month-test at daysInMonth
+march-common = refl
 
-pub ruleset month-rules = (guess-by, guess-le, month-again, month-less, month-is)
+module _ (l : Bool) (r m : ℕ) where
+  abbrev Month : Type 0
+  Month = (m ≡ monthOf l r .0) × (1 ≤ m) × (m ≤ 12)
+
+  month-in : (x : ℕ) → month-test l x r ≡ true → m ≡ month-367 (r + x) → Month
+  unfolding month-test
+  month-in x t e =
+      let y = month-367 (r + x) in
+      let u = and-right (eqb y (monthOf l r .0)) _ t in
+      let a = eqb-true y (monthOf l r .0) (and-left (eqb y (monthOf l r .0)) _ t) in
+      let b = leb-true 1 y (and-left (leb 1 y) (leb y 12) u) in
+      let d = leb-true y 12 (and-right (leb 1 y) (leb y 12) u) in
+      (e ∙ a, omega (arith, e), omega (arith, e))
+
+  pub month-early : r < 59 + bit l → m ≡ month-367 r → Month
+  month-early h q =
+      let z : r + 0 ≡ r = omega arith in
+      month-in 0 (run-at (month-test l 0) (59 + bit l) 0 (january l) r (omega arith) (omega arith)) (rw z q)
+
+  pub month-early-leap : l ≡ true → r < 60 → m ≡ month-367 r → Month
+  month-early-leap e h q = month-early (omega (arith, ap bit e)) q
+
+  pub month-early-common : l ≡ false → r < 59 → m ≡ month-367 r → Month
+  month-early-common e h q = month-early (omega (arith, ap bit e)) q
+
+  pub month-late-leap : l ≡ true → 60 ≤ r → r < 365 + bit l → m ≡ month-367 (r + 1) → Month
+  month-late-leap e h g q =
+      month-in 1
+      (rw e (run-at (month-test true 1) 306 60 march-leap r (omega arith) (omega (arith, ap bit e)))) q
+
+  pub month-late-common : l ≡ false → 59 ≤ r → r < 365 + bit l → m ≡ month-367 (r + 2) → Month
+  month-late-common e h g q =
+      month-in 2
+      (rw e (run-at (month-test false 2) 306 59 march-common r (omega arith) (omega (arith, ap bit e)))) q
+
+pub day-367 : (l : Bool) (r : ℕ) → l ≡ true → r < 365 + bit l → r + 1 ≤ 366
+day-367 l r e h = omega (arith, ap bit e)
+
+pub day-367-common : (l : Bool) (r : ℕ) → l ≡ false → r < 365 + bit l → r + 2 ≤ 366
+day-367-common l r e h = omega (arith, ap bit e)
+
+pub day-few : (l : Bool) (r x : ℕ) → r < 365 + bit l → x ≤ 2 → Fits w32 (r + x)
+day-few l r x h g = record { fits = omega (arith, bit-le l) }
+
+pub ruleset month-rules =
+    (month-early-leap, month-early-common, month-late-leap, month-late-common, day-367, day-367-common, day-few)
 
 -- days_before
 module _ (d : Date) (v : isDate d ≡ true) where
   pub year-by : 1996 ≤ d .year
   year-by = valid-is d v .from
+
+  pub month-from-1 : 1 ≤ d .month
+  month-from-1 = valid-is d v .month-from
 
   pub year-few : d .year - 1996 ≤ 904
   year-few = omega (arith, valid-is d v .to)
@@ -197,7 +330,7 @@ module _ (d : Date) (v : isDate d ≡ true) where
       s + t + (d .day - 1) ≤ last
   days-few l s t g p q = omega (arith, days-are l s t g p q, index-below d (valid-is d v))
 
-pub ruleset days-rules = (year-by, year-few, month-by-13, day-some, days-are, days-few)
+pub ruleset days-rules = (year-by, year-few, month-from-1, month-by-13, day-some, days-are, days-few)
 
 -- is_date
 module _ (d : Date) where

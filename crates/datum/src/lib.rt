@@ -3,7 +3,7 @@
 // Document 01, lib.rs (calendar). Inside, a day is its index; a date stands at the edge.
 ghost use mathlib.Core.Bool.{true};
 ghost use mathlib.Core.Path.{_≡_};
-ghost use Prim.Native.Nat.{_+_, _-_, _*_, _≤_, _<_};
+ghost use Prim.Native.Nat.{_+_, _-_, _*_, _/_, _≤_, _<_};
 ghost use lib.IntN.{pos};
 ghost use Rattle.zaehlung.specs.Walk.{last, bit};
 ghost use Rattle.datum.specs.Calendar.{isLeap, yearStart, yearOf, daysInMonth, monthStart, monthOf};
@@ -63,32 +63,30 @@ pub enum Shifted {
     Outside,
 }
 
-/// Whether a year has a 29 February: every fourth year, of the full hundreds every fourth.
+/// Whether a year has a 29 February: every fourth year, of the full hundreds every fourth. Of the years that 25 divides
+/// only those are multiples of 4 that are full hundreds, and of these every fourth is one that 16 divides.
 ///
 /// 2024 and 2000 are leap years, 2023 and 2100 are none.
 pub fn is_leap(year: u16) -> bool
     ensures { λ r. ⌜ r ≡ isLeap year ⌝ }
 {
-    if year % 4 != 0 {
-        return false;
+    if year % 25 == 0 {
+        return year % 16 == 0;
     }
-    if year % 100 != 0 {
-        return true;
-    }
-    year % 400 == 0
+    year % 4 == 0
 }
-
-/// The days of each month of a common year; no month is numbered 0.
-const DAYS_IN_MONTH: [u8; 13] = [0, 31, 28, 31, 30, 31, 30, 31, 31, 30, 31, 30, 31];
 
 /// The days of a month, January being 1, in a leap or a common year.
 ///
-/// Months 0 and above 12 have no days.
+/// Months 0 and above 12 have no days. The odd months up to July have 31, and from August on the even ones.
 ///
 /// February of 2024 has 29 days, of 2026 it has 28, and April always 30.
 pub fn days_in_month(leap: bool, month: u8) -> u8
     ensures { λ r. ⌜ (r ≡ daysInMonth leap month) × (r ≤ 31) ⌝ }
 {
+    if month < 1 {
+        return 0;
+    }
     if MONTHS < month {
         return 0;
     }
@@ -98,41 +96,23 @@ pub fn days_in_month(leap: bool, month: u8) -> u8
         }
         return SHORTEST_MONTH;
     }
-    let at = month as usize;
-    DAYS_IN_MONTH[at]
+    30 + (month + month / 8) % 2
 }
 
-/// The days of a common year before each month; 13 stands for the year's end.
-const DAYS_BEFORE_MONTH: [u32; 14] = [
-    0,
-    0,
-    31,
-    59,
-    90,
-    120,
-    151,
-    181,
-    212,
-    243,
-    273,
-    304,
-    334,
-    365,
-];
-
-/// Days of the year before a month; month 13 stands for the year's end.
+/// Days of the year before a month; month 13 stands for the year's end. If February had 30 days, a year of 367 days would
+/// spread over its months evenly but for rounding.
 fn month_start(leap: bool, month: u32) -> u32
-    requires { ⌜ month ≤ 13 ⌝ }
+    requires { ⌜ (1 ≤ month) × (month ≤ 13) ⌝ }
     ensures { λ r. ⌜ (r ≡ monthStart leap month) × (r ≤ 366) ⌝ }
 {
-    let at = month as usize;
-    let common = DAYS_BEFORE_MONTH[at];
-    if leap {
-        if 2 < month {
-            return common + 1;
-        }
+    let days = (367 * month - 362) / 12;
+    if month < 3 {
+        return days;
     }
-    common
+    if leap {
+        return days - 1;
+    }
+    days - 2
 }
 
 /// The year before the calendar's first, and the leap days of the years up to it.
@@ -177,16 +157,29 @@ pub fn year_of(index: u32) -> YearDay
     }
 }
 
-/// The month of a day of the year. No month has 32 days, so the guess is never too late.
+/// The month of a day in the year of 367 days in which February has 30.
+fn month_in_367(day: u32) -> u32
+    requires { ⌜ day ≤ 366 ⌝ }
+    ensures { λ r. ⌜ r ≡ (12 * day + 373) / 367 ⌝ }
+{
+    (12 * day + 373) / 367
+}
+
+/// The month of a day of the year. After February the day of the year of 367 days is one or two later.
 fn month_of(leap: bool, day: u32) -> u32
     requires { ⌜ day < 365 + bit leap ⌝ }
     ensures { λ r. ⌜ (r ≡ monthOf leap day .0) × (1 ≤ r) × (r ≤ 12) ⌝ }
 {
-    let mut month = day / 32 + 1;
-    while month_start(leap, month + 1) <= day {
-        month += 1;
+    if leap {
+        if day < 60 {
+            return month_in_367(day);
+        }
+        return month_in_367(day + 1);
     }
-    month
+    if day < 59 {
+        return month_in_367(day);
+    }
+    month_in_367(day + 2)
 }
 
 /// The index of a date of the range: the days of the years, of the months and of the month before it.

@@ -23,7 +23,7 @@ use Rattle.datum.specs.Tage.{tagAt}
 use Rattle.zaehlung.specs.Lists.{any}
 use Rattle.zaehlung.proofs.BlockLaws.{start-suc, start-mono}
 use Rattle.zaehlung.proofs.Every.{run, run-at}
-use Rattle.zaehlung.proofs.Tests.{and-left, and-right, and-no}
+use Rattle.zaehlung.proofs.Tests.{and-left, and-right, and-no, agree, agree-is}
 use Rattle.datum.proofs.Dates.{Valid, len-le}
 use Rattle.datum.proofs.TagRules.{tag-date, tag-index, tag-again, tag-within}
 use Rattle.datum.proofs.Signed.{back, pos-fits, neg-fits, back-pos, sub-pos, sub-neg, sub-fits, same-bits}
@@ -61,17 +61,6 @@ no-bits m (((((((((u, a), b), c), d), e), f), g), h)) =
     )
 
 -- has_fixed_day: a bit of the month is the list's word on the day, for every month and day
-agree : Bool → Bool → Bool
-agree true b = b
-agree false b = not b
-
-agree-is : (a b : Bool) → agree a b ≡ true → a ≡ b
-unfolding agree
-agree-is true true t = refl
-agree-is true false t = sym t
-agree-is false true t = t
-agree-is false false t = refl
-
 abbrev bit-of : ℕ → ℕ → Bool
 bit-of m d = eqb (fixedBits m / 2 ^ d % 2) 1
 

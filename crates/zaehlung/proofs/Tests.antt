@@ -1,8 +1,9 @@
--- Two tests, both of which are to hold.
+-- Two tests.
 --   and-left, and-right   both hold: so does either
 --   and-yes, and-no       beside a test that holds the other decides; beside one that fails both fail
+--   agree a b             = whether they say the same, as a test that computes; agree-is, then they are the same
 -- Assumes nothing.
-use mathlib.Core.Bool.{Bool, true, false, _&&_}
+use mathlib.Core.Bool.{Bool, true, false, not, _&&_}
 use mathlib.Core.Path.{_≡_, refl, sym, subst}
 use lib.Dec.{T}
 
@@ -21,3 +22,14 @@ and-yes false = refl
 pub and-no : (a : Bool) → (a && false) ≡ false
 and-no true = refl
 and-no false = refl
+
+unfoldable pub agree : Bool → Bool → Bool
+agree true b = b
+agree false b = not b
+
+pub agree-is : (a b : Bool) → agree a b ≡ true → a ≡ b
+unfolding agree
+agree-is true true t = refl
+agree-is true false t = sym t
+agree-is false true t = t
+agree-is false false t = refl

@@ -1,54 +1,51 @@
--- `datum::month_of` meets its contract. The invariant: the month starts by the day; the loop ends where the next starts
--- after it.
+-- `datum::month_of` meets its contract: computed for every day, in a common year and in a leap year.
 -- Assumes nothing.
-use Prim.Native.Nat.{_≤_, _-_}
-use Rattle.datum.specs.Calendar.{monthStart}
-use Rattle.datum.proofs.Rules.{month-rules}
+use Rattle.datum.proofs.Rules.{month-rules, month-early-leap, month-late-leap, month-early-common, month-late-common}
 use borrow.Author.Needs.{needs}
 use Rattle.datum.proofs.month_of.Statement.{statement}
 use Rattle.datum.proofs.month_of.Tie as tie
 
-abbrev Inv-loop : tie.InvT-loop
-Inv-loop leap day month₀ month = (1 ≤ month) × (month ≤ 12) × (monthStart leap month ≤ day)
+month-in-367-requires : tie.Need-month-in-367-requires
+month-in-367-requires c κs = search needs
 
-abbrev μ-loop : tie.MeasureT-loop
-μ-loop leap day month₀ month = 12 - month
+returns : tie.Need-returns
+returns c = month-early-leap _ _ _ (search needs) (search needs) (search needs)
 
-add-month : tie.Need-add-month Inv-loop μ-loop
-add-month c = search (needs, month-rules)
+add-month-in-367 : tie.Need-add-month-in-367
+add-month-in-367 c = search (needs, month-rules)
 
-loop-holds : tie.Need-loop-holds Inv-loop μ-loop
-loop-holds c = search (needs, month-rules)
+month-in-367-requires-2 : tie.Need-month-in-367-requires-2
+month-in-367-requires-2 c κs = search (needs, month-rules)
 
-add-month-start : tie.Need-add-month-start Inv-loop μ-loop
-add-month-start c = search (needs, month-rules)
+returns-2 : tie.Need-returns-2
+returns-2 c = month-late-leap _ _ _ (search needs) (search needs) (search needs) (search needs)
 
-month-start-requires : tie.Need-month-start-requires Inv-loop μ-loop
-month-start-requires c κs = search (needs, month-rules)
+month-in-367-requires-3 : tie.Need-month-in-367-requires-3
+month-in-367-requires-3 c κs = search needs
 
-add-month-2 : tie.Need-add-month-2 Inv-loop μ-loop
-add-month-2 c = search (needs, month-rules)
+returns-3 : tie.Need-returns-3
+returns-3 c = month-early-common _ _ _ (search needs) (search needs) (search needs)
 
-loop-less : tie.Need-loop-less Inv-loop μ-loop
-loop-less c = search (needs, month-rules)
+add-month-in-367-2 : tie.Need-add-month-in-367-2
+add-month-in-367-2 c = search (needs, month-rules)
 
-loop-again : tie.Need-loop-again Inv-loop μ-loop
-loop-again c = search (needs, month-rules)
+month-in-367-requires-4 : tie.Need-month-in-367-requires-4
+month-in-367-requires-4 c κs = search (needs, month-rules)
 
-returns : tie.Need-returns Inv-loop μ-loop
-returns c = search (needs, month-rules)
+returns-4 : tie.Need-returns-4
+returns-4 c = month-late-common _ _ _ (search needs) (search needs) (search needs) (search needs)
 
 pub month-of-spec : {M : Type 1} → statement M
 month-of-spec =
     tie.close
     (tie.spec
-    Inv-loop
-    μ-loop
-    add-month
-    loop-holds
-    add-month-start
-    month-start-requires
-    add-month-2
-    loop-less
-    loop-again
-    returns)
+    month-in-367-requires
+    returns
+    add-month-in-367
+    month-in-367-requires-2
+    returns-2
+    month-in-367-requires-3
+    returns-3
+    add-month-in-367-2
+    month-in-367-requires-4
+    returns-4)
