@@ -19,11 +19,12 @@ use Rattle.datum.specs.declared.Date.{Date}
 use Rattle.datum.specs.declared.Index.the-variants.{Day, NoDate}
 use Rattle.datum.specs.Calendar.{isLeap, yearStart, yearOf, months, daysInMonth, monthStart, monthOf, dateIn}
 use Rattle.datum.specs.Calendar.{dateOf, daysBefore, indexOf, isDate}
+use Rattle.datum.specs.Number.{numberOf, partsOf}
 use Rattle.zaehlung.proofs.Every.{run, run-at}
 use Rattle.zaehlung.proofs.Tests.{and-left, and-right, and-yes, agree, agree-is}
 use Rattle.datum.proofs.Years.{closed, year-found, year-le, start-none}
 use Rattle.datum.proofs.Dates.{all-le, at-most, len-le, months-sum, month-first, start-month, month-found}
-use Rattle.datum.proofs.Dates.{valid-is, is-valid, len-ge, index-below, year-below}
+use Rattle.datum.proofs.Dates.{valid-is, is-valid, len-ge, index-below, index-date, year-below}
 
 -- is_leap: what 4 and 16 say of a multiple of 25
 mult-25 : (y : ℕ) → y % 25 ≡ 0 → y ≡ 25 * (y / 25)
@@ -440,3 +441,45 @@ module _ (i y x : ℕ) (h : i ≤ last) (e : y ≡ yearOf i .0) (f : x ≡ yearO
           b ∙ ap₂ dateIn e f
 
 pub ruleset date-rules = (day-in-year, month-by, day-fits, day-fits-32, date-is)
+
+-- date_number, date_of: a date and its number
+year-part : (y m d : ℕ) → y ≤ 2899 → (y + 65536 * m + 16777216 * d) % 65536 ≡ y
+year-part y m d g = omega arith
+
+above-year : (y m d : ℕ) → y ≤ 2899 → (y + 65536 * m + 16777216 * d) / 65536 ≡ m + 256 * d
+above-year y m d g = omega arith
+
+below-day : (m d : ℕ) → m ≤ 12 → (m + 256 * d) % 256 ≡ m
+below-day m d k = omega arith
+
+day-part : (y m d : ℕ) → y ≤ 2899 → m ≤ 12 → (y + 65536 * m + 16777216 * d) / 16777216 ≡ d
+day-part y m d g k = omega arith
+
+parted : (d : Date) → d .year ≤ 2899 → d .month ≤ 12 → partsOf (numberOf d) ≡ d
+parted d g k =
+    rw (
+      year-part (d .year) (d .month) (d .day) g,
+      above-year (d .year) (d .month) (d .day) g,
+      below-day (d .month) (d .day) k,
+      day-part (d .year) (d .month) (d .day) g k,
+    )
+
+module _ (i : ℕ) (h : i ≤ last) where
+  abbrev of-index : Date
+  of-index = dateOf i
+
+  in-range : (of-index .year ≤ 2899) × (of-index .month ≤ 12) × (of-index .day ≤ 31)
+  in-range =
+      let v = index-date i h .0 in
+      (v .to, v .month-to, omega (arith, v .day-to, len-le (isLeap (of-index .year)) (of-index .month)))
+
+  pub number-is : (d : Date) → d ≡ dateOf i → numberOf d ≡ numberOf (dateOf i)
+  number-is d e = ap numberOf e
+
+  pub number-fits : (d : Date) → d ≡ dateOf i → Fits w32 (numberOf d)
+  number-fits d e = rw e (record { fits = omega (arith, in-range) })
+
+  pub parts-are : (n : ℕ) (r : Date) → n ≡ numberOf (dateOf i) → r ≡ partsOf n → r ≡ dateOf i
+  parts-are n r e p = p ∙ ap partsOf e ∙ parted of-index (in-range .0) (in-range .1)
+
+pub ruleset number-rules = (number-is, number-fits, parts-are)

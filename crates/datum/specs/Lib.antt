@@ -1,4 +1,5 @@
 pub mod Calendar
+pub mod Number
 pub mod Floor
 pub mod MonthShift
 pub mod Monate

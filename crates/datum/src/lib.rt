@@ -8,6 +8,7 @@ ghost use lib.IntN.{pos};
 ghost use Rattle.zaehlung.specs.Walk.{last, bit};
 ghost use Rattle.datum.specs.Calendar.{isLeap, yearStart, yearOf, daysInMonth, monthStart, monthOf};
 ghost use Rattle.datum.specs.Calendar.{firstYear, lastYear, isDate, daysBefore, indexOf, dateOf, weekday};
+ghost use Rattle.datum.specs.Number.{numberOf, partsOf};
 ghost use Rattle.datum.specs.Floor.{floorDiv, floorMod};
 ghost use Rattle.datum.specs.MonthShift.{ordinalOf, inMonth, onMonth, addMonths, subtractMonths};
 
@@ -244,10 +245,8 @@ pub fn index_of(date: Date) -> Index
     Index::NoDate
 }
 
-/// The date of an index of the calendar: `index_of` undoes it.
-///
-/// 0 is 1 January 1996, 59 is 29 February 1996, 330,179 is 31 December 2899.
-pub fn date_of(index: u32) -> Date
+/// The parts of an index's date: its year, the month in it and the day in that.
+fn date_parts(index: u32) -> Date
     requires { ⌜ index ≤ last ⌝ }
     ensures { λ r. ⌜ r ≡ dateOf index ⌝ }
 {
@@ -261,6 +260,36 @@ pub fn date_of(index: u32) -> Date
         month: month as u8,
         day: (day - month_start(leap, month) + 1) as u8,
     }
+}
+
+/// A date as one number, which a call returns in a register; three parts would go through memory.
+fn date_number(index: u32) -> u32
+    requires { ⌜ index ≤ last ⌝ }
+    ensures { λ r. ⌜ r ≡ numberOf (dateOf index) ⌝ }
+{
+    let date = date_parts(index);
+    (date.year as u32) + 65536 * (date.month as u32) + 16777216 * (date.day as u32)
+}
+
+/// The date in its number.
+fn date_from(number: u32) -> Date
+    ensures { λ r. ⌜ r ≡ partsOf number ⌝ }
+{
+    Date {
+        year: (number % 65536) as u16,
+        month: (number / 65536 % 256) as u8,
+        day: (number / 16777216) as u8,
+    }
+}
+
+/// The date of an index of the calendar: `index_of` undoes it.
+///
+/// 0 is 1 January 1996, 59 is 29 February 1996, 330,179 is 31 December 2899.
+pub fn date_of(index: u32) -> Date
+    requires { ⌜ index ≤ last ⌝ }
+    ensures { λ r. ⌜ r ≡ dateOf index ⌝ }
+{
+    date_from(date_number(index))
 }
 
 /// The weekday of a day given by its index, Monday 0 to Sunday 6.

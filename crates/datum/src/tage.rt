@@ -32,7 +32,7 @@ pub fn tag_at(index: u32) -> Tag
 {
     Tag {
         index,
-        date: super::date_of(index),
+        date: super::date_from(super::date_number(index)),
     }
 }
 

@@ -63,13 +63,17 @@ fn instant_later(from: Moment, days: u32, seconds: u32) -> Due
     Due::Outside
 }
 
-/// The clock on a day.
+/// The clock on a day. The instant is put together part by part: copied whole, it would go through memory twice.
 fn clock_on(day: u32, at: Clock) -> Due
     requires { ⌜ (day ≤ last) × ProperClock at ⌝ }
     ensures { λ r. ⌜ (r ≡ clockOn day at) × properDue r ⌝ }
 {
     match berlin::berlin_at(day, at) {
-        Resolved::At(due) => Due::At(due),
+        Resolved::At(due) => Due::At(Moment {
+            utcday: due.utcday,
+            second: due.second,
+            nanos: due.nanos,
+        }),
         Resolved::Absent => Due::Absent,
     }
 }
