@@ -50,6 +50,10 @@ use Rattle.fristen.specs.Fristen.{gasInitialprozessPids, isInitial, aper
 use Rattle.fristen.specs.FristShape.{sameDayAt, sameDay, dueAtOf}
 use Rattle.fristen.specs.Inside.{properDue, properShape}
 
+-- in_parts
+pub parts-of : (x : Due) (a : Moment) → x ≡ At a → At (record { utcday = a .utcday; second = a .second; nanos = a .nanos }) ≡ x
+parts-of x a e = sym e
+
 -- clock_on: x is what `berlin_at` returned
 module _ (d : ℕ) (c : Clock) (x : Resolved) (e : x ≡ berlinAt d c) where
   pub clock-shown : (a : Moment) → x ≡ Shown a → At a ≡ clockOn d c
@@ -277,6 +281,15 @@ pub nth-at :
 unfolding nthWerktagAt
 nth-at w m n k d c r p g l = rw (← g, ← p) l
 
+-- z is what `in_parts` returned for r
+pub nth-at-parts :
+    (w : ℕ → Bool) (m : Moment) (n k d : ℕ) (c : Clock) (r z : Due) → d ≡ receiptDay m → k ≡ atLeastOne n →
+    r ≡ nthWerktagOn w d k c → z ≡ r → z ≡ nthWerktagAt w m n c
+nth-at-parts w m n k d c r z p g l e = e ∙ nth-at w m n k d c r p g l
+
+pub parts-proper : (r z : Due) → z ≡ r → properDue r → properDue z
+parts-proper r z e h = rw e h
+
 -- end_of_werktag_after: d is the receipt day
 module _ (w : ℕ → Bool) (m : Moment) (k d : ℕ) (x : Step) (p : d ≡ receiptDay m) (e : x ≡ add w d k) where
   step-is : (y : Step) → x ≡ y → add w (receiptDay m) k ≡ y
@@ -290,7 +303,7 @@ module _ (w : ℕ → Bool) (m : Moment) (k d : ℕ) (x : Step) (p : d ≡ recei
   unfolding endOfWerktagAfter
   end-day y r q l = rw (step-is (Day y) q, l)
 
-pub ruleset werktag-rules = (reached, on-out, on-day, nth-at, end-out, end-day, end-proper)
+pub ruleset werktag-rules = (reached, on-out, on-day, nth-at-parts, parts-proper, end-out, end-day, end-proper)
 
 -- same_day_at: d is the receipt day, x what `berlin_at` returned, b what `is_werktag` and f what `is_before` returned
 module _ (w : ℕ → Bool) (m : Moment) (c : Clock) (d : ℕ) (x : Resolved) (p : d ≡ receiptDay m) (e : x ≡ berlinAt d c)

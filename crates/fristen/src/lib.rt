@@ -63,7 +63,23 @@ fn instant_later(from: Moment, days: u32, seconds: u32) -> Due
     Due::Outside
 }
 
-/// The clock on a day. The instant is put together part by part: copied whole, it would go through memory twice.
+/// A due instant, taken apart and put together again: copied whole, what a call just wrote part by part would have to
+/// wait for memory.
+fn in_parts(due: Due) -> Due
+    ensures { λ r. ⌜ r ≡ due ⌝ }
+{
+    match due {
+        Due::At(at) => Due::At(Moment {
+            utcday: at.utcday,
+            second: at.second,
+            nanos: at.nanos,
+        }),
+        Due::Absent => Due::Absent,
+        Due::Outside => Due::Outside,
+    }
+}
+
+/// The clock on a day, its instant put together part by part.
 fn clock_on(day: u32, at: Clock) -> Due
     requires { ⌜ (day ≤ last) × ProperClock at ⌝ }
     ensures { λ r. ⌜ (r ≡ clockOn day at) × properDue r ⌝ }
@@ -339,7 +355,7 @@ pub fn nth_werktag_at(received: Moment, n: u32, at: Clock, cal: HolidayCalendar)
     ensures { λ r. ⌜ (r ≡ nthWerktagAt (isWerktag cal) received n at) × properDue r ⌝ }
 {
     let day = berlin::berlin_date(received);
-    nth_werktag_on(day, at_least_one(n), at, cal)
+    in_parts(nth_werktag_on(day, at_least_one(n), at, cal))
 }
 
 /// The end of the n-th Werktag after the receipt day: GeLi Gas, 'bis zum Ablauf des n. Werktags nach Eingang'.

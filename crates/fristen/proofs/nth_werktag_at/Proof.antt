@@ -14,9 +14,12 @@ at-least-one-requires c κs = search needs
 nth-werktag-on-requires : tie.Need-nth-werktag-on-requires
 nth-werktag-on-requires c κs = search needs
 
+in-parts-requires : tie.Need-in-parts-requires
+in-parts-requires c κs = search needs
+
 returns : tie.Need-returns
 returns c = search (needs, werktag-rules)
 
 pub nth-werktag-at-spec : {M : Type 1} → statement M
 nth-werktag-at-spec =
-    tie.close (tie.spec berlin-date-requires at-least-one-requires nth-werktag-on-requires returns)
+    tie.close (tie.spec berlin-date-requires at-least-one-requires nth-werktag-on-requires in-parts-requires returns)
