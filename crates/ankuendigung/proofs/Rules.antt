@@ -48,7 +48,8 @@ module _ (w : ℕ → Bool) (m n : Moment) (i : ℕ) (b : Bool) (g : n ≡ berli
   unfolding eogAnkuendigungFristgerecht
   neither t = rw (at-midnight false (not-true b t))
 
-  pub no-werktag : (s : TagStep) → not b ≡ false → s ≡ tagStep (sub w i 1) → s ≡ Gone → Outside ≡ eogAnkuendigungFristgerecht w m i
+  pub no-werktag :
+      (s : TagStep) → not b ≡ false → s ≡ tagStep (sub w i 1) → s ≡ Gone → Outside ≡ eogAnkuendigungFristgerecht w m i
   unfolding eogAnkuendigungFristgerecht
   no-werktag s t p q = rw (at-midnight true (not-false b t), gone s (sub w i 1) p q)
 

@@ -109,7 +109,8 @@ step-day s t r e q p =
     let z : t .date ≡ dateOf (t .index) = ap (λ (x : Tag). x .date) (at-tag s (stepIndex s) e t q) in
     p ∙ ap dated z ∙ sym (ap (λ (x : TagStep). stepAnswer (stepIndex x)) q)
 
-pub step-out : (s : TagStep) (r : Answer) → s ≡ reached.Outside → r ≡ refused leavesCalendar → r ≡ stepAnswer (stepIndex s)
+pub step-out :
+    (s : TagStep) (r : Answer) → s ≡ reached.Outside → r ≡ refused leavesCalendar → r ≡ stepAnswer (stepIndex s)
 step-out s r e q = rw e q
 
 pub shift-on : (s : Shifted) (d : Date) (r : Answer) → s ≡ On d → r ≡ dated d → r ≡ shiftAnswer s

@@ -2,7 +2,7 @@
 -- form in which they stand there.
 -- Assumes nothing.
 use Prim.Native.Nat.{ℕ, _≤_}
-use mathlib.Core.Bool.{Bool, true, false, not}
+use mathlib.Core.Bool.{Bool, false, not}
 use mathlib.Core.Path.{_≡_, sym, ap, ap₂, _∙_}
 use Rattle.zaehlung.specs.Walk.{last}
 use Rattle.datum.specs.declared.Date.{Date}

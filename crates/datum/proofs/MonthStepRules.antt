@@ -14,7 +14,6 @@ use Prim.Native.Nat.{ℕ, _≤_, _<_}
 use mathlib.Core.Bool.{true}
 use mathlib.Core.Path.{_≡_, refl, sym, ap, _∙_}
 use native.Mathlib.Omega.{arith}
-use Rattle.zaehlung.specs.declared.Step.{Step}
 use Rattle.zaehlung.specs.declared.Step.the-variants.{Day}
 use Rattle.zaehlung.specs.declared.Step.the-variants.{Outside as Left}
 use Rattle.zaehlung.specs.Walk.{last}

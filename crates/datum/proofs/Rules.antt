@@ -4,11 +4,10 @@
 use Prim.Native.Nat.{ℕ, zero, suc, _+_, _*_, _-_, _/_, _%_, _≤_, _<_}
 use mathlib.Core.Bool.{Bool, true, false, not, _&&_, _||_}
 use mathlib.Core.Path.{_≡_, refl, sym, ap, ap₂, _∙_}
-use mathlib.Core.List.{List, [], _∷_}
 use native.Mathlib.Omega.{arith}
-use native.Mathlib.Decide.{decLe, decLt}
+use native.Mathlib.Decide.{decLt}
 use lib.Dec.{eqb, leb}
-use lib.ListN.{getD, List·getD-eq-default}
+use lib.ListN.{List·getD-eq-default}
 use mir.Syntax.{w8, w32}
 use mir.Val.{Fits}
 use borrow.Author.Tests.{eqb-true, leb-true, eq-eqb, ne-eqb, le-leb, lt-leb}
@@ -23,7 +22,7 @@ use Rattle.datum.specs.Number.{numberOf, partsOf}
 use Rattle.zaehlung.proofs.Every.{run, run-at}
 use Rattle.zaehlung.proofs.Tests.{and-left, and-right, and-yes, agree, agree-is}
 use Rattle.datum.proofs.Years.{closed, year-found, year-le, start-none}
-use Rattle.datum.proofs.Dates.{all-le, at-most, len-le, months-sum, month-first, start-month, month-found}
+use Rattle.datum.proofs.Dates.{len-le, months-sum, month-first}
 use Rattle.datum.proofs.Dates.{valid-is, is-valid, len-ge, index-below, index-date, year-below}
 
 -- is_leap: what 4 and 16 say of a multiple of 25

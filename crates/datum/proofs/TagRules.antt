@@ -20,10 +20,12 @@ use Rattle.zaehlung.specs.Walk.{last}
 use Rattle.zaehlung.proofs.BlockLaws.{start-suc, start-mono, at-sum}
 use Rattle.datum.specs.declared.Date.{Date}
 use Rattle.datum.specs.declared.tage.Tag.{Tag}
-use Rattle.datum.specs.Calendar.{isLeap, yearLen, yearStart, yearOf, daysInMonth, monthStart, daysBefore, dateIn, dateOf}
+use Rattle.datum.specs.Calendar.{isLeap, yearLen, yearStart, yearOf, daysInMonth, monthStart, daysBefore, dateIn}
+use Rattle.datum.specs.Calendar.{dateOf}
 use Rattle.datum.specs.Tage.{tagAt}
 use Rattle.datum.proofs.Years.{start-all, start-none}
-use Rattle.datum.proofs.Dates.{Valid, len-le, len-ge, months-sum, month-first, yearLen-at, date-index, index-date}
+use Rattle.datum.proofs.Dates.{Valid, len-le, len-ge, months-sum, month-first, yearLen-at, date-index}
+use Rattle.datum.proofs.Dates.{index-date}
 
 pub tag-is : (d : Date) (j : ℕ) → Valid d → daysBefore d ≡ j → record { index = j; date = d } ≡ tagAt j
 tag-is d j v q =
@@ -108,7 +110,8 @@ module _ (t : Tag) (e : t ≡ tagAt (t .index)) (h : t .index ≤ last) where
   pub new-year-index : (r : ℕ) → r ≡ y .1 → t .index - r ≡ t .index - y .1
   new-year-index r q = ap (λ (x : ℕ). t .index - x) q
 
-pub ruleset year-rules = (year-from, year-by, year-within, year-number, start-by, day-number, day-by, new-year, new-year-index)
+pub ruleset year-rules =
+    (year-from, year-by, year-within, year-number, start-by, day-number, day-by, new-year, new-year-index)
 
 -- a year with another after it
 last-year : (k : ℕ) → yearStart (suc k) ≤ last → k < 903

@@ -100,8 +100,8 @@ pub fn days_in_month(leap: bool, month: u8) -> u8
     30 + (month + month / 8) % 2
 }
 
-/// Days of the year before a month; month 13 stands for the year's end. If February had 30 days, a year of 367 days would
-/// spread over its months evenly but for rounding.
+/// Days of the year before a month; month 13 stands for the year's end. If February had 30 days, a year of 367 days
+/// would spread over its months evenly but for rounding.
 fn month_start(leap: bool, month: u32) -> u32
     requires { ⌜ (1 ≤ month) × (month ≤ 13) ⌝ }
     ensures { λ r. ⌜ (r ≡ monthStart leap month) × (r ≤ 366) ⌝ }

@@ -93,13 +93,14 @@ pub fn later_in_month(tag: Tag, days: u8) -> Tag
     }
 }
 
-/// The day `days` days later, up to four weeks, past the end of a month of `length` days: what the month lacks is carried
-/// over into the next, and from December into the next year.
+/// The day `days` days later, up to four weeks, past the end of a month of `length` days: what the month lacks is
+/// carried over into the next, and from December into the next year.
 ///
 /// From 30 December 2026 with 3: 2 January 2027.
 pub fn into_next_month(tag: Tag, length: u8, days: u8) -> Tag
     requires { ⌜ (tag ≡ tagAt (tag .index)) × (days ≤ 28) × (tag .index + days ≤ last) ⌝ }
-    requires { ⌜ (length ≡ daysInMonth (isLeap (tag .date .year)) (tag .date .month)) × (length < tag .date .day + days) ⌝ }
+    requires { ⌜ length ≡ daysInMonth (isLeap (tag .date .year)) (tag .date .month) ⌝ }
+    requires { ⌜ length < tag .date .day + days ⌝ }
     ensures { λ r. ⌜ r ≡ tagAt (tag .index + days) ⌝ }
 {
     let index = tag.index + (days as u32);

@@ -9,7 +9,7 @@
 --   shape-rules       due_at
 --   due-proper        for the crates above: the instant of a due instant that is promised proper
 -- Assumes nothing.
-use Prim.Native.Nat.{ℕ, _+_, _-_, _*_, _≤_, _<_}
+use Prim.Native.Nat.{ℕ, _+_, _*_, _≤_, _<_}
 use mathlib.Core.Bool.{Bool, true, false, not}
 use mathlib.Core.Path.{_≡_, refl, sym, ap, _∙_}
 use native.Mathlib.Omega.{arith}
@@ -51,7 +51,8 @@ use Rattle.fristen.specs.FristShape.{sameDayAt, sameDay, dueAtOf}
 use Rattle.fristen.specs.Inside.{properDue, properShape}
 
 -- in_parts
-pub parts-of : (x : Due) (a : Moment) → x ≡ At a → At (record { utcday = a .utcday; second = a .second; nanos = a .nanos }) ≡ x
+pub parts-of :
+    (x : Due) (a : Moment) → x ≡ At a → At (record { utcday = a .utcday; second = a .second; nanos = a .nanos }) ≡ x
 parts-of x a e = sym e
 
 -- clock_on: x is what `berlin_at` returned

@@ -1,10 +1,11 @@
 -- What the proofs of the walks cite, with premises in the form in which they stand there.
 --   stand-rules     where a walk stands after some days on or back
 --   weekday-rules   the days to the next weekday and back to the last
---   on-rules, back-rules, count-rules  a turn and a return of each walk: from weekday to weekday, the days between being
+--   on-rules, back-rules, count-rules  a turn and a return of each walk: from weekday to weekday, the days between
+--   being
 --                   weekend. x is what the walk has to give, and the invariant says that the walk from here on gives it
 -- Assumes nothing.
-use Prim.Native.Nat.{ℕ, zero, suc, _+_, _-_, _%_, _≤_, _<_}
+use Prim.Native.Nat.{ℕ, _+_, _-_, _%_, _≤_, _<_}
 use mathlib.Core.Bool.{Bool, true, false}
 use mathlib.Core.Path.{_≡_, sym, ap, _∙_}
 use native.Mathlib.Omega.{arith}
@@ -27,7 +28,6 @@ use Rattle.werktag.specs.Easter.{easterFor}
 use Rattle.werktag.specs.Werktag.{isWerktag}
 use Rattle.werktag.proofs.Reasons.{weekend-shut}
 use Rattle.werktag.proofs.Rules.{tag-rules}
-use Rattle.datum.specs.declared.tage.TagStep.{TagStep}
 use Rattle.datum.specs.declared.tage.TagStep.the-variants as reached
 use Rattle.gang.specs.Stand.{toWeekday, fromWeekday}
 
@@ -291,4 +291,5 @@ pub ruleset on-rules = (below-week, on-reaches, on-edge, on-open, on-shut, on-do
 
 pub ruleset back-rules = (below-week, back-reaches, back-edges, back-opens, back-shuts, back-done)
 
-pub ruleset count-rules = (below-week, on-reaches, from-by, count-start, count-more, count-open, count-shut, count-done, count-end)
+pub ruleset count-rules =
+    (below-week, on-reaches, from-by, count-start, count-more, count-open, count-shut, count-done, count-end)

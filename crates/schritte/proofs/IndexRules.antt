@@ -17,10 +17,10 @@ use mir.Syntax.{w32}
 use mir.Val.{Fits}
 use Rattle.zaehlung.specs.declared.Step.{Step}
 use Rattle.zaehlung.specs.declared.Step.the-variants.{Day, Outside}
-use Rattle.zaehlung.specs.Walk.{last, among, count, onStep, dayAfter, add, sub, W, between}
+use Rattle.zaehlung.specs.Walk.{last, among, count, add, sub, between}
 use Rattle.zaehlung.proofs.Count.{count-none, count-mono, count-among}
 use Rattle.zaehlung.proofs.BlockLaws.{start-suc, start-mono, at-sum}
-use Rattle.zaehlung.proofs.Laws.{add-add, sub-add, W-add, add-out-iff, sub-out-iff, W-out-iff}
+use Rattle.zaehlung.proofs.Laws.{add-add, sub-add, add-out-iff, sub-out-iff}
 use Rattle.zaehlung.proofs.Laws.{between-count, between-later}
 use Rattle.datum.specs.Calendar.{yearLen, yearStart, yearOf}
 use Rattle.datum.proofs.Years.{start-none, start-all, yearLen-bounds}
@@ -155,7 +155,8 @@ module _ (cal : HolidayCalendar) where
             (omega (arith, first-closed, count-among w (yearStart k) (days + 1), fewer))
 
         -- f is the day from which the rest is walked, x what the walk gave
-        module _ (f : Tag) (x : TagStep) (z : f ≡ tagAt (s + days)) (i : x ≡ tagStep (add w (f .index) (n - b - m))) where
+        module _
+            (f : Tag) (x : TagStep) (z : f ≡ tagAt (s + days)) (i : x ≡ tagStep (add w (f .index) (n - b - m))) where
           walked : add w (f .index) (n - b - m) ≡ add w 0 n
           walked = ap (λ (y : Tag). add w (y .index) (n - b - m)) z ∙ nth
 
@@ -201,7 +202,8 @@ pub ruleset kind-rules = (kind-add, kind-sub)
 
 pub ruleset day-rules = (sum-most, sum-fits, sum-at, day-at, next-at, in-year, next-in-year, next-fits)
 
-pub ruleset nth-rules = (all-of, rest-few, days-few, days-in, fewer, fewer-by, guess-in, tag-again, tag-within, nth-is, nth-out)
+pub ruleset nth-rules =
+    (all-of, rest-few, days-few, days-in, fewer, fewer-by, guess-in, tag-again, tag-within, nth-is, nth-out)
 
 pub ruleset step-rules = (add-outside, add-is, sub-outside, sub-is)
 

@@ -91,7 +91,8 @@ module _ (w : ℕ → Bool) where
         W-gone q =
             ap tagStep (sym (by-add ∙ ap (λ (x : Step). onStep Outside x dayAfter) (gone s (add w i m) u q)))
 
-        pub W-is : (v : Tag) (x : TagStep) → s ≡ reached.At v → x ≡ tagStep (dayAfter (v .index)) → x ≡ tagStep (W w i n)
+        pub W-is :
+            (v : Tag) (x : TagStep) → s ≡ reached.At v → x ≡ tagStep (dayAfter (v .index)) → x ≡ tagStep (W w i n)
         W-is v x q r =
             r
             ∙ ap tagStep (sym (by-add ∙ ap (λ (x : Step). onStep Outside x dayAfter) (at-day s (add w i m) u v q)))
@@ -117,7 +118,8 @@ module _ (w : ℕ → Bool) (d n : ℕ) (f : Tag) (e : f ≡ tagAt d) where
   pub after-index : (r : Step) → r ≡ add w (f .index) n → r ≡ add w d n
   after-index r p = p ∙ from-index
 
-  pub after-day-index : (s : TagStep) (t : Tag) → s ≡ tagStep (add w (f .index) n) → s ≡ reached.At t → Day (t .index) ≡ add w d n
+  pub after-day-index :
+      (s : TagStep) (t : Tag) → s ≡ tagStep (add w (f .index) n) → s ≡ reached.At t → Day (t .index) ≡ add w d n
   after-day-index s t p q = sym (at-day s (add w (f .index) n) p t q) ∙ from-index
 
   pub after-gone-index : (s : TagStep) → s ≡ tagStep (add w (f .index) n) → s ≡ reached.Outside → Outside ≡ add w d n

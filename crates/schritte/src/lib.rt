@@ -1,6 +1,6 @@
-// Steps over Werktage and the count of Werktage. A day is taken apart, its index from 1 January 1996 beside its date, and
-// so is the day that a step reaches. What a step or a count is, is defined in zaehlung for any test of a day, day by
-// day; here the test is the holiday list's. Few Werktage are walked, many are counted through the year index.
+// Steps over Werktage and the count of Werktage. A day is taken apart, its index from 1 January 1996 beside its date,
+// and so is the day that a step reaches. What a step or a count is, is defined in zaehlung for any test of a day, day
+// by day; here the test is the holiday list's. Few Werktage are walked, many are counted through the year index.
 ghost use mathlib.Core.Path.{_≡_};
 ghost use Prim.Native.Nat.{_-_, _≤_};
 ghost use Rattle.zaehlung.specs.Walk.{last, bit, dayAfter, dayBefore, add, sub, next, W, between};
@@ -46,9 +46,9 @@ pub fn day_before(day: Tag) -> TagStep
 
 /// Up to so many Werktage a step is walked, and up to so many days a count. From there on the index is faster, whatever
 /// the date (docs/BENCHMARKS.md).
-const FEW_WERKTAGE: u32 = 30;
+const FEW_WERKTAGE: u32 = 60;
 
-const FEW_DAYS: u32 = 15;
+const FEW_DAYS: u32 = 50;
 
 /// The `n`-th Werktag after `from`, or `Outside` where that would be past the calendar's last day.
 ///

@@ -57,50 +57,58 @@ module _ (s u : TagStep) (f l : Tag) (p : s ≡ At f) (q : u ≡ At l) where
 
 module _ (w : ℕ → Bool) (t : ℕ) where
   pub span-before :
-      (s : VorlaufShape) (n : ℕ) (r : TagStep) (v : Span) → s ≡ LatestWerktageBefore n → r ≡ tagStep (W w t n) → v ≡ spanFrom (stepIndex r) →
+      (s : VorlaufShape) (n : ℕ) (r : TagStep) (v : Span) → s ≡ LatestWerktageBefore n → r ≡ tagStep (W w t n) →
+      v ≡ spanFrom (stepIndex r) →
       v ≡ spanOf w s t
   unfolding spanOf
   span-before s n r v e p q = rw (e, ← index-of-step r (W w t n) p) q
 
   pub span-window :
       (s : VorlaufShape) (n m : ℕ) (r u : TagStep) (v : Span) →
-      s ≡ WindowWerktageBefore n m → r ≡ tagStep (W w t m) → u ≡ tagStep (add w t n) → v ≡ spanBetween (stepIndex r) (stepIndex u) → v ≡ spanOf w s t
+      s ≡ WindowWerktageBefore n m → r ≡ tagStep (W w t m) → u ≡ tagStep (add w t n) →
+      v ≡ spanBetween (stepIndex r) (stepIndex u) → v ≡ spanOf w s t
   unfolding spanOf
   span-window s n m r u v e p k q = rw (e, ← index-of-step r (W w t m) p, ← index-of-step u (add w t n) k) q
 
   pub span-after :
-      (s : VorlaufShape) (n : ℕ) (r : TagStep) (v : Span) → s ≡ LatestWerktageAfter n → r ≡ tagStep (sub w t n) → v ≡ spanFrom (stepIndex r) →
+      (s : VorlaufShape) (n : ℕ) (r : TagStep) (v : Span) → s ≡ LatestWerktageAfter n → r ≡ tagStep (sub w t n) →
+      v ≡ spanFrom (stepIndex r) →
       v ≡ spanOf w s t
   unfolding spanOf
   span-after s n r v e p q = rw (e, ← index-of-step r (sub w t n) p) q
 
   pub span-earliest :
-      (s : VorlaufShape) (n : ℕ) (r : TagStep) (v : Span) → s ≡ EarliestWerktageAfter n → r ≡ tagStep (add w t n) → v ≡ spanFrom (stepIndex r) →
+      (s : VorlaufShape) (n : ℕ) (r : TagStep) (v : Span) → s ≡ EarliestWerktageAfter n → r ≡ tagStep (add w t n) →
+      v ≡ spanFrom (stepIndex r) →
       v ≡ spanOf w s t
   unfolding spanOf
   span-earliest s n r v e p q = rw (e, ← index-of-step r (add w t n) p) q
 
   pub span-korridor :
       (s : VorlaufShape) (n : ℕ) (r u : TagStep) (v : Span) →
-      s ≡ Korridor n → r ≡ tagStep (sub w t n) → u ≡ tagStep (add w t n) → v ≡ spanBetween (stepIndex r) (stepIndex u) → v ≡ spanOf w s t
+      s ≡ Korridor n → r ≡ tagStep (sub w t n) → u ≡ tagStep (add w t n) →
+      v ≡ spanBetween (stepIndex r) (stepIndex u) → v ≡ spanOf w s t
   unfolding spanOf
   span-korridor s n r u v e p k q = rw (e, ← index-of-step r (sub w t n) p, ← index-of-step u (add w t n) k) q
 
   pub span-tag :
       (s : VorlaufShape) (r : TagStep) (v : Span) →
-      s ≡ TagVorDemLetztenWerktagVor → r ≡ tagStep (onStep Left (add w t 1) dayAfter) → v ≡ spanFrom (stepIndex r) → v ≡ spanOf w s t
+      s ≡ TagVorDemLetztenWerktagVor → r ≡ tagStep (onStep Left (add w t 1) dayAfter) → v ≡ spanFrom (stepIndex r) →
+      v ≡ spanOf w s t
   unfolding spanOf
   span-tag s r v e p q = rw (e, ← index-of-step r (onStep Left (add w t 1) dayAfter) p) q
 
   pub span-monate :
-      (s : VorlaufShape) (n : ℕ) (r : TagStep) (v : Span) → s ≡ LatestMonateBefore n → r ≡ tagStep (M n t) → v ≡ spanFrom (stepIndex r) →
+      (s : VorlaufShape) (n : ℕ) (r : TagStep) (v : Span) → s ≡ LatestMonateBefore n → r ≡ tagStep (M n t) →
+      v ≡ spanFrom (stepIndex r) →
       v ≡ spanOf w s t
   unfolding spanOf
   span-monate s n r v e p q = rw (e, ← index-of-step r (M n t) p) q
 
   pub span-beides :
       (s : VorlaufShape) (n m : ℕ) (r : TagStep) (v : Span) →
-      s ≡ LatestMonateUndWerktageBefore n m → r ≡ tagStep (onStep Left (W w t m) (M n)) → v ≡ spanFrom (stepIndex r) → v ≡ spanOf w s t
+      s ≡ LatestMonateUndWerktageBefore n m → r ≡ tagStep (onStep Left (W w t m) (M n)) → v ≡ spanFrom (stepIndex r) →
+      v ≡ spanOf w s t
   unfolding spanOf
   span-beides s n m r v e p q = rw (e, ← index-of-step r (onStep Left (W w t m) (M n)) p) q
 

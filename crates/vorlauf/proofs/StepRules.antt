@@ -1,6 +1,6 @@
 -- What the proofs of the steps ask, with the premises in the form in which a proof has them: r, u and v are what calls
--- returned, `r ≡ tagStep (add ..)` is what a callee promises, and `r ≡ At x` what the match on its result found. For any test w
--- of a day.
+-- returned, `r ≡ tagStep (add ..)` is what a callee promises, and `r ≡ At x` what the match on its result found. For
+-- any test w of a day.
 --   next-*                   the returns of `fruehester_termin_nach_tag_vor_dem_letzten_werktag`
 --   after-first-*            those of `after_first_werktag`
 --   months-after-*           those of `months_after_werktage`

@@ -1,6 +1,6 @@
 -- What the proofs of the verdicts ask, with the premises in the form in which a proof has them: r, s, u and z are what
--- calls returned, `r ≡ tagStep (sub ..)` is what a callee promises, and `r ≡ At x` what the match on its result found. For any
--- test w of a day, transmission day t and anchor a, one rule for each return:
+-- calls returned, `r ≡ tagStep (sub ..)` is what a callee promises, and `r ≡ At x` what the match on its result found.
+-- For any test w of a day, transmission day t and anchor a, one rule for each return:
 --   before-* window-* after-* earliest-* korridor-* tag-* monate-* beides-*   of each shape's function, in the order of
 --                                                                             the shapes
 --   by-werktage-* not-after-*  of `not_after_by_werktage` and `not_after`
@@ -10,7 +10,7 @@
 -- Assumes nothing.
 use Prim.Native.Nat.{ℕ, _≤_, _<_}
 use mathlib.Core.Bool.{Bool}
-use mathlib.Core.Path.{_≡_, refl, sym, _∙_}
+use mathlib.Core.Path.{_≡_, refl}
 use borrow.Author.Tests.{le-leb, lt-leb, lt-ltb, le-ltb}
 use Rattle.zaehlung.specs.declared.Step.{Step}
 use Rattle.zaehlung.specs.declared.Step.the-variants.{Day}
@@ -68,7 +68,8 @@ module _ (w : ℕ → Bool) (t a : ℕ) where
       (n m : ℕ) (o x : Tag) (b : ℕ) (r v : TagStep) → r ≡ tagStep (sub w a n) → r ≡ At o → v ≡ tagStep (sub w a m) →
       v ≡ At x → t < o .index → b ≡ between w t (o .index) → TooEarly b ≡ checkOf w (WindowWerktageBefore n m) t a
   unfolding checkOf closes reaches
-  window-early n m o x b r v p q i j h k = rw (at-day v (sub w a m) i x j, at-day r (sub w a n) p o q, lt-ltb t (o .index) h, k)
+  window-early n m o x b r v p q i j h k =
+      rw (at-day v (sub w a m) i x j, at-day r (sub w a n) p o q, lt-ltb t (o .index) h, k)
 
   pub window-is :
       (n m : ℕ) (o x : Tag) (r v : TagStep) (e : VorlaufVerdict) → r ≡ tagStep (sub w a n) → r ≡ At o →
@@ -129,20 +130,23 @@ module _ (w : ℕ → Bool) (t a : ℕ) where
       (n : ℕ) (o x : Tag) (b : ℕ) (r v : TagStep) → r ≡ tagStep (sub w a n) → r ≡ At o → v ≡ tagStep (add w a n) →
       v ≡ At x → t < o .index → b ≡ between w t (o .index) → TooEarly b ≡ checkOf w (Korridor n) t a
   unfolding checkOf closes reaches
-  korridor-early n o x b r v p q i j h k = rw (at-day v (add w a n) i x j, at-day r (sub w a n) p o q, lt-ltb t (o .index) h, k)
+  korridor-early n o x b r v p q i j h k =
+      rw (at-day v (add w a n) i x j, at-day r (sub w a n) p o q, lt-ltb t (o .index) h, k)
 
   pub korridor-ok :
       (n : ℕ) (o x : Tag) (r v : TagStep) → r ≡ tagStep (sub w a n) → r ≡ At o → v ≡ tagStep (add w a n) → v ≡ At x →
       o .index ≤ t → t ≤ x .index → Ok ≡ checkOf w (Korridor n) t a
   unfolding checkOf closes reaches
-  korridor-ok n o x r v p q i j g h = rw (at-day v (add w a n) i x j, at-day r (sub w a n) p o q, le-ltb t (o .index) g, le-leb t (x .index) h)
+  korridor-ok n o x r v p q i j g h =
+      rw (at-day v (add w a n) i x j, at-day r (sub w a n) p o q, le-ltb t (o .index) g, le-leb t (x .index) h)
 
   pub korridor-late :
       (n : ℕ) (o x : Tag) (r v : TagStep) (e : VorlaufVerdict) → r ≡ tagStep (sub w a n) → r ≡ At o →
       v ≡ tagStep (add w a n) → v ≡ At x → o .index ≤ t → x .index < t →
       e ≡ TooLate (between w (x .index) t) (o .index) → e ≡ checkOf w (Korridor n) t a
   unfolding checkOf closes reaches
-  korridor-late n o x r v e p q i j g h z = rw (at-day v (add w a n) i x j, at-day r (sub w a n) p o q, le-ltb t (o .index) g, lt-leb t (x .index) h) z
+  korridor-late n o x r v e p q i j g h z =
+      rw (at-day v (add w a n) i x j, at-day r (sub w a n) p o q, le-ltb t (o .index) g, lt-leb t (x .index) h) z
 
   -- TagVorDemLetztenWerktagVor
   pub tag-out :
@@ -160,14 +164,21 @@ module _ (w : ℕ → Bool) (t a : ℕ) where
       (d x : Tag) (r v : TagStep) → r ≡ tagStep (sub w a 1) → r ≡ At d → v ≡ tagStep (dayBefore (d .index)) →
       v ≡ At x → t ≤ x .index → Ok ≡ checkOf w TagVorDemLetztenWerktagVor t a
   unfolding checkOf closes reaches
-  tag-ok d x r v p q i j h = rw (at-day r (sub w a 1) p d q, at-day v (dayBefore (d .index)) i x j, le-leb t (x .index) h)
+  tag-ok d x r v p q i j h =
+      rw (at-day r (sub w a 1) p d q, at-day v (dayBefore (d .index)) i x j, le-leb t (x .index) h)
 
   pub tag-out-3 :
       (d x : Tag) (r v u : TagStep) → r ≡ tagStep (sub w a 1) → r ≡ At d → v ≡ tagStep (dayBefore (d .index)) →
       v ≡ At x → x .index < t → u ≡ tagStep (fruehesterTerminNachTagVorDemLetztenWerktag w t) → u ≡ Gone →
       Outside ≡ checkOf w TagVorDemLetztenWerktagVor t a
   unfolding checkOf closes reaches
-  tag-out-3 d x r v u p q i j h k l = rw (at-day r (sub w a 1) p d q, at-day v (dayBefore (d .index)) i x j, lt-leb t (x .index) h, gone u (fruehesterTerminNachTagVorDemLetztenWerktag w t) k l)
+  tag-out-3 d x r v u p q i j h k l =
+      rw (
+        at-day r (sub w a 1) p d q,
+        at-day v (dayBefore (d .index)) i x j,
+        lt-leb t (x .index) h,
+        gone u (fruehesterTerminNachTagVorDemLetztenWerktag w t) k l,
+      )
 
   pub tag-late :
       (d x y : Tag) (r v u : TagStep) (e : VorlaufVerdict) → r ≡ tagStep (sub w a 1) → r ≡ At d →
@@ -175,7 +186,14 @@ module _ (w : ℕ → Bool) (t a : ℕ) where
       u ≡ tagStep (fruehesterTerminNachTagVorDemLetztenWerktag w t) → u ≡ At y →
       e ≡ TooLate (between w (x .index) t) (y .index) → e ≡ checkOf w TagVorDemLetztenWerktagVor t a
   unfolding checkOf closes reaches
-  tag-late d x y r v u e p q i j h k l m = rw (at-day r (sub w a 1) p d q, at-day v (dayBefore (d .index)) i x j, lt-leb t (x .index) h, at-day u (fruehesterTerminNachTagVorDemLetztenWerktag w t) k y l) m
+  tag-late d x y r v u e p q i j h k l m =
+      rw (
+        at-day r (sub w a 1) p d q,
+        at-day v (dayBefore (d .index)) i x j,
+        lt-leb t (x .index) h,
+        at-day u (fruehesterTerminNachTagVorDemLetztenWerktag w t) k y l,
+      )
+      m
 
   -- LatestMonateBefore
   pub monate-out :

@@ -1,8 +1,8 @@
 // Lead times: may a message of this day ask for that date, and which dates may it ask for?
 //
 // Document 01, vorlauf.rs and 'The span of anchors'. A day comes taken apart, its index beside its
-// date; what is named in a verdict or a span is an index. t is the transmission day (Übertragungstag, ÜT), a the anchor,
-// the date that the message carries.
+// date; what is named in a verdict or a span is an index. t is the transmission day (Übertragungstag, ÜT), a the
+// anchor, the date that the message carries.
 ghost use mathlib.Core.Path.{_≡_};
 ghost use Prim.Native.Nat.{_≤_, _<_};
 ghost use Rattle.zaehlung.specs.Walk.{last, onStep, dayAfter, add, W, between};
@@ -120,7 +120,9 @@ fn window_werktage_before(
     cal: HolidayCalendar,
 ) -> VorlaufVerdict
     requires { ⌜ (t ≡ tagAt (t .index)) × (t .index ≤ last) × (a ≡ tagAt (a .index)) × (a .index ≤ last) ⌝ }
-    ensures { λ r. ⌜ r ≡ checkOf (isWerktag cal) (VorlaufShape.WindowWerktageBefore earliest latest) (t .index) (a .index) ⌝ }
+    ensures { λ r. ⌜
+        r ≡ checkOf (isWerktag cal) (VorlaufShape.WindowWerktageBefore earliest latest) (t .index) (a .index)
+        ⌝ }
 {
     let TagStep::At(opens) = schritte::sub_werktage(a, earliest, cal) else {
         return VorlaufVerdict::Outside;
@@ -262,7 +264,8 @@ fn monate_und_werktage_before(monate: u32, werktage: u32, a: Tag, cal: HolidayCa
     schritte::sub_werktage(back, werktage, cal)
 }
 
-/// t lies `monate` months and `werktage` Werktage before the anchor at the latest. The earliest date is computed even when the verdict is Ok.
+/// t lies `monate` months and `werktage` Werktage before the anchor at the latest. The earliest date is computed even
+/// when the verdict is Ok.
 fn latest_monate_und_werktage_before(
     monate: u32,
     werktage: u32,
@@ -271,7 +274,9 @@ fn latest_monate_und_werktage_before(
     cal: HolidayCalendar,
 ) -> VorlaufVerdict
     requires { ⌜ (t ≡ tagAt (t .index)) × (t .index ≤ last) × (a ≡ tagAt (a .index)) × (a .index ≤ last) ⌝ }
-    ensures { λ r. ⌜ r ≡ checkOf (isWerktag cal) (VorlaufShape.LatestMonateUndWerktageBefore monate werktage) (t .index) (a .index) ⌝ }
+    ensures { λ r. ⌜
+        r ≡ checkOf (isWerktag cal) (VorlaufShape.LatestMonateUndWerktageBefore monate werktage) (t .index) (a .index)
+        ⌝ }
 {
     let TagStep::At(closes) = monate_und_werktage_before(monate, werktage, a, cal) else {
         return VorlaufVerdict::Outside;

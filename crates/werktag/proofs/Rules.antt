@@ -309,7 +309,9 @@ module _ (t : Tag) (e : t ≡ tagAt (t .index)) (h : t .index ≤ last) where
       (omega (arith, t, index, starts l .1, easter-between (d .year) year-from year-to .1))
 
   -- the feasts by the distance from the Easter that the month needs
-  by-known : (n : ℕ) → placeFrom n (feasts (pos i -ℤ pos (easterFor (d .year) (d .month)))) ≡ placeFrom n (feastTests i (d .year))
+  by-known :
+      (n : ℕ) →
+      placeFrom n (feasts (pos i -ℤ pos (easterFor (d .year) (d .month)))) ≡ placeFrom n (feastTests i (d .year))
   unfolding easterFor
   by-known n =
       elim (decLt (d .month) 3) [
@@ -490,7 +492,8 @@ module _
         let y = feasts (pos (t .index) -ℤ pos s) in
         let r = placeFrom 17 y in
         ap not p ∙ sym (place-zero 17 y (omega arith))
-        ∙ rw (on-weekday BdewMaKo t w r e v l (known t e h s q g a b w u v x f r z refl)) (reason-zero BdewMaKo (t .index))
+        ∙ rw (on-weekday BdewMaKo t w r e v l (known t e h s q g a b w u v x f r z refl))
+        (reason-zero BdewMaKo (t .index))
 
 pub ruleset open-rules = (tag-rules, shut-fixed, shut-wednesday, by-feast)
 

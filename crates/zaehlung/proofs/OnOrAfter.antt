@@ -3,7 +3,7 @@
 --   W-open, W-shut         the day after the n-th open day on or after t: t is the first of them, or it is none
 -- Source: the definitions of Walk.
 -- Assumes nothing.
-use Prim.Native.Nat.{ℕ, zero, suc, _+_, _-_, _≤_, _<_}
+use Prim.Native.Nat.{ℕ, zero, suc, _-_, _≤_}
 use mathlib.Core.Bool.{Bool, true, false}
 use mathlib.Core.Path.{_≡_, refl, sym, ap, _∙_}
 use native.Mathlib.Omega.{arith}
@@ -11,7 +11,7 @@ use native.Mathlib.Decide.{decLt}
 use borrow.Author.Tests.{lt-ltb, le-ltb}
 use Rattle.zaehlung.specs.declared.Step.{Step}
 use Rattle.zaehlung.specs.declared.Step.the-variants.{Day, Outside}
-use Rattle.zaehlung.specs.Walk.{last, onStep, dayAfter, up, past, first, add, next, W}
+use Rattle.zaehlung.specs.Walk.{last, onStep, dayAfter, up, first, add, next, W}
 use Rattle.zaehlung.proofs.Turns.{up-none, up-edge, up-open, up-shut, past-none, past-edge, past-open}
 use Rattle.zaehlung.proofs.Turns.{first-edge, first-open, first-shut}
 use Rattle.zaehlung.proofs.Count.{count-open, count-shut}

@@ -1,5 +1,5 @@
--- `antworten_vorlauf::check_at_instants` meets its contract: what is refused is refused in order, and the rest goes to the
--- layer below.
+-- `antworten_vorlauf::check_at_instants` meets its contract: what is refused is refused in order, and the rest goes to
+-- the layer below.
 -- Assumes nothing.
 use Rattle.antworten_vorlauf.proofs.Rules.{check-at-rules}
 use Rattle.antworten_vorlauf.specs.Vorlauf.{checkAtInstants}

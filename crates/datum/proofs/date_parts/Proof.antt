@@ -1,4 +1,5 @@
--- `datum::date_parts` meets its contract: the year, the month in it and the day in that are the parts of the definition.
+-- `datum::date_parts` meets its contract: the year, the month in it and the day in that are the parts of the
+-- definition.
 -- Assumes nothing.
 use Rattle.datum.proofs.Rules.{date-rules}
 use borrow.Author.Needs.{needs}

@@ -2,7 +2,6 @@
 -- Assumes nothing.
 use native.Mathlib.Omega.{arith}
 use Rattle.datum.proofs.Rules.{len-zero, len-none, len-leap, len-february, len-other}
-use Rattle.datum.proofs.Dates.{len-le}
 use borrow.Author.Needs.{needs}
 use Rattle.datum.proofs.days_in_month.Statement.{statement}
 use Rattle.datum.proofs.days_in_month.Tie as tie

@@ -1,6 +1,7 @@
 -- `datum::month_of` meets its contract: computed for every day, in a common year and in a leap year.
 -- Assumes nothing.
-use Rattle.datum.proofs.Rules.{month-rules, month-early-leap, month-late-leap, month-early-common, month-late-common}
+use Rattle.datum.proofs.Rules.{month-rules, month-early-leap, month-late-leap, month-early-common}
+use Rattle.datum.proofs.Rules.{month-late-common}
 use borrow.Author.Needs.{needs}
 use Rattle.datum.proofs.month_of.Statement.{statement}
 use Rattle.datum.proofs.month_of.Tie as tie

@@ -1,5 +1,5 @@
--- `gang::add_werktage` meets its contract. The invariant: from here the walk reaches what it reaches from the start. Each
--- turn goes to the next weekday, and the days that are left grow fewer.
+-- `gang::add_werktage` meets its contract. The invariant: from here the walk reaches what it reaches from the start.
+-- Each turn goes to the next weekday, and the days that are left grow fewer.
 -- Assumes nothing.
 use Rattle.gang.proofs.Rules.{on-rules}
 use Prim.Native.Nat.{_-_}

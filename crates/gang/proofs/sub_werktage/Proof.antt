@@ -1,5 +1,5 @@
--- `gang::sub_werktage` meets its contract. The invariant: from here the walk reaches what it reaches from the start. Each
--- turn goes back to the last weekday, and the days that are left grow fewer.
+-- `gang::sub_werktage` meets its contract. The invariant: from here the walk reaches what it reaches from the start.
+-- Each turn goes back to the last weekday, and the days that are left grow fewer.
 -- Assumes nothing.
 use Rattle.gang.proofs.Rules.{back-rules}
 use mathlib.Core.Path.{_≡_}

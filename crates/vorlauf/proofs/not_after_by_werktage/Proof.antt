@@ -1,4 +1,5 @@
--- `vorlauf::not_after_by_werktage` meets its contract. Each return is a rule of VerdictRules, by the cases of `notAfter`.
+-- `vorlauf::not_after_by_werktage` meets its contract. Each return is a rule of VerdictRules, by the cases of
+-- `notAfter`.
 -- Assumes nothing.
 use Rattle.vorlauf.proofs.VerdictRules.{verdict-rules}
 use Rattle.vorlauf.proofs.StepRules.{inside-rules}

@@ -1,5 +1,5 @@
--- `werktag::easter_sunday` meets its contract: no difference goes below 0, and n - 93 days after 1 March is the date that
--- the algorithm gives.
+-- `werktag::easter_sunday` meets its contract: no difference goes below 0, and n - 93 days after 1 March is the date
+-- that the algorithm gives.
 -- Assumes nothing.
 use Rattle.werktag.proofs.Easter.{enough, room, below-30, march-valid, number-from, number-fits, easter-number}
 use borrow.Author.Needs.{needs}

@@ -1,5 +1,5 @@
--- `schritte::tested::count_through` meets its contract: the entry of the year, and the Werktage among its days up to this
--- one.
+-- `schritte::tested::count_through` meets its contract: the entry of the year, and the Werktage among its days up to
+-- this one.
 -- Assumes nothing.
 use Rattle.schritte.proofs.TestedRules.{through-rules}
 use borrow.Author.Needs.{needs}

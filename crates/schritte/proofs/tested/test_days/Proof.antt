@@ -1,5 +1,5 @@
--- `schritte::tested::test_days` meets its contract. The invariant: the Werktage so far are those among the days tested so
--- far, and the walk stands at the last of them.
+-- `schritte::tested::test_days` meets its contract. The invariant: the Werktage so far are those among the days tested
+-- so far, and the walk stands at the last of them.
 -- Assumes nothing.
 use Rattle.schritte.proofs.TestedRules.{test-rules}
 use borrow.Author.Needs.{needs}
