@@ -128,7 +128,7 @@ module _ (cal : HolidayCalendar) (i w k : ℕ) (p : w ≡ weekday i) where
           | no h ↦ omega (arith, to-monday w (omega arith))
         ]
 
-    over : ShutOn (isWerktag cal) i (k - 1)
+    pub over : ShutOn (isWerktag cal) i (k - 1)
     over j a b =
         elim (decLt w 4) [
           | yes h ↦ absurd (omega (arith, to-next w h))

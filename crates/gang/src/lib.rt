@@ -59,7 +59,7 @@ fn weekday_earlier(wday: u32, days: u8) -> u32
 }
 
 /// The days to the next day from Monday to Friday: three from a Friday.
-fn to_weekday(wday: u32) -> u8
+pub fn to_weekday(wday: u32) -> u8
     requires { ⌜ wday < 7 ⌝ }
     ensures { λ r. ⌜ (r ≡ toWeekday wday) × (1 ≤ r) × (r ≤ 3) ⌝ }
 {

@@ -3,6 +3,7 @@
 --   same-rules      what a step by indexes gave, taken apart and put together again
 --   next-rules      `next_werktag`: r is what the day test returned
 --   left-rules      `after_today`
+--   on-or-after-rules  `nth_on_or_after`
 --   index-rules     `nth_werktag_after`
 --   W-rules         `day_after_werktage`: m is what `after_today` gave, s what `add_werktage` gave
 -- Source: the definitions of Walk in zaehlung.
@@ -16,10 +17,16 @@ use borrow.Author.Tests.{lt-ltb, le-ltb}
 use Rattle.zaehlung.specs.declared.Step.{Step}
 use Rattle.zaehlung.specs.declared.Step.the-variants.{Day, Outside}
 use Rattle.zaehlung.specs.Walk.{last, bit, onStep, dayAfter, dayBefore, add, sub, next, W}
-use Rattle.zaehlung.proofs.Laws.{W-none, add-inside, sub-inside}
+use Rattle.zaehlung.proofs.Laws.{W-none, add-none, add-inside, sub-inside}
+use Rattle.zaehlung.proofs.Skips.{leap-open, leap-shut, leap-edge}
 use Rattle.zaehlung.proofs.OnOrAfter.{next-open, next-shut, W-open, W-shut}
 use Rattle.datum.specs.declared.tage.Tag.{Tag}
+use Rattle.datum.specs.Calendar.{weekday}
 use Rattle.datum.specs.Tage.{tagAt, tagStep}
+use Rattle.werktag.specs.declared.HolidayCalendar.{HolidayCalendar}
+use Rattle.werktag.specs.Werktag.{isWerktag}
+use Rattle.gang.specs.Stand.{toWeekday}
+use Rattle.gang.proofs.Rules.{below-week, over}
 use Rattle.datum.specs.declared.tage.TagStep.{TagStep}
 use Rattle.datum.specs.declared.tage.TagStep.the-variants as reached
 use Rattle.datum.proofs.TagSteps.{at-day, at-tag, gone}
@@ -100,32 +107,80 @@ module _ (w : ℕ → Bool) where
         pub W-within : (v : Tag) → s ≡ reached.At v → v .index ≤ last
         W-within v q = add-inside w i m (v .index) h (at-day s (add w i m) u v q)
 
--- the test of 0
-pub some-left : (n : ℕ) → (n ≡ 0 → ⊥) → 1 ≤ n
-some-left n l = omega (arith, l)
-
 pub one-fewer : (n : ℕ) (b r : Bool) → r ≡ b → r ≡ true → n - 1 ≡ n - bit b
 one-fewer n b r p q = ap (λ (x : Bool). n - bit x) (sym q ∙ p)
 
 pub as-many : (n : ℕ) (b r : Bool) → r ≡ b → r ≡ false → n ≡ n - bit b
 as-many n b r p q = let z = ap bit (sym q ∙ p) in omega arith
 
--- f is the day with index d, taken apart, s what the step from it gave
-module _ (w : ℕ → Bool) (d n : ℕ) (f : Tag) (e : f ≡ tagAt d) where
-  from-index : add w (f .index) n ≡ add w d n
-  from-index = ap (λ (x : Tag). add w (x .index) n) e
+-- the test of 0
+pub some-left : (n : ℕ) → (n ≡ 0 → ⊥) → 1 ≤ n
+some-left n l = omega (arith, l)
 
-  pub after-index : (r : Step) → r ≡ add w (f .index) n → r ≡ add w d n
-  after-index r p = p ∙ from-index
+-- nth_on_or_after: m is what `after_today` gave, s what `add_werktage` did
+module _ (cal : HolidayCalendar) (i n m : ℕ) (p : m ≡ n - bit (isWerktag cal i)) where
+  abbrev w : ℕ → Bool
+  w = isWerktag cal
 
-  pub after-day-index :
-      (s : TagStep) (t : Tag) → s ≡ tagStep (add w (f .index) n) → s ≡ reached.At t → Day (t .index) ≡ add w d n
-  after-day-index s t p q = sym (at-day s (add w (f .index) n) p t q) ∙ from-index
+  pub on-today : m ≡ 0 → Day i ≡ add w i (n - bit (w i))
+  on-today z = sym (add-none w i) ∙ ap (add w i) (sym z ∙ p)
 
-  pub after-gone-index : (s : TagStep) → s ≡ tagStep (add w (f .index) n) → s ≡ reached.Outside → Outside ≡ add w d n
-  after-gone-index s p q = sym (gone s (add w (f .index) n) p q) ∙ from-index
+  pub on-later :
+      (s : TagStep) (t : Tag) → s ≡ tagStep (add w i m) → s ≡ reached.At t → Day (t .index) ≡ add w i (n - bit (w i))
+  on-later s t e q = sym (at-day s (add w i m) e t q) ∙ ap (add w i) p
 
-pub ruleset index-rules = (tag-again, tag-within, after-index, after-day-index, after-gone-index)
+  pub on-gone : (s : TagStep) → s ≡ tagStep (add w i m) → s ≡ reached.Outside → Outside ≡ add w i (n - bit (w i))
+  on-gone s e q = sym (gone s (add w i m) e q) ∙ ap (add w i) p
+
+pub ruleset on-or-after-rules = (on-today, on-later, on-gone)
+
+pub weekday-within : (d k : ℕ) (f : Tag) → d ≤ last → k ≤ last - d → f ≡ tagAt (d + k) → f .index ≤ last
+weekday-within d k f h g z = tag-within f (d + k) z (omega arith)
+
+-- nth_werktag_after: v is the weekday of the day d, k the days to the next weekday, f that day, taken apart
+module _ (cal : HolidayCalendar) (d n : ℕ) where
+  abbrev test : ℕ → Bool
+  test = isWerktag cal
+
+  pub after-none : n ≡ 0 → Day d ≡ add test d n
+  after-none z = sym (add-none test d) ∙ ap (add test d) (sym z)
+
+  pub after-index : (f : Tag) (r : Step) → f ≡ tagAt d → r ≡ add test (f .index) n → r ≡ add test d n
+  after-index f r e p = p ∙ ap (λ (x : Tag). add test (x .index) n) e
+
+  module _ (v k : ℕ) (p : v ≡ weekday d) (e : k ≡ toWeekday v) (o : 1 ≤ k) (l : n ≡ 0 → ⊥) (h : d ≤ last) where
+    pub after-edge-day : last - d < k → Outside ≡ add test d n
+    after-edge-day g = leap-edge test (add test d n) d n k refl (omega (arith, l)) h g (over cal d v k p e)
+
+    leap : k ≤ last - d → add test d n ≡ add test (d + k) (n - bit (test (d + k)))
+    leap g = go (test (d + k)) refl
+      where
+        go : (b : Bool) → test (d + k) ≡ b → add test d n ≡ add test (d + k) (n - bit (test (d + k)))
+        go true q =
+            leap-open test (add test d n) d n k refl (omega (arith, l)) o (over cal d v k p e) (omega arith) q
+            ∙ ap (λ (x : Bool). add test (d + k) (n - bit x)) (sym q)
+        go false q =
+            let z : n - 0 ≡ n = omega arith in
+            leap-shut test (add test d n) d n k refl (omega (arith, l)) o (over cal d v k p e) (omega arith) q
+            ∙ ap (add test (d + k)) (sym z) ∙ ap (λ (x : Bool). add test (d + k) (n - bit x)) (sym q)
+
+    pub after-weekday :
+        (f : Tag) (r : Step) → k ≤ last - d → f ≡ tagAt (d + k) → r ≡ add test (f .index) (n - bit (test (f .index))) →
+        r ≡ add test d n
+    after-weekday f r g z u =
+        u ∙ ap (λ (x : Tag). add test (x .index) (n - bit (test (x .index)))) z ∙ sym (leap g)
+
+pub ruleset index-rules = (
+  below-week,
+  some-left,
+  tag-again,
+  tag-within,
+  after-none,
+  after-index,
+  after-edge-day,
+  weekday-within,
+  after-weekday,
+)
 
 pub ruleset same-rules = (same-day, same-outside, add-within, sub-within)
 

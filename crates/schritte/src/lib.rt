@@ -71,23 +71,6 @@ pub fn add_werktage(from: Tag, n: u32, cal: HolidayCalendar) -> TagStep
     TagStep::At(datum::tage::tag_at(day))
 }
 
-/// The `n`-th Werktag after a day that is known by its index alone, as that of an instant is: it is taken apart here.
-///
-/// With `n = 0`: the day unchanged, Werktag or not.
-pub fn nth_werktag_after(day: u32, n: u32, cal: HolidayCalendar) -> Step
-    requires { ⌜ day ≤ last ⌝ }
-    ensures { λ r. ⌜ r ≡ add (isWerktag cal) day n ⌝ }
-{
-    let from = datum::tage::tag_at(day);
-    if FEW_WERKTAGE < n {
-        return index::step(StepKind::Add, from, n, cal);
-    }
-    let TagStep::At(werktag) = gang::add_werktage(from, n, cal) else {
-        return Step::Outside;
-    };
-    Step::Day(werktag.index)
-}
-
 /// The `n`-th Werktag before `from`, or `Outside` where that would be before the calendar's first day: the mirror of
 /// `add_werktage`.
 ///
@@ -153,6 +136,42 @@ fn after_today(t: Tag, n: u32, cal: HolidayCalendar) -> u32
         return n - 1;
     }
     n
+}
+
+/// The `n`-th Werktag on or after a day, of at least one.
+fn nth_on_or_after(day: Tag, n: u32, cal: HolidayCalendar) -> Step
+    requires { ⌜ (day ≡ tagAt (day .index)) × (day .index ≤ last) × (1 ≤ n) ⌝ }
+    ensures { λ r. ⌜ r ≡ add (isWerktag cal) (day .index) (n - bit (isWerktag cal (day .index))) ⌝ }
+{
+    let left = after_today(day, n, cal);
+    if left == 0 {
+        return Step::Day(day.index);
+    }
+    let TagStep::At(werktag) = gang::add_werktage(day, left, cal) else {
+        return Step::Outside;
+    };
+    Step::Day(werktag.index)
+}
+
+/// The `n`-th Werktag after a day that is known by its index alone, as that of an instant is. For few Werktage the next
+/// weekday is taken apart and not the day itself: in most cases that is the Werktag.
+///
+/// With `n = 0`: the day unchanged, Werktag or not.
+pub fn nth_werktag_after(day: u32, n: u32, cal: HolidayCalendar) -> Step
+    requires { ⌜ day ≤ last ⌝ }
+    ensures { λ r. ⌜ r ≡ add (isWerktag cal) day n ⌝ }
+{
+    if n == 0 {
+        return Step::Day(day);
+    }
+    if FEW_WERKTAGE < n {
+        return index::step(StepKind::Add, datum::tage::tag_at(day), n, cal);
+    }
+    let days = gang::to_weekday(datum::weekday(day)) as u32;
+    if LAST - day < days {
+        return Step::Outside;
+    }
+    nth_on_or_after(datum::tage::tag_at(day + days), n, cal)
 }
 
 /// W(n) of document 01: 't for n = 0, else the day after the n-th Werktag on or after t', or `Outside` where that would

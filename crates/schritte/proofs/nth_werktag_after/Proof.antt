@@ -1,9 +1,13 @@
--- `schritte::nth_werktag_after` meets its contract: by the index, or by the walk.
+-- `schritte::nth_werktag_after` meets its contract: by the index, or from the next weekday on.
 -- Assumes nothing.
-use Rattle.schritte.proofs.Rules.{index-rules}
+use Rattle.schritte.proofs.Rules.{index-rules, weekday-within, some-left}
+use Rattle.datum.proofs.TagRules.{tag-again}
 use borrow.Author.Needs.{needs}
 use Rattle.schritte.proofs.nth_werktag_after.Statement.{statement}
 use Rattle.schritte.proofs.nth_werktag_after.Tie as tie
+
+returns : tie.Need-returns
+returns c = search (needs, index-rules)
 
 tag-at-requires : tie.Need-tag-at-requires
 tag-at-requires c κs = search needs
@@ -11,33 +15,54 @@ tag-at-requires c κs = search needs
 step-requires : tie.Need-step-requires
 step-requires c κs = search (needs, index-rules)
 
-returns : tie.Need-returns
-returns c = search (needs, index-rules)
-
-add-werktage-requires : tie.Need-add-werktage-requires
-add-werktage-requires c κs = search (needs, index-rules)
-
-enum-known-werktag : tie.Need-enum-known-werktag
-enum-known-werktag c = search needs
-
-enum-told : tie.Need-enum-told
-enum-told c = search needs
-
 returns-2 : tie.Need-returns-2
 returns-2 c = search (needs, index-rules)
 
+weekday-requires : tie.Need-weekday-requires
+weekday-requires c κs = search needs
+
+to-weekday-requires : tie.Need-to-weekday-requires
+to-weekday-requires c κs = search needs
+
+cast-days : tie.Need-cast-days
+cast-days c = search needs
+
+sub-if3 : tie.Need-sub-if3
+sub-if3 c = search needs
+
 returns-3 : tie.Need-returns-3
 returns-3 c = search (needs, index-rules)
+
+add-tag-at : tie.Need-add-tag-at
+add-tag-at c = search needs
+
+tag-at-requires-2 : tie.Need-tag-at-requires-2
+tag-at-requires-2 c κs = search needs
+
+nth-on-or-after-requires : tie.Need-nth-on-or-after-requires
+nth-on-or-after-requires c κs = (
+  search (needs, tag-again),
+  search (needs, weekday-within),
+  search (needs, some-left, c .before .before .before .before .before .if1 .left),
+)
+
+returns-4 : tie.Need-returns-4
+returns-4 c = search (needs, index-rules)
 
 pub nth-werktag-after-spec : {M : Type 1} → statement M
 nth-werktag-after-spec =
     tie.close
     (tie.spec
+    returns
     tag-at-requires
     step-requires
-    returns
-    add-werktage-requires
-    enum-known-werktag
-    enum-told
     returns-2
-    returns-3)
+    weekday-requires
+    to-weekday-requires
+    cast-days
+    sub-if3
+    returns-3
+    add-tag-at
+    tag-at-requires-2
+    nth-on-or-after-requires
+    returns-4)
