@@ -65,7 +65,7 @@ const BUSS_UND_BETTAG: u8 = NEUJAHR + (FIXED_DAYS as u8);
 /// The first of the feasts that move with Easter Sunday; the others follow.
 const KARFREITAG: u8 = BUSS_UND_BETTAG + 1;
 
-/// The fixed days of a month, one bit for each of its days: bit 1 of January is Neujahr.
+/// The fixed days of a month, 2 to the power of its day for each: 66 is 2 and 64, 1 and 6 January.
 fn fixed_bits(month: u8) -> u32
     ensures { λ r. ⌜ r ≡ fixedBits month ⌝ }
 {
@@ -214,7 +214,7 @@ fn bdew_mako_holiday(tag: Tag, wday: u32, easter: u32) -> u8
 /// Why a weekday is closed, where its Easter is known.
 ///
 /// 18 November 2026, Buß- und Bettag, has 16.
-pub fn reason_of_weekday(tag: Tag, wday: u32, easter: u32, cal: HolidayCalendar) -> u8
+fn reason_of_weekday(tag: Tag, wday: u32, easter: u32, cal: HolidayCalendar) -> u8
     requires { ⌜ (tag ≡ tagAt (tag .index)) × (tag .index ≤ last) × (wday ≡ weekday (tag .index)) ⌝ }
     requires { ⌜ (easter ≡ easterFor (tag .date .year) (tag .date .month)) × (easter ≤ last + 3) ⌝ }
     requires { ⌜ wday < 5 ⌝ }
@@ -243,7 +243,7 @@ pub fn reason(tag: Tag, cal: HolidayCalendar) -> u8
     reason_of_weekday(tag, wday, easter_for(tag.date.year, tag.date.month), cal)
 }
 
-/// The feasts that move with Easter, one bit for each day from Karfreitag on: the offsets, and 2.
+/// The feasts that move with Easter, 2 to the power of the days from Karfreitag for each: its offset, and 2.
 const FEAST_BITS: u64 = 4618443616891699209;
 
 const KARFREITAG_BEFORE: u32 = 2;
