@@ -17,7 +17,7 @@ from pathlib import Path
 
 import sources
 
-CODE, PROOFS = "crates/jahresindex/src/tabelle.rt", "crates/jahresindex/proofs/Entries.antt"
+CODE, PROOFS = "crates/jahresindex/src/tabelle.rt", "crates/jahresindex/specs/Entries.antt"
 FIRST_YEAR, LAST_YEAR = 1996, 2899
 FIXED = "1.1. 6.1. 8.3. 1.5. 15.8. 20.9. 3.10. 31.10. 1.11. 24.12. 25.12. 26.12. 31.12."
 OFFSETS = -2, 1, 39, 49, 50, 60

@@ -27,7 +27,7 @@ use Rattle.zaehlung.proofs.BlockLaws.{at-is}
 use Rattle.zaehlung.proofs.Every.{run, run-at, split}
 use Rattle.zaehlung.proofs.Search.{any-append}
 use Rattle.zaehlung.proofs.Striking.{apart, strikes-is}
-use Rattle.datum.specs.Calendar.{isLeap, yearLen, yearStart, yearOf, daysInMonth, monthOf, dateIn}
+use Rattle.datum.specs.Calendar.{isLeap, yearLen, yearStart, yearOf, daysInMonth, monthOf, dateIn, weekday}
 use Rattle.datum.proofs.Years.{start-none}
 use Rattle.datum.proofs.Dates.{yearLen-at}
 use Rattle.datum.proofs.Rules.{start-is}
@@ -36,7 +36,7 @@ use Rattle.werktag.specs.declared.HolidayCalendar.{HolidayCalendar}
 use Rattle.werktag.specs.declared.HolidayCalendar.the-variants.{BdewMaKo}
 use Rattle.werktag.specs.Easter.{easterSunday, easterIndex}
 use Rattle.werktag.specs.Werktag.{eqZ, isFixed, isBussUndBettag, isEasterFeast, isWerktagIn, isWerktag}
-use Rattle.werktag.proofs.Easter.{below-7, easterIn, easter-is, easter-between, firstOf, weekday-in}
+use Rattle.werktag.proofs.Easter.{below-7, easterIn, easter-is, easter-between, easter-on-sunday, firstOf, weekday-in}
 use Rattle.jahre.specs.declared.Year.{Year}
 use Rattle.jahre.specs.Year.{yearNumbers, onWeekday, fixedIn, bettagIn, himmelfahrtIn, feastsWith, holidays}
 
@@ -210,6 +210,7 @@ pub record Usual (y : Year) : Type 0 where
   pub leaps-to : y .leaps ≤ 1
   pub easter-from : 80 ≤ y .easter
   pub easter-to : y .easter ≤ 116
+  pub on-sunday : (y .first + y .easter) % 7 ≡ 6
   pub once-each : apart (onWeekday (y .first)) (holidays y) ≡ true
 
 usual-for : (k : ℕ) → k < 904 → Usual (yearFor k)
@@ -223,6 +224,9 @@ usual-for k h =
       leaps-to = bit-small (isLeap (1996 + k));
       easter-from = omega (arith, easter-is k);
       easter-to = omega (arith, easter-is k);
+      on-sunday =
+          sym (weekday-in k (easterIn (1996 + k))) ∙ ap weekday (sym (easter-is k))
+          ∙ easter-on-sunday (1996 + k) (omega arith) (omega arith);
       once-each = run-at once-in 904 0 all-once k (omega arith) (omega arith);
     }
 

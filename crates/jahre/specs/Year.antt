@@ -7,16 +7,25 @@
 --   himmelfahrtIn l e = its Christi Himmelfahrt, Easter Sunday being day e
 --   feastsWith e h    = the feasts that move with Easter, h being Christi Himmelfahrt
 --   holidays y        = all 20; no weekday stands in them twice
+-- and what the code knows of a year; no reader need believe it:
+--   noDay             = 366, a day that no year has
+--   orNoDay f r       = day r, if it is a weekday, else noDay
+--   himmelfahrtOr l e = Christi Himmelfahrt, unless it falls on 1 May
+--   weekdayHolidays y = the holidays, with no day in the places of Saturdays and Sundays
+--   jahrOf cal k      = the year 1996 + k as a count inside it needs it
 -- Source: document 01, 'lib.rs, calendar', with each date as a day of the year.
 -- Assumes nothing.
 use Prim.Native.Nat.{ℕ, _+_, _-_, _/_, _%_}
 use mathlib.Core.Bool.{Bool, not, cond}
-use mathlib.Core.List.{List, [], _∷_, _++_}
+use mathlib.Core.List.{List, [], _∷_, _++_, map}
 use lib.Dec.{eqb, leb}
 use Rattle.zaehlung.specs.Walk.{bit}
 use Rattle.datum.specs.Calendar.{firstYear, isLeap, yearStart, weekday}
+use Rattle.werktag.specs.declared.HolidayCalendar.{HolidayCalendar}
+use Rattle.werktag.specs.declared.HolidayCalendar.the-variants.{BdewMaKo}
 use Rattle.werktag.specs.Easter.{easterIndex}
 use Rattle.jahre.specs.declared.Year.{Year}
+use Rattle.jahre.specs.declared.Jahr.{Jahr}
 
 unfoldable pub yearNumbers : ℕ → Year
 yearNumbers k =
@@ -52,3 +61,20 @@ unfoldable pub holidays : Year → List ℕ
 holidays y =
     let e = y .easter in
     fixedIn (y .leaps) ++ (bettagIn (y .first) (y .leaps) ∷ feastsWith e (himmelfahrtIn (y .leaps) e))
+
+abbrev pub noDay : ℕ
+noDay = 366
+
+unfoldable pub orNoDay : ℕ → ℕ → ℕ
+orNoDay f r = cond (onWeekday f r) r noDay
+
+abbrev pub himmelfahrtOr : ℕ → ℕ → ℕ
+himmelfahrtOr l e = cond (eqb (e + 39) (120 + l)) noDay (e + 39)
+
+unfoldable pub weekdayHolidays : Year → List ℕ
+weekdayHolidays y = map (orNoDay (y .first)) (holidays y)
+
+unfoldable pub jahrOf : HolidayCalendar → ℕ → Jahr
+jahrOf BdewMaKo k =
+    let y = yearNumbers k in
+    record { year = k; first = y .first; holidays = weekdayHolidays y }

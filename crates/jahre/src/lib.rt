@@ -1,15 +1,14 @@
-// The Werktage of a year's first days, without a walk over them: its weekdays less its holidays on weekdays. A year is
+// The Werktage of a year's first days, without a test of any: its weekdays less its holidays on weekdays. A year is
 // counted from 1996, a day of it from 0.
-ghost use mathlib.Core.Bool.{_&&_};
 ghost use mathlib.Core.Path.{_≡_};
-ghost use Prim.Native.Nat.{_≤_, _<_};
+ghost use Prim.Native.Nat.{_+_, _%_, _≤_, _<_};
 ghost use lib.Dec.{ltb};
 ghost use lib.ListN.{length};
 ghost use Rattle.zaehlung.specs.Walk.{bit, among};
-ghost use Rattle.zaehlung.specs.Lists.{each};
+ghost use Rattle.zaehlung.specs.Lists.{below};
 ghost use Rattle.datum.specs.Calendar.{yearLen, yearStart};
 ghost use Rattle.werktag.specs.Werktag.{isWerktag};
-ghost use Rattle.jahre.specs.Year.{yearNumbers, onWeekday, weekdays, himmelfahrtIn, holidays};
+ghost use Rattle.jahre.specs.Year.{yearNumbers, weekdays, orNoDay, himmelfahrtOr, weekdayHolidays, jahrOf};
 use werktag::HolidayCalendar;
 
 /// A year's own numbers: the weekday of its 1 January, its leap days, and Easter Sunday as a day of the year.
@@ -17,6 +16,14 @@ pub struct Year {
     pub first: u32,
     pub leaps: u32,
     pub easter: u32,
+}
+
+/// A year as a count inside it needs it: which one, the weekday of its 1 January, and its holidays on weekdays, in
+/// document 01's order; in the place of one that is a Saturday or Sunday stands `NO_DAY`.
+pub struct Jahr {
+    pub year: u32,
+    pub first: u32,
+    pub holidays: [u32; 20],
 }
 
 /// The days of a week, and those from Monday to Friday.
@@ -29,6 +36,9 @@ const TAG_DER_ARBEIT: u32 = 120;
 
 /// The holidays of a year.
 const HOLIDAYS: usize = 20;
+
+/// A day that no year has.
+const NO_DAY: u32 = 366;
 
 /// The numbers of the year 1996 + k.
 ///
@@ -63,90 +73,122 @@ fn weekdays_of(m: u32) -> u32
     m - (m + 1) / WEEK - m / WEEK
 }
 
-/// Christi Himmelfahrt; where it falls on 1 May, a holiday already, Pfingstsonntag in its place.
+/// A day of a year that begins on weekday `first`, if it is a weekday.
+///
+/// In 2026, which begins on a Thursday: 6 January, day 5, is a Tuesday; 8 March, day 66, a Sunday and so no day.
+fn weekday_or_none(first: u32, day: u32) -> u32
+    requires { ⌜ (first < 7) × (day ≤ 366) ⌝ }
+    ensures { λ r. ⌜ r ≡ orNoDay first day ⌝ }
+{
+    if (first + day) % WEEK < WEEKDAYS {
+        return day;
+    }
+    NO_DAY
+}
+
+/// Christi Himmelfahrt, a Thursday, unless it falls on 1 May, a holiday already.
 fn himmelfahrt(leaps: u32, easter: u32) -> u32
     requires { ⌜ (leaps ≤ 1) × (easter ≤ 116) ⌝ }
-    ensures { λ r. ⌜ r ≡ himmelfahrtIn leaps easter ⌝ }
+    ensures { λ r. ⌜ r ≡ himmelfahrtOr leaps easter ⌝ }
 {
     if easter + 39 == TAG_DER_ARBEIT + leaps {
-        return easter + 49;
+        return NO_DAY;
     }
     easter + 39
 }
 
-/// The holidays of a year, in document 01's order; no weekday stands in them twice.
-fn holidays_of(year: Year) -> [u32; 20]
+/// The holidays of a year that are weekdays, each in its place. Only the fixed days need a test: Buß- und Bettag is a
+/// Wednesday, and what moves with Easter Sunday stays on its weekday, Pfingstsonntag on a Sunday.
+fn weekday_holidays(year: Year) -> [u32; 20]
     requires { ⌜ (year .first < 7) × (year .leaps ≤ 1) × (2 ≤ year .easter) × (year .easter ≤ 116) ⌝ }
-    ensures { λ r. ⌜ r ≡ holidays year ⌝ }
+    requires { ⌜ (year .first + year .easter) % 7 ≡ 6 ⌝ }
+    ensures { λ r. ⌜ r ≡ weekdayHolidays year ⌝ }
 {
     let f = year.first;
     let l = year.leaps;
     let e = year.easter;
-    let h = himmelfahrt(l, e);
     [
-        0,
-        5,
-        66 + l,
-        TAG_DER_ARBEIT + l,
-        226 + l,
-        262 + l,
-        275 + l,
-        303 + l,
-        304 + l,
-        357 + l,
-        358 + l,
-        359 + l,
-        364 + l,
+        weekday_or_none(f, 0),
+        weekday_or_none(f, 5),
+        weekday_or_none(f, 66 + l),
+        weekday_or_none(f, TAG_DER_ARBEIT + l),
+        weekday_or_none(f, 226 + l),
+        weekday_or_none(f, 262 + l),
+        weekday_or_none(f, 275 + l),
+        weekday_or_none(f, 303 + l),
+        weekday_or_none(f, 304 + l),
+        weekday_or_none(f, 357 + l),
+        weekday_or_none(f, 358 + l),
+        weekday_or_none(f, 359 + l),
+        weekday_or_none(f, 364 + l),
         325 + l - (f + l + 1) % WEEK,
         e - 2,
         e + 1,
-        h,
-        e + 49,
+        himmelfahrt(l, e),
+        NO_DAY,
         e + 50,
         e + 60,
     ]
 }
 
-/// 1 for a weekday before day `n` of a year that begins on weekday `first`, else 0.
-fn weekday_before(first: u32, n: u32, day: u32) -> u32
-    requires { ⌜ (first < 7) × (n ≤ 366) ⌝ }
-    ensures { λ r. ⌜ (r ≡ bit (ltb day n && onWeekday first day)) × (r ≤ 1) ⌝ }
+/// The year 1996 + k as a count inside it needs it.
+pub fn jahr_of(k: u32, cal: HolidayCalendar) -> Jahr
+    requires { ⌜ k ≤ 903 ⌝ }
+    ensures { λ r. ⌜ r ≡ jahrOf cal k ⌝ }
+{
+    match cal {
+        HolidayCalendar::BdewMaKo => {
+            let numbers = year_numbers(k);
+            let holidays = weekday_holidays(numbers);
+            Jahr {
+                year: k,
+                first: numbers.first,
+                holidays,
+            }
+        }
+    }
+}
+
+/// 1 for a day before day `n`, else 0.
+fn one_before(day: u32, n: u32) -> u32
+    ensures { λ r. ⌜ (r ≡ bit (ltb day n)) × (r ≤ 1) ⌝ }
 {
     if day < n {
-        if (first + day) % WEEK < WEEKDAYS {
-            return 1;
-        }
-        return 0;
+        return 1;
     }
     0
 }
 
-/// How many of a year's holidays are weekdays before its day `n`.
-fn struck_before(days: [u32; 20], first: u32, n: u32) -> u32
-    requires { ⌜ (length days ≡ 20) × (first < 7) × (n ≤ 366) ⌝ }
-    ensures { λ r. ⌜ r ≡ each (onWeekday first) days n ⌝ }
+/// How many of twenty days lie before day `n`.
+fn number_before(days: [u32; 20], n: u32) -> u32
+    requires { ⌜ length days ≡ 20 ⌝ }
+    ensures { λ r. ⌜ r ≡ below days n ⌝ }
 {
     let mut i = 0;
-    let mut struck = 0;
+    let mut before = 0;
     while i < HOLIDAYS {
-        struck += weekday_before(first, n, days[i]);
+        before += one_before(days[i], n);
         i += 1;
     }
-    struck
+    before
 }
 
-/// The Werktage among the first `n` days of the year 1996 + k.
+/// The Werktage among the first `n` days of a year that is known: the weekdays, less the holidays among them.
 ///
 /// The first 97 days of 2026, up to 7 April, have 65.
+pub fn werktage_in(jahr: Jahr, n: u32, cal: HolidayCalendar) -> u32
+    requires { ⌜ (jahr .year ≤ 903) × (jahr ≡ jahrOf cal (jahr .year)) × (n ≤ yearLen (jahr .year)) ⌝ }
+    ensures { λ r. ⌜ (r ≡ among (isWerktag cal) (yearStart (jahr .year)) n) × (r ≤ n) ⌝ }
+{
+    let first = jahr.first;
+    let holidays = jahr.holidays;
+    weekdays_of(first + n) - weekdays_of(first) - number_before(holidays, n)
+}
+
+/// The same of the year 1996 + k.
 pub fn werktage_in_year(k: u32, n: u32, cal: HolidayCalendar) -> u32
     requires { ⌜ (k ≤ 903) × (n ≤ yearLen k) ⌝ }
     ensures { λ r. ⌜ (r ≡ among (isWerktag cal) (yearStart k) n) × (r ≤ n) ⌝ }
 {
-    match cal {
-        HolidayCalendar::BdewMaKo => {
-            let year = year_numbers(k);
-            let first = year.first;
-            weekdays_of(first + n) - weekdays_of(first) - struck_before(holidays_of(year), first, n)
-        }
-    }
+    werktage_in(jahr_of(k, cal), n, cal)
 }

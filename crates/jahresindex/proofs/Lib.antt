@@ -1,3 +1,2 @@
-pub mod Entries
 pub mod Table
 pub mod Rules

@@ -1,5 +1,5 @@
 -- What the proofs of this crate's functions cite, with premises in the form in which they stand there.
---   entry-rules   `werktage_before_year`: entry k of the table, and that it is no large number
+--   entry-rules   `entry_of`: entry k of the table, and that it is no large number
 --   year-rules    `year_of_werktag`: xs is the table, k a year
 -- Source: document 02, F-3.
 -- Assumes nothing.
@@ -8,7 +8,7 @@ use mathlib.Core.List.{List}
 use mathlib.Core.Path.{_≡_}
 use native.Mathlib.Omega.{arith}
 use native.Mathlib.Decide.{decLe}
-use lib.ListN.{getD}
+use lib.ListN.{length, getD}
 use mir.Syntax.{w32}
 use mir.Val.{Fits}
 use Rattle.zaehlung.specs.Walk.{last, count}
@@ -20,15 +20,22 @@ use Rattle.werktag.specs.declared.HolidayCalendar.{HolidayCalendar}
 use Rattle.werktag.specs.declared.HolidayCalendar.the-variants.{BdewMaKo}
 use Rattle.werktag.specs.Werktag.{isWerktag}
 use Rattle.jahresindex.specs.Werktage.{werktage}
-use Rattle.jahresindex.proofs.Entries.{entries}
+use Rattle.jahresindex.specs.Entries.{entries}
 use Rattle.jahresindex.proofs.Table.{entry-is, all-is}
 
-pub entry-few : (k : ℕ) → k ≤ 904 → getD entries k 0 ≤ 330180
-entry-few k h =
-    let w = isWerktag BdewMaKo in
-    omega (arith, entry-is BdewMaKo k h, count-le w (yearStart k), start-mono yearLen k 904 h, start-all)
+module _ (xs : List ℕ) (t : xs ≡ entries) (k : ℕ) (h : k ≤ 904) where
+  pub in-table : k < length xs
+  in-table = rw t (omega arith)
 
-pub ruleset entry-rules = (entry-is, entry-few)
+  pub entry-at : (cal : HolidayCalendar) → getD xs k 0 ≡ count (isWerktag cal) (yearStart k)
+  entry-at cal = rw t (entry-is cal k h)
+
+  pub entry-few : getD xs k 0 ≤ 330180
+  entry-few =
+      let w = isWerktag BdewMaKo in
+      omega (arith, entry-at BdewMaKo, count-le w (yearStart k), start-mono yearLen k 904 h, start-all)
+
+pub ruleset entry-rules = (in-table, entry-at, entry-few)
 
 module _ (cal : HolidayCalendar) (n : ℕ) (g : n ≤ count (isWerktag cal) (suc last)) where
   few : n ≤ werktage
@@ -63,9 +70,9 @@ module _ (cal : HolidayCalendar) (n : ℕ) (g : n ≤ count (isWerktag cal) (suc
         ]
 
     pub is-entry : getD xs k 0 ≡ count (isWerktag cal) (yearStart k)
-    is-entry = rw t (entry-is cal k (omega arith))
+    is-entry = entry-at xs t k (omega arith) cal
 
     pub up-to : n ≤ getD xs (k + 1) 0 → n ≤ count (isWerktag cal) (yearStart (k + 1))
-    up-to l = rw (entry-is cal (k + 1) (omega arith)) at (rw t at l)
+    up-to l = omega (arith, entry-at xs t (k + 1) (omega arith) cal)
 
 pub ruleset year-rules = (guess-fits, guess-small, later, later-less, earlier, is-entry, up-to)

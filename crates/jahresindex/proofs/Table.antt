@@ -22,7 +22,7 @@ use Rattle.werktag.specs.Werktag.{isWerktag}
 use Rattle.jahre.specs.Year.{onWeekday, weekdays, holidays}
 use Rattle.jahre.proofs.Counts.{inYear, yearly, years-count}
 use Rattle.jahresindex.specs.Werktage.{werktage}
-use Rattle.jahresindex.proofs.Entries.{entries}
+use Rattle.jahresindex.specs.Entries.{entries}
 
 whole : starts yearly 0 0 entries ≡ true
 unfolding starts start inYear weekdays yearLen isLeap easterSunday daysInMonth each onWeekday holidays

@@ -7,10 +7,11 @@ ghost use Prim.Native.Nat.{suc, _+_, _≤_, _<_};
 ghost use Rattle.zaehlung.specs.Walk.{last, count};
 ghost use Rattle.datum.specs.Calendar.{yearStart};
 ghost use Rattle.werktag.specs.Werktag.{isWerktag};
+ghost use Rattle.jahresindex.specs.Entries.{entries};
 
 mod tabelle;
 
-use tabelle::WERKTAGE_BEFORE;
+pub use tabelle::WERKTAGE_BEFORE;
 use werktag::HolidayCalendar;
 
 /// All Werktage of the calendar: the table's last entry.
@@ -25,17 +26,27 @@ pub struct Entry {
     pub before: u32,
 }
 
-/// The Werktage before 1 January of the year 1996 + k: its entry of the table.
+/// The Werktage before 1 January of the year 1996 + k: its entry of the table, which is lent. A constant array is built
+/// anew where it is read, so whoever reads often keeps the table.
 ///
 /// 0 before 1996, 7,367 before 2026, 222,031 before 2900.
-pub fn werktage_before_year(k: u32, cal: HolidayCalendar) -> u32
-    requires { ⌜ k ≤ 904 ⌝ }
+pub fn entry_of(table: &[u32], k: u32, cal: HolidayCalendar) -> u32
+    requires { ⌜ (now table ≡ entries) × (k ≤ 904) ⌝ }
     ensures { λ r. ⌜ (r ≡ count (isWerktag cal) (yearStart k)) × (r ≤ 330180) ⌝ }
 {
     let at = k as usize;
     match cal {
-        HolidayCalendar::BdewMaKo => WERKTAGE_BEFORE[at],
+        HolidayCalendar::BdewMaKo => table[at],
     }
+}
+
+/// The same by a table of its own.
+pub fn werktage_before_year(k: u32, cal: HolidayCalendar) -> u32
+    requires { ⌜ k ≤ 904 ⌝ }
+    ensures { λ r. ⌜ (r ≡ count (isWerktag cal) (yearStart k)) × (r ≤ 330180) ⌝ }
+{
+    let table = WERKTAGE_BEFORE;
+    entry_of(&table, k, cal)
 }
 
 /// The year in which the `n`-th Werktag of the calendar lies, with its entry. The guess is never proved to be good: the

@@ -9,3 +9,4 @@ pub mod OnOrAfter
 pub mod BlockLaws
 pub mod Search
 pub mod Striking
+pub mod Filling

@@ -5,7 +5,7 @@ use borrow.Author.Needs.{needs}
 use Prim.Native.Nat.{_-_, _≤_, _<_}
 use mathlib.Core.Path.{_≡_}
 use lib.ListN.{getD}
-use Rattle.jahresindex.proofs.Entries.{entries}
+use Rattle.jahresindex.specs.Entries.{entries}
 use Rattle.jahresindex.proofs.Rules.{year-rules}
 use Rattle.jahresindex.proofs.year_of_werktag.Statement.{statement}
 use Rattle.jahresindex.proofs.year_of_werktag.Tie as tie

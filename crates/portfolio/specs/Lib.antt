@@ -1,0 +1,3 @@
+pub mod Portfolio
+pub mod Runs
+pub mod Inside
