@@ -4,7 +4,7 @@
 -- 'Clock on a date: 3; 5, hour over 23, minute or second over 59, nanoseconds over 999,999,999; 6, local time absent';
 -- 'Day of an instant: 4, instant outside its limits; 7, not the beginning of a day in that Sparte'. Document 02, F-1:
 -- '9, before all others and for the whole call, if the question bytes are no multiple of 32 or exceed 65,536, or the
--- answers differ in length'.
+-- answers differ in length'; F-5: '10, after 1, if the three lists differ in length or have over 4,096 entries'.
 -- Assumes nothing.
 use Prim.Native.Nat.{ℕ}
 
@@ -34,3 +34,6 @@ leavesCalendar = 8
 
 abbrev pub fileLength : ℕ
 fileLength = 9
+
+abbrev pub listLength : ℕ
+listLength = 10

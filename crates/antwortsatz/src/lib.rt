@@ -25,6 +25,8 @@ pub const NO_BEGINNING: u8 = 7;
 pub const LEAVES_CALENDAR: u8 = 8;
 /// The questions are no multiple of 32 bytes or exceed 65,536, or the answers differ in length.
 pub const FILE_LENGTH: u8 = 9;
+/// The three lists of a portfolio differ in length or have over 4,096 entries.
+pub const LIST_LENGTH: u8 = 10;
 
 /// The answer's length in bytes.
 pub const ANSWER_BYTES: usize = 32;

@@ -1,12 +1,13 @@
 // The host calls: test the answer's length, read the numbers, ask for the answer, write its 32 bytes.
 //
-// Each call's promise is one equation: the number that it returns and the slice as it leaves it are what a definition
-// gives, which stands in specs/ of `antworten`, `antworten_frist`, `antworten_vorlauf` or `antworten_frage`. Refusal 1
-// is found first, by the call or by what it shares with a file of questions; every other is decided in the answer, but
-// 9, which is a file's.
+// Each call's promise is one equation: the number that it returns and the slices as it leaves them are what a definition
+// gives, which stands in specs/ of `antworten`, `antworten_frist`, `antworten_vorlauf`, `antworten_frage` or
+// `antworten_portfolio`. Refusal 1 is found first, by the call or by what it shares with a file of questions; every other
+// is decided in the answer, but 9, which is a file's.
 mod fragen;
 mod frist;
 mod kalender;
+mod portfolios;
 mod uhrzeit;
 mod vorlaeufe;
 
@@ -30,6 +31,7 @@ pub use kalender::mf_next_werktag;
 pub use kalender::mf_sub_werktage;
 pub use kalender::mf_subtract_months;
 pub use kalender::mf_werktage_between;
+pub use portfolios::mf_portfolio;
 pub use uhrzeit::mf_berlin_at;
 pub use uhrzeit::mf_berlin_date;
 pub use uhrzeit::mf_berlin_midnight;

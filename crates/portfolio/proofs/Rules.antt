@@ -1,5 +1,6 @@
 -- What the proofs of this crate's functions cite, with premises in the form in which they stand there; w is the day test
 -- of the list.
+--   portfolio-rules  `is_portfolio`
 --   calendar-rules   `in_calendar`
 --   range-rules      `in_range`: p and q are what `in_calendar` returned of the two days
 --   opened-rules     `opened`
@@ -9,9 +10,6 @@
 --   through-rules    `through`
 --   same-run         `werktage_between`
 --   pair-rules       `pair_count`
---   Counted          what holds as the pairs are counted: i pairs are done, cs is what the third list holds, r entries
---       were read, and the last pair begins in the year y
---   counts-rules     `counts_of`
 -- Assumes nothing.
 use Prim.Native.Nat.{ℕ, suc, _+_, _-_, _≤_, _<_}
 use mathlib.Core.Bool.{Bool, true, false, _&&_}
@@ -21,7 +19,7 @@ use native.Mathlib.Omega.{arith}
 use native.Mathlib.Numerals.{add-one}
 use lib.Dec.{T, eqb, leb, ltb}
 use lib.ListN.{length, getD, drop, set, length-set}
-use borrow.Author.Tests.{eq-eqb, ne-eqb, leb-true, ltb-true, le-leb, lt-leb, lt-ltb}
+use borrow.Author.Tests.{eq-eqb, ne-eqb, eqb-true, leb-true, ltb-true, le-leb, lt-leb, lt-ltb}
 use mir.Syntax.{w32}
 use mir.Val.{Fits}
 use Rattle.zaehlung.specs.Walk.{last, bit, among, count, between}
@@ -40,10 +38,26 @@ use Rattle.jahre.proofs.Rules.{year-within, year-known, days-within, of-year}
 use Rattle.jahresindex.specs.Werktage.{werktage}
 use Rattle.schritte.proofs.IndexRules.{year-at, sum-most, sum-at}
 use Rattle.portfolio.specs.declared.Lauf.{Lauf}
-use Rattle.portfolio.specs.Portfolio.{firstDay, inCalendar, inRange, pairCount, pairwise, countsOf}
+use Rattle.portfolio.specs.Portfolio.{isPortfolio, firstDay, inCalendar, inRange, pairCount, pairwise, countsOf}
 use Rattle.portfolio.specs.Runs.{beginning, opens, openings, runs}
 use Rattle.portfolio.specs.Inside.{IsRun, Knows}
 use Rattle.portfolio.proofs.Pairs.{pairwise-length, pairwise-at, openings-at, openings-end}
+
+-- is_portfolio
+module _ (n m k : ℕ) where
+  pub too-many : 4096 < n → false ≡ isPortfolio n m k
+  unfolding isPortfolio
+  too-many h = rw (lt-leb n 4096 h)
+
+  pub others : n ≤ 4096 → (m ≡ n → ⊥) → false ≡ isPortfolio n m k
+  unfolding isPortfolio
+  others h g = rw (le-leb n 4096 h, ne-eqb m n g)
+
+  pub as-many-days : n ≤ 4096 → m ≡ n → eqb k n ≡ isPortfolio n m k
+  unfolding isPortfolio
+  as-many-days h g = rw (le-leb n 4096 h, eq-eqb m n g)
+
+pub ruleset portfolio-rules = (too-many, others, as-many-days)
 
 -- in_calendar
 module _ (d : ℕ) where
@@ -267,18 +281,17 @@ same-run cal a b run i h l g =
     in-its-year b (yearOf a .0) (omega arith) (omega arith) (omega (arith, i .its-after)) in
     rw e i
 
--- pair_count
-module _ (cal : HolidayCalendar) (a b : ℕ) (run : Lauf) (c : Knows cal run) (e : run .year ≡ beginning a b) where
-  pub is-out : run .year ≡ 0 → 4294967295 ≡ pairCount (isWerktag cal) a b
+-- pair_count: p is what `in_range` returned
+module _
+    (cal : HolidayCalendar) (a b : ℕ) (run : Lauf) (c : Knows cal run) (e : run .year ≡ beginning a b) (p : Bool)
+    (q : p ≡ inRange a b) where
+  pub pair-out : p ≡ false → 4294967295 ≡ pairCount (isWerktag cal) a b
   unfolding pairCount
-  is-out z =
-      split (inRange a b)
-      (λ t. absurd (omega (arith, e, begins-in a b t)))
-      (λ t. rw t)
+  pair-out t = rw (sym q ∙ t)
 
-  module _ (z : run .year ≡ 0 → ⊥) where
+  module _ (t : p ≡ true) where
     in-range : inRange a b ≡ true
-    in-range = split (inRange a b) (λ t. t) (λ t. absurd (z (e ∙ begins-not a b t)))
+    in-range = sym q ∙ t
 
     pub pair-first : 9496 ≤ a
     pair-first = within a b in-range .0
@@ -295,67 +308,11 @@ module _ (cal : HolidayCalendar) (a b : ℕ) (run : Lauf) (c : Knows cal run) (e
     pub pair-run : IsRun cal (yearOf (a - 9496) .0) run
     pair-run =
         let k : run .year - 1996 ≡ yearOf (a - 9496) .0 = omega (arith, e, begins-in a b in-range) in
-        rw k at (c .of z .0)
+        rw k at (c .of (λ z. omega (arith, e, begins-in a b in-range)) .0)
 
     pub pair-is :
         (r : ℕ) → r ≡ between (isWerktag cal) (a - 9496) (b - 9496) → r ≡ pairCount (isWerktag cal) a b
     unfolding pairCount
-    pair-is r p = rw in-range p
+    pair-is r g = rw in-range g
 
-pub ruleset pair-rules = (is-out, pair-first, pair-second, pair-first-day, pair-second-day, pair-run, pair-is)
-
--- counts_of
-pub record Counted (w : ℕ → Bool) (xs ys cs : List ℕ) (i r y : ℕ) : Type 0 where
-  pub filled : Filled (countsOf w xs ys) cs i
-  pub opened : r + openings y (drop i (pairwise beginning xs ys)) ≡ runs xs ys
-  pub at-most : r ≤ i
-  pub as-many : length cs ≡ length xs
-
-module _ (w : ℕ → Bool) (xs ys cs : List ℕ) where
-  pub none-counted : length cs ≡ length xs → (y : ℕ) → y ≡ 0 → (r : ℕ) → r ≡ 0 → Counted w xs ys cs 0 r y
-  unfolding runs
-  none-counted h y e r z =
-      record {
-        filled = refl;
-        opened = rw (e, z) (omega arith);
-        at-most = omega arith;
-        as-many = h;
-      }
-
-  module _ (i r y : ℕ) (c : Counted w xs ys cs i r y) (l : length ys ≡ length xs) where
-    pub all-counted : length xs ≤ i → cs ≡ countsOf w xs ys
-    all-counted h =
-        let n = pairwise-length (pairCount w) xs ys l in
-        fill-all (countsOf w xs ys) cs i (c .as-many ∙ sym n) (c .filled) (omega arith)
-
-    pub all-opened : length xs ≤ i → r ≡ runs xs ys
-    all-opened h =
-        let n = pairwise-length beginning xs ys l in
-        omega (arith, c .opened, openings-end y i (pairwise beginning xs ys) (omega arith))
-
-    pub read-few : i < length xs → length xs ≤ 4096 → r < 4096
-    read-few h g = omega (arith, c .at-most)
-
-    pub place-in : i < length xs → i < length cs
-    place-in h = omega (arith, c .as-many)
-
-    -- one pair more: v is its count, z the year in which it begins, s the entries read with it
-    pub one-more :
-        (v z s : ℕ) → i < length xs → v ≡ pairCount w (getD xs i 0) (getD ys i 0) →
-        z ≡ beginning (getD xs i 0) (getD ys i 0) → s ≡ r + bit (opens y (beginning (getD xs i 0) (getD ys i 0))) →
-        Counted w xs ys (set cs i v) (i + 1) s z
-    one-more v z s h e f g =
-        let n = pairwise-length (pairCount w) xs ys l in
-        let m = pairwise-length beginning xs ys l in
-        let at : getD (pairwise beginning xs ys) i 0 ≡ z = pairwise-at beginning xs ys i l h ∙ sym f in
-        let o = openings-at y i (pairwise beginning xs ys) (omega arith) in
-        record {
-          filled =
-              fill-more (countsOf w xs ys) cs i (c .as-many ∙ sym n) (c .filled) v (omega arith)
-              (e ∙ sym (pairwise-at (pairCount w) xs ys i l h));
-          opened = omega (arith, c .opened, rw at at o, rw (sym f) at g);
-          at-most = omega (arith, c .at-most, g, bit-small (opens y (beginning (getD xs i 0) (getD ys i 0))));
-          as-many = length-set cs i v ∙ c .as-many;
-        }
-
-pub ruleset counts-rules = (none-counted, all-counted, all-opened, read-few, place-in, one-more, knows-none)
+pub ruleset pair-rules = (pair-out, pair-first, pair-second, pair-first-day, pair-second-day, pair-run, pair-is)

@@ -3,7 +3,7 @@
 // A pair takes two counts from the calendar's first day on: up to its first day and up to its second. Each is the
 // entry of a year in the year index and the Werktage of the year's first days. What a run of pairs that begin in one
 // year shares, the entry and the year's holidays, is worked out once for it.
-ghost use mathlib.Core.Bool.{_&&_};
+ghost use mathlib.Core.Bool.{true, _&&_};
 ghost use mathlib.Core.Path.{_≡_};
 ghost use Prim.Native.Nat.{suc, _+_, _≤_, _<_};
 ghost use lib.Dec.{leb, ltb};
@@ -13,7 +13,7 @@ ghost use Rattle.datum.specs.Calendar.{firstYear, yearOf};
 ghost use Rattle.werktag.specs.Werktag.{isWerktag};
 ghost use Rattle.jahresindex.specs.Entries.{entries};
 ghost use Rattle.jahresindex.specs.Werktage.{werktage};
-ghost use Rattle.portfolio.specs.Portfolio.{inCalendar, inRange, pairCount, countsOf};
+ghost use Rattle.portfolio.specs.Portfolio.{isPortfolio, inCalendar, inRange, pairCount, countsOf};
 ghost use Rattle.portfolio.specs.Runs.{beginning, opens, runs};
 ghost use Rattle.portfolio.specs.Inside.{IsRun, Knows};
 use jahre::Jahr;
@@ -21,14 +21,14 @@ use jahresindex::WERKTAGE_BEFORE;
 use werktag::HolidayCalendar;
 
 /// The most pairs of one portfolio.
-pub const MOST_PAIRS: usize = 4096;
+const MOST_PAIRS: usize = 4096;
 
 /// The calendar's first day and its last, in days from 1 January 1970 on.
 const FIRST_DAY: u32 = 9496;
 
 const LAST_DAY: u32 = 339675;
 
-/// What stands at the place of a pair with a day out of range.
+/// "A pair with an out-of-range day gives 4,294,967,295 at its place".
 const OUT_OF_RANGE: u32 = 4294967295;
 
 /// The calendar's first year, and the number of no year.
@@ -46,6 +46,20 @@ pub struct Lauf {
     pub before: u32,
     pub jahr: Jahr,
     pub read: u32,
+}
+
+/// Whether a portfolio may have lists of these lengths: "10, after 1, if the three lists differ in length or have over
+/// 4,096 entries". One of no pairs is one.
+pub fn is_portfolio(from: usize, to: usize, counts: usize) -> bool
+    ensures { λ r. ⌜ r ≡ isPortfolio from to counts ⌝ }
+{
+    if MOST_PAIRS < from {
+        return false;
+    }
+    if to != from {
+        return false;
+    }
+    counts == from
 }
 
 /// Whether a day lies in the calendar.
@@ -68,9 +82,9 @@ fn in_range(from: u32, to: u32) -> bool
     false
 }
 
-/// What a pair out of range belongs to: no run, behind which any pair in range opens one.
-fn no_run(read: u32) -> Lauf
-    ensures { λ r. ⌜ (r .year ≡ 0) × (r .after ≡ 0) × (r .read ≡ read) ⌝ }
+/// Before the first pair there is no run: any pair in range opens one.
+fn no_run() -> Lauf
+    ensures { λ r. ⌜ (r .year ≡ 0) × (r .after ≡ 0) × (r .read ≡ 0) ⌝ }
 {
     let holidays = [0; 20];
     let jahr = Jahr {
@@ -84,7 +98,22 @@ fn no_run(read: u32) -> Lauf
         after: 0,
         before: 0,
         jahr,
-        read,
+        read: 0,
+    }
+}
+
+/// "A pair with an out-of-range day .. ends a run and belongs to none": behind it any pair in range opens one.
+fn ended(run: Lauf) -> Lauf
+    ensures { λ r. ⌜ (r .year ≡ 0) × (r .after ≡ 0) × (r .read ≡ run .read) ⌝ }
+{
+    let jahr = run.jahr;
+    Lauf {
+        year: NO_YEAR,
+        first: run.first,
+        after: 0,
+        before: run.before,
+        jahr,
+        read: run.read,
     }
 }
 
@@ -138,7 +167,7 @@ fn next_run(run: Lauf, from: u32, to: u32, table: &[u32], cal: HolidayCalendar) 
     if in_range(from, to) {
         return run_on(run, from - FIRST_DAY, table, cal);
     }
-    no_run(run.read)
+    ended(run)
 }
 
 /// The Werktage up to and with a day of a run's year.
@@ -178,10 +207,10 @@ fn pair_count(run: Lauf, from: u32, to: u32, table: &[u32], cal: HolidayCalendar
     requires { ⌜ Knows cal run × (run .year ≡ beginning from to) × (now table ≡ entries) ⌝ }
     ensures { λ r. ⌜ r ≡ pairCount (isWerktag cal) from to ⌝ }
 {
-    if run.year == NO_YEAR {
-        return OUT_OF_RANGE;
+    if in_range(from, to) {
+        return werktage_between(run, from - FIRST_DAY, to - FIRST_DAY, table, cal);
     }
-    werktage_between(run, from - FIRST_DAY, to - FIRST_DAY, table, cal)
+    OUT_OF_RANGE
 }
 
 /// Fills the third list with the counts of the pairs of two others; returns how many entries of the year index were
@@ -190,13 +219,12 @@ fn pair_count(run: Lauf, from: u32, to: u32, table: &[u32], cal: HolidayCalendar
 /// From 2 and from 6 April 2026, 20,545 and 20,549, to 7 April, 20,550, there is 1 Werktag each, since the days of
 /// Easter are none; both pairs begin in 2026: 1 entry.
 pub fn counts_of(from: &[u32], to: &[u32], counts: &mut [u32], cal: HolidayCalendar) -> u32
-    requires { ⌜ (length (now from) ≤ 4096) × (length (now to) ≡ length (now from)) ⌝ }
-    requires { ⌜ length (now counts) ≡ length (now from) ⌝ }
+    requires { ⌜ isPortfolio (length (now from)) (length (now to)) (length (now counts)) ≡ true ⌝ }
     ensures { λ r. ⌜ now (counts .exit) ≡ countsOf (isWerktag cal) (now (from .entry)) (now (to .entry)) ⌝ }
     ensures { λ r. ⌜ r ≡ runs (now (from .entry)) (now (to .entry)) ⌝ }
 {
     let table = WERKTAGE_BEFORE;
-    let mut run = no_run(0);
+    let mut run = no_run();
     let mut i = 0;
     while i < from.len() {
         run = next_run(run, from[i], to[i], &table, cal);

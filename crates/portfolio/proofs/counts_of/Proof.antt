@@ -8,7 +8,7 @@ use lib.ListN.{length, length-set}
 use Rattle.werktag.specs.Werktag.{isWerktag}
 use Rattle.jahresindex.specs.Entries.{entries}
 use Rattle.portfolio.specs.Inside.{Knows}
-use Rattle.portfolio.proofs.Rules.{Counted, counts-rules, one-more}
+use Rattle.portfolio.proofs.Counted.{Counted, counts-rules, one-more}
 use Rattle.portfolio.proofs.counts_of.Statement.{statement}
 use Rattle.portfolio.proofs.counts_of.Tie as tie
 
@@ -78,7 +78,7 @@ loop-again : tie.Need-loop-again Inv-loop μ-loop
 loop-again c = (
   refl,
   search needs,
-  one-more _ _ _ _ _ _ _ (c .before .before .before .before .before .before .before .before .before .loop .inv .2) (search needs) _ _ _ (search needs) (search needs) (search needs) (search needs),
+  one-more _ _ _ _ _ _ _ (c .before .before .before .before .before .before .before .before .before .loop .inv .2) _ _ _ (search needs) (search needs) (search needs) (search needs),
   search (needs, length-set),
   search needs,
 )

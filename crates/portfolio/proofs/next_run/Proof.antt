@@ -18,8 +18,8 @@ run-on-requires c κs = search (needs, next-rules)
 returns : tie.Need-returns
 returns c = search (needs, next-rules)
 
-no-run-requires : tie.Need-no-run-requires
-no-run-requires c κs = search needs
+ended-requires : tie.Need-ended-requires
+ended-requires c κs = search needs
 
 returns-2 : tie.Need-returns-2
 returns-2 c = search (needs, next-rules)
@@ -27,4 +27,4 @@ returns-2 c = search (needs, next-rules)
 pub next-run-spec : {M : Type 1} → statement M
 next-run-spec =
     tie.close
-    (tie.spec in-range-requires sub-run-on run-on-requires returns no-run-requires returns-2)
+    (tie.spec in-range-requires sub-run-on run-on-requires returns ended-requires returns-2)

@@ -5,8 +5,8 @@ use Rattle.portfolio.proofs.Rules.{pair-rules}
 use Rattle.portfolio.proofs.pair_count.Statement.{statement}
 use Rattle.portfolio.proofs.pair_count.Tie as tie
 
-returns : tie.Need-returns
-returns c = search (needs, pair-rules)
+in-range-requires : tie.Need-in-range-requires
+in-range-requires c κs = search needs
 
 sub-werktage-between : tie.Need-sub-werktage-between
 sub-werktage-between c = search (needs, pair-rules)
@@ -17,6 +17,9 @@ sub-werktage-between-2 c = search (needs, pair-rules)
 werktage-between-requires : tie.Need-werktage-between-requires
 werktage-between-requires c κs = search (needs, pair-rules)
 
+returns : tie.Need-returns
+returns c = search (needs, pair-rules)
+
 returns-2 : tie.Need-returns-2
 returns-2 c = search (needs, pair-rules)
 
@@ -24,8 +27,9 @@ pub pair-count-spec : {M : Type 1} → statement M
 pair-count-spec =
     tie.close
     (tie.spec
-    returns
+    in-range-requires
     sub-werktage-between
     sub-werktage-between-2
     werktage-between-requires
+    returns
     returns-2)
