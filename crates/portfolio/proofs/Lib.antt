@@ -1,3 +1,4 @@
 pub mod Pairs
 pub mod Rules
 pub mod Counted
+pub mod RunLaws

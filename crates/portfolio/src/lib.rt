@@ -103,18 +103,12 @@ fn no_run() -> Lauf
 }
 
 /// "A pair with an out-of-range day .. ends a run and belongs to none": behind it any pair in range opens one.
-fn ended(run: Lauf) -> Lauf
+fn ended(mut run: Lauf) -> Lauf
     ensures { λ r. ⌜ (r .year ≡ 0) × (r .after ≡ 0) × (r .read ≡ run .read) ⌝ }
 {
-    let jahr = run.jahr;
-    Lauf {
-        year: NO_YEAR,
-        first: run.first,
-        after: 0,
-        before: run.before,
-        jahr,
-        read: run.read,
-    }
+    run.year = NO_YEAR;
+    run.after = 0;
+    run
 }
 
 /// The run that a pair opens whose first day has this index. Here the entry of the year is read, and counted.
