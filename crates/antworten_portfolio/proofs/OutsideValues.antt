@@ -1,5 +1,5 @@
--- The definitions against values from outside: a portfolio of nine pairs, with counts and years by Python's calendar and
--- the holiday list, and its answer by the papers' layout.
+-- The definitions against values from outside: a portfolio of nine pairs, its counts and years by Python's calendar and
+-- the holiday list, its answer by the papers' layout.
 -- Assumes nothing.
 use Prim.Native.Nat.{ℕ}
 use mathlib.Core.List.{List, [], _∷_}

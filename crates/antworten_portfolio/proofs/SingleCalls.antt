@@ -4,7 +4,7 @@
 --   place-call    so it is at any place of a portfolio that is answered
 --   pair-within   a pair in range has a count of at most 330,180, so 4,294,967,295 is none
 -- Assumes nothing.
-use Prim.Native.Nat.{ℕ, _+_, _-_, _≤_, _<_}
+use Prim.Native.Nat.{ℕ, suc, _+_, _-_, _≤_, _<_}
 use mathlib.Core.Bool.{Bool, true}
 use mathlib.Core.List.{List}
 use mathlib.Core.Path.{_≡_, refl, sym, ap, _∙_}
@@ -12,12 +12,14 @@ use native.Mathlib.Omega.{arith}
 use lib.ListN.{length, getD}
 use borrow.Author.Tests.{le-leb}
 use Rattle.zaehlung.specs.Walk.{last, between}
+use Rattle.zaehlung.proofs.Count.{count-among, count-le}
 use Rattle.datum.specs.declared.Date.{Date}
 use Rattle.datum.specs.declared.Index.the-variants.{Day}
 use Rattle.datum.specs.Calendar.{indexOf}
 use Rattle.datum.proofs.RoundTrip.{index-inside}
 use Rattle.portfolio.specs.Portfolio.{isPortfolio, inRange, pairCount, countsOf}
 use Rattle.portfolio.proofs.Pairs.{pairwise-at}
+use Rattle.portfolio.proofs.Rules.{within}
 use Rattle.portfolio.proofs.Counted.{lengths-are}
 use Rattle.antwortsatz.proofs.Rules.{reply-whole}
 use Rattle.antwortsatz.specs.Answers.{counted}
@@ -52,3 +54,11 @@ module _ (w : ℕ → Bool) (d e : Date) (i j : ℕ) (f : indexOf d ≡ Day i) (
       let n = lengths-are (length xs) (length ys) (length zs) p in
       rw (p, reply-whole l _ h)
       (pairwise-at (pairCount w) xs ys k (n .days) q ∙ (rw (x, y) pair-call))
+
+pub pair-within : (w : ℕ → Bool) (a b : ℕ) → inRange a b ≡ true → pairCount w a b ≤ 330180
+unfolding pairCount between
+pair-within w a b t =
+    let h = within a b t in
+    let i = suc (a - 9496) in
+    let k = b - 9496 - (a - 9496) in
+    rw t (omega (arith, count-among w i k, count-le w (i + k)))

@@ -21,7 +21,8 @@ pub fn portfolio_reply(
 ) -> u8
     ensures { λ r. ⌜
         (r, now (counts .exit), now (answer .exit))
-        ≡ portfolioReply (isWerktag cal) (now (from .entry)) (now (to .entry)) (now (counts .entry)) (now (answer .entry))
+        ≡ portfolioReply (isWerktag cal) (now (from .entry)) (now (to .entry)) (now (counts .entry))
+        (now (answer .entry))
         ⌝ }
 {
     if answer.len() != ANSWER_BYTES {

@@ -253,9 +253,8 @@ module _ (cal : HolidayCalendar) (j : Jahr) (h : j .year ≤ 903) (e : j ≡ jah
         no-more =
             let y = yearNumbers (j .year) in
             let f = onWeekday (y .first) in
-            let w = ap weekdays first-of in
-            omega
-            (arith, rw first-of at struck, rw first-of at p, rw first-of at q, count-weekdays (y .first) n, count-strikes f (holidays y) n (usual (j .year) (omega arith) .once-each))
+            let s = count-strikes f (holidays y) n (usual (j .year) (omega arith) .once-each) in
+            omega (arith, rw first-of at struck, rw first-of at p, rw first-of at q, count-weekdays (y .first) n)
 
         pub counts : a - b - m ≡ among (isWerktag cal) (yearStart (j .year)) n
         unfolding inYear

@@ -1,9 +1,9 @@
 // The host calls: test the answer's length, read the numbers, ask for the answer, write its 32 bytes.
 //
-// Each call's promise is one equation: the number that it returns and the slices as it leaves them are what a definition
-// gives, which stands in specs/ of `antworten`, `antworten_frist`, `antworten_vorlauf`, `antworten_frage` or
-// `antworten_portfolio`. Refusal 1 is found first, by the call or by what it shares with a file of questions; every other
-// is decided in the answer, but 9, which is a file's.
+// Each call's promise is one equation: the number that it returns and the slices as it leaves them are what a
+// definition gives, which stands in specs/ of `antworten`, `antworten_frist`, `antworten_vorlauf`, `antworten_frage` or
+// `antworten_portfolio`. Refusal 1 is found first, by the call or by what it shares with a file of questions; every
+// other is decided in the answer, but 9, which is a file's.
 mod fragen;
 mod frist;
 mod kalender;

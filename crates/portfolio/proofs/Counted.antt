@@ -1,7 +1,7 @@
 -- What the proof of `counts_of` cites, and what its caller knows of the lists.
 --   Lengths        what is known of three lengths that a portfolio may have: `lengths-are`
---   Counted        what holds as the pairs are counted: i pairs are done, cs is what the third list holds, r entries were
---       read, and the last pair begins in the year y
+--   Counted        what holds as the pairs are counted: i pairs are done, cs is what the third list holds, r entries
+--       were read, and the last pair begins in the year y
 --   counts-rules   for `counts_of`: no pair is counted; one more; all are
 -- Assumes nothing.
 use Prim.Native.Nat.{ℕ, _+_, _≤_, _<_}

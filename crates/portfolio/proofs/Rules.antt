@@ -1,5 +1,4 @@
--- What the proofs of this crate's functions cite, with premises in the form in which they stand there; w is the day test
--- of the list.
+-- What the proofs of this crate's functions cite, with premises in the form in which they stand there.
 --   portfolio-rules  `is_portfolio`
 --   calendar-rules   `in_calendar`
 --   range-rules      `in_range`: p and q are what `in_calendar` returned of the two days
@@ -171,7 +170,7 @@ pub ruleset on-rules = (goes-on, none-opened, one-opened)
 
 -- what the test of a pair says: p is what `in_range` returned
 module _ (a b : ℕ) where
-  within : inRange a b ≡ true → (9496 ≤ a) × (a ≤ 339675) × (9496 ≤ b) × (b ≤ 339675)
+  pub within : inRange a b ≡ true → (9496 ≤ a) × (a ≤ 339675) × (9496 ≤ b) × (b ≤ 339675)
   unfolding inRange
   within t =
       let f = and-left (inCalendar a) (inCalendar b) t in

@@ -75,13 +75,15 @@ loop-less : tie.Need-loop-less Inv-loop μ-loop
 loop-less c = search (needs, counts-rules)
 
 loop-again : tie.Need-loop-again Inv-loop μ-loop
-loop-again c = (
-  refl,
-  search needs,
-  one-more _ _ _ _ _ _ _ (c .before .before .before .before .before .before .before .before .before .loop .inv .2) _ _ _ (search needs) (search needs) (search needs) (search needs),
-  search (needs, length-set),
-  search needs,
-)
+loop-again c =
+    let l = c .before .before .before .before .before .before .before .before .before in (
+      refl,
+      search needs,
+      one-more _ _ _ _ _ _ _ (l .loop .inv .2) _ _ _
+          (search needs) (search needs) (search needs) (search needs),
+      search (needs, length-set),
+      search needs,
+    )
 
 same-length : tie.Need-same-length Inv-loop μ-loop
 same-length c = search (needs, counts-rules)
