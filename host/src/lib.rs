@@ -25,6 +25,7 @@
 //! | *And was it kept?* | [`AbmeldungVorlauf::check`] |
 //! | *Did the 13:00 announcement come in time?* | [`eog_ankuendigung_fristgerecht`] |
 //! | *What is the answer to each of a day's questions?* | [`fragen`] |
+//! | *How many Werktage has each contract of a portfolio?* | [`portfolio`], [`portfolio_counts`] |
 //!
 //! A call answers, or refuses with one of the numbers of documents 01 and 02, which [`Refusal`]
 //! names. What is neither is an [`Error::Unreadable`]. No input makes a function of this crate panic.
@@ -86,8 +87,8 @@
 //! The calls have no state, and read neither a clock nor a file: any number of threads may ask at
 //! the same time, without a lock, and the same question always has the same answer. They take no
 //! memory from the heap; [`fragen`], [`answers`] and [`answer_records`] do, for the questions and
-//! answers of a day. Steps and counts read whole years from a table; docs/BENCHMARKS.md has the
-//! times.
+//! answers of a day, and [`portfolio`] for its lists. Steps and counts read whole years from a table;
+//! docs/BENCHMARKS.md has the times.
 
 #![deny(missing_docs)]
 #![deny(unsafe_code)]
@@ -120,6 +121,7 @@ mod gas;
 mod instant;
 mod kalender;
 mod parameter;
+mod portfolio;
 mod question;
 mod reason;
 mod refusal;
@@ -167,6 +169,7 @@ pub use kalender::{
     werktage_between,
 };
 pub use parameter::Parameter;
+pub use portfolio::{portfolio, portfolio_counts, MOST_PAIRS, OUT_OF_RANGE};
 pub use question::Question;
 pub use reason::Reason;
 pub use refusal::Refusal;
