@@ -3,6 +3,8 @@
 
 #[path = "kommandozeile/fragen.rs"]
 mod fragen;
+#[path = "kommandozeile/portfolio.rs"]
+mod portfolio;
 #[path = "kommandozeile/saetze.rs"]
 mod saetze;
 
@@ -12,8 +14,12 @@ use mako_fristen_host::{
 use saetze::{CASES, DAYS, DUE, JSON, LABELS, SPANS, VERDICTS, VERDICTS_JSON};
 use std::ffi::{OsStr, OsString};
 use std::fs;
-use std::path::Path;
-use std::process::{Command, Output, Stdio};
+use std::io::Write;
+use std::path::{Path, PathBuf};
+use std::process::{ChildStdin, Command, Output, Stdio};
+use std::sync::mpsc;
+use std::thread;
+use std::time::Duration;
 
 fn program() -> Command {
     Command::new(env!("CARGO_BIN_EXE_fristen"))
@@ -51,6 +57,48 @@ fn complaint<T: AsRef<OsStr>>(arguments: &[T]) -> String {
     String::from_utf8(output.stderr).expect("UTF-8")
 }
 
+/// A command that reads lines, with these arguments and fed with these bytes.
+fn fed(name: &str, arguments: &[&str], input: &[u8]) -> Output {
+    let mut child = program()
+        .arg(name)
+        .args(arguments)
+        .stdin(Stdio::piped())
+        .stdout(Stdio::piped())
+        .stderr(Stdio::piped())
+        .spawn()
+        .expect("the program runs");
+    let mut stdin = child.stdin.take().expect("a pipe");
+    let input = input.to_vec();
+    // It may end before it has read everything.
+    let feeder = thread::spawn(move || stdin.write_all(&input).unwrap_or_default());
+    let output = child.wait_with_output().expect("it ends");
+    feeder.join().expect("it is fed");
+    output
+}
+
+fn lines(output: &Output) -> Vec<String> {
+    let text = str::from_utf8(&output.stdout).expect("UTF-8");
+    assert!(text.is_empty() || text.ends_with('\n'));
+    text.lines().map(str::to_owned).collect()
+}
+
+fn file(name: &str, content: impl AsRef<[u8]>) -> PathBuf {
+    let path = PathBuf::from(env!("CARGO_TARGET_TMPDIR")).join(name);
+    fs::write(&path, content).expect("a file is written");
+    path
+}
+
+/// The answer, which must come within half a minute.
+fn within<T: Send + 'static>(read: impl FnOnce() -> T + Send + 'static) -> T {
+    let (sender, receiver) = mpsc::channel();
+    thread::spawn(move || sender.send(read()));
+    receiver.recv_timeout(Duration::from_secs(30)).expect("an answer in time")
+}
+
+fn feed(to: &mut ChildStdin, text: &str) {
+    to.write_all(text.as_bytes()).expect("it is read");
+}
+
 /// The names in the source: `is-werktag`.
 fn source_names() -> impl Iterator<Item = (Call, String)> {
     Call::ALL.into_iter().map(|call| (call, call.name()[3..].replace('_', "-")))
@@ -65,7 +113,7 @@ fn unindented(block: &str) -> String {
 #[test]
 fn the_examples_of_the_help_print_what_it_says() {
     let folder = Path::new(env!("CARGO_TARGET_TMPDIR"));
-    let others = ["kalender", "fragen"].map(str::to_owned);
+    let others = ["kalender", "fragen", "portfolio"].map(str::to_owned);
     for name in source_names().map(|(_, name)| name).chain(others) {
         let help = printed(&["help", &name], 0);
         assert_eq!(help, printed(&[&name, "--help"], 0), "{name}");
@@ -308,6 +356,9 @@ const WRONG: &[(&str, &str)] = &[
     ("tag 2026-01-01 --laut", "unbekannte Option „--laut“"),
     ("tag 2026-01-01 --roh", "--roh gibt es zu diesem Befehl nicht"),
     ("kalender 2026 --roh --json", "--roh gibt es zu diesem Befehl nicht"),
+    ("portfolio --roh", "--roh gibt es zu diesem Befehl nicht"),
+    ("portfolio - --bytes", "--bytes gibt es zu diesem Befehl nicht"),
+    ("portfolio a b", "zu viel: „b“"),
 ];
 
 #[test]
@@ -531,7 +582,7 @@ impl Random {
 fn no_arguments_make_it_panic() {
     let mut vocabulary: Vec<String> = source_names().map(|(_, name)| name).collect();
     let others = "tag contrl check check-at span frist abmeldung kalender help --json --bytes --roh \
-                  --help fragen --eeg --eeg=ja ja nein -- - -1 0 1 2 61 4294967295 4294967296 1995 2026 2899 2900 \
+                  --help fragen portfolio --eeg --eeg=ja ja nein -- - -1 0 1 2 61 4294967295 4294967296 1995 2026 2899 2900 \
                   1996-01-01 2026-02-29 2026-03-29 2899-12-31 9999-99-99 02:30 24:00 12:00:00.5 \
                   2026-03-29T02:30:00+02:00 1996-01-01T00:00:00+01:00 2899-12-31T23:59:59+01:00 \
                   0000-01-01T00:00:00Z @0 @-9223372036854775808.4294967295 @29348002799.999999999 \

@@ -1,15 +1,15 @@
 //! `fristen fragen`: the questions of a file.
 
-use super::{complaint, program, run, words, Random, COUNTS, DATES, INSTANTS, SHAPES};
+use super::{
+    complaint, feed, file, lines, program, run, within, words, Random, COUNTS, DATES, INSTANTS,
+    SHAPES,
+};
 use mako_fristen_host::{
     answer_records, Clock, ContrlAnlass, Date, Frage, Fragesatz, FristShape, Instant, VorlaufShape,
 };
 use std::fs;
-use std::io::{BufRead, BufReader, Read, Write};
-use std::path::PathBuf;
-use std::process::{ChildStdin, Output, Stdio};
-use std::sync::mpsc;
-use std::thread;
+use std::io::{BufRead, BufReader, Read};
+use std::process::{Output, Stdio};
 use std::time::{Duration, Instant as Now};
 
 const CHECK: &str = "check LatestWerktageBefore 1 2026-01-10 2026-01-12";
@@ -50,21 +50,7 @@ const MIXED: &[&str] = &[
 
 /// `fragen` with these arguments, fed with these bytes.
 fn fed(arguments: &[&str], input: &[u8]) -> Output {
-    let mut child = program()
-        .arg("fragen")
-        .args(arguments)
-        .stdin(Stdio::piped())
-        .stdout(Stdio::piped())
-        .stderr(Stdio::piped())
-        .spawn()
-        .expect("the program runs");
-    let mut stdin = child.stdin.take().expect("a pipe");
-    let input = input.to_vec();
-    // It may end before it has read everything.
-    let feeder = thread::spawn(move || stdin.write_all(&input).unwrap_or_default());
-    let output = child.wait_with_output().expect("it ends");
-    feeder.join().expect("it is fed");
-    output
+    super::fed("fragen", arguments, input)
 }
 
 /// The lines that it prints with this status, complaining of nothing.
@@ -73,12 +59,6 @@ fn answers(arguments: &[&str], input: impl AsRef<[u8]>, status: i32) -> Vec<Stri
     assert_eq!(String::from_utf8_lossy(&output.stderr), "");
     assert_eq!(output.status.code(), Some(status));
     lines(&output)
-}
-
-fn lines(output: &Output) -> Vec<String> {
-    let text = str::from_utf8(&output.stdout).expect("UTF-8");
-    assert!(text.is_empty() || text.ends_with('\n'));
-    text.lines().map(str::to_owned).collect()
 }
 
 /// What the single command prints, as `fragen` prints it for this line.
@@ -90,12 +70,6 @@ fn single(line: &str, number: usize, form: &[&str]) -> String {
         ["--json"] => format!("{{\"line\":{number},{}", &text[1..]),
         _ => format!("{number}: {text}"),
     }
-}
-
-fn file(name: &str, content: impl AsRef<[u8]>) -> PathBuf {
-    let path = PathBuf::from(env!("CARGO_TARGET_TMPDIR")).join(name);
-    fs::write(&path, content).expect("a file is written");
-    path
 }
 
 #[test]
@@ -399,17 +373,6 @@ fn more_lines_than_a_file_of_records_has() {
             (0..count).map(|place| format!("{}{}", place + 1, &of_each[place % 24][1..])).collect();
         assert!(answers(&["--bytes"], input, 2) == expected, "{count}");
     }
-}
-
-/// The answer, which must come within half a minute.
-fn within<T: Send + 'static>(read: impl FnOnce() -> T + Send + 'static) -> T {
-    let (sender, receiver) = mpsc::channel();
-    thread::spawn(move || sender.send(read()));
-    receiver.recv_timeout(Duration::from_secs(30)).expect("an answer in time")
-}
-
-fn feed(to: &mut ChildStdin, text: &str) {
-    to.write_all(text.as_bytes()).expect("it is read");
 }
 
 /// A line is answered as soon as it has ended, although the next has begun.
