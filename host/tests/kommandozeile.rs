@@ -582,7 +582,8 @@ impl Random {
 fn no_arguments_make_it_panic() {
     let mut vocabulary: Vec<String> = source_names().map(|(_, name)| name).collect();
     let others = "tag contrl check check-at span frist abmeldung kalender help --json --bytes --roh \
-                  --help fragen portfolio --eeg --eeg=ja ja nein -- - -1 0 1 2 61 4294967295 4294967296 1995 2026 2899 2900 \
+                  --help fragen portfolio --eeg --eeg=ja ja nein -- - -1 0 1 2 61 4294967295 4294967296 1995 \
+                  2026 2899 2900 \
                   1996-01-01 2026-02-29 2026-03-29 2899-12-31 9999-99-99 02:30 24:00 12:00:00.5 \
                   2026-03-29T02:30:00+02:00 1996-01-01T00:00:00+01:00 2899-12-31T23:59:59+01:00 \
                   0000-01-01T00:00:00Z @0 @-9223372036854775808.4294967295 @29348002799.999999999 \
