@@ -28,8 +28,20 @@ impl Date {
     /// The last date that the calls take.
     pub const LAST: Date = Date::new(2899, 12, 31);
     /// The days from 1 January 1970 to [`FIRST`](Date::FIRST).
+    ///
+    /// ```
+    /// use mako_fristen_host::Date;
+    ///
+    /// assert_eq!(Date::of_day_number(Date::FIRST_DAY.into()), Some(Date::FIRST));
+    /// ```
     pub const FIRST_DAY: u32 = 9_496;
     /// The days from 1 January 1970 to [`LAST`](Date::LAST).
+    ///
+    /// ```
+    /// use mako_fristen_host::Date;
+    ///
+    /// assert_eq!(Date::of_day_number(Date::LAST_DAY.into()), Some(Date::LAST));
+    /// ```
     pub const LAST_DAY: u32 = 339_675;
 
     /// The date of these three numbers, whatever they are: `Date::new(2026, 2, 29)` is a value that

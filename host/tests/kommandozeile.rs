@@ -7,6 +7,8 @@ mod fragen;
 mod portfolio;
 #[path = "kommandozeile/saetze.rs"]
 mod saetze;
+#[path = "kommandozeile/zeilen.rs"]
+mod zeilen;
 
 use mako_fristen_host::{
     ffi, Answer, Call, Clock, Date, DayReason, Instant, Parameter, Question, Reason,
@@ -14,12 +16,8 @@ use mako_fristen_host::{
 use saetze::{CASES, DAYS, DUE, JSON, LABELS, SPANS, VERDICTS, VERDICTS_JSON};
 use std::ffi::{OsStr, OsString};
 use std::fs;
-use std::io::Write;
-use std::path::{Path, PathBuf};
-use std::process::{ChildStdin, Command, Output, Stdio};
-use std::sync::mpsc;
-use std::thread;
-use std::time::Duration;
+use std::path::Path;
+use std::process::{Command, Output, Stdio};
 
 fn program() -> Command {
     Command::new(env!("CARGO_BIN_EXE_fristen"))
@@ -55,48 +53,6 @@ fn complaint<T: AsRef<OsStr>>(arguments: &[T]) -> String {
     assert_eq!(output.status.code(), Some(64), "{shown:?}");
     assert_eq!(output.stdout, b"", "{shown:?}");
     String::from_utf8(output.stderr).expect("UTF-8")
-}
-
-/// A command that reads lines, with these arguments and fed with these bytes.
-fn fed(name: &str, arguments: &[&str], input: &[u8]) -> Output {
-    let mut child = program()
-        .arg(name)
-        .args(arguments)
-        .stdin(Stdio::piped())
-        .stdout(Stdio::piped())
-        .stderr(Stdio::piped())
-        .spawn()
-        .expect("the program runs");
-    let mut stdin = child.stdin.take().expect("a pipe");
-    let input = input.to_vec();
-    // It may end before it has read everything.
-    let feeder = thread::spawn(move || stdin.write_all(&input).unwrap_or_default());
-    let output = child.wait_with_output().expect("it ends");
-    feeder.join().expect("it is fed");
-    output
-}
-
-fn lines(output: &Output) -> Vec<String> {
-    let text = str::from_utf8(&output.stdout).expect("UTF-8");
-    assert!(text.is_empty() || text.ends_with('\n'));
-    text.lines().map(str::to_owned).collect()
-}
-
-fn file(name: &str, content: impl AsRef<[u8]>) -> PathBuf {
-    let path = PathBuf::from(env!("CARGO_TARGET_TMPDIR")).join(name);
-    fs::write(&path, content).expect("a file is written");
-    path
-}
-
-/// The answer, which must come within half a minute.
-fn within<T: Send + 'static>(read: impl FnOnce() -> T + Send + 'static) -> T {
-    let (sender, receiver) = mpsc::channel();
-    thread::spawn(move || sender.send(read()));
-    receiver.recv_timeout(Duration::from_secs(30)).expect("an answer in time")
-}
-
-fn feed(to: &mut ChildStdin, text: &str) {
-    to.write_all(text.as_bytes()).expect("it is read");
 }
 
 /// The names in the source: `is-werktag`.

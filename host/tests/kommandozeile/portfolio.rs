@@ -1,10 +1,12 @@
 //! `fristen portfolio`: the pairs of dates of a file.
 
-use super::{complaint, feed, file, lines, program, within, Random, DATES};
+use super::zeilen::{
+    assert_at_once, assert_may_go_away, assert_unread, complaints, file, lines, said,
+};
+use super::{complaint, program, zeilen, Random, DATES};
 use mako_fristen_host::{werktage_between, Date};
 use std::fs;
-use std::io::{BufRead, BufReader, Read};
-use std::process::{Output, Stdio};
+use std::process::Output;
 use std::time::{Duration, Instant};
 
 const NO_DATE: &str =
@@ -15,7 +17,7 @@ const ONE_UNREAD: &str =
 
 /// `portfolio` with these arguments, fed with these bytes.
 fn fed(arguments: &[&str], input: impl AsRef<[u8]>) -> Output {
-    super::fed("portfolio", arguments, input.as_ref())
+    zeilen::fed("portfolio", arguments, input.as_ref())
 }
 
 /// The lines that it prints, complaining of nothing.
@@ -24,10 +26,6 @@ fn counts(arguments: &[&str], input: impl AsRef<[u8]>) -> Vec<String> {
     assert_eq!(String::from_utf8_lossy(&output.stderr), "");
     assert_eq!(output.status.code(), Some(0));
     lines(&output)
-}
-
-fn complaints(output: &Output) -> String {
-    String::from_utf8(output.stderr.clone()).expect("UTF-8")
 }
 
 /// Over Easter, over Christmas, ten years, backwards, and a day.
@@ -173,21 +171,15 @@ fn the_status_is_that_of_the_worst_line() {
     }
 }
 
-/// In a terminal both outputs are one.
 #[test]
 fn a_complaint_stands_between_the_counts() {
     let lines = ["2026-04-02 2026-04-07", "1", "2026-04-02 2026-02-29", "2025-12-23 2026-01-07"];
     let path = file("dazwischen.csv", lines.join("\n"));
-    let (mut reader, writer) = std::io::pipe().expect("a pipe");
-    let both = writer.try_clone().expect("a pipe");
-    let status = program().arg("portfolio").arg(path).stdout(writer).stderr(both).status();
-    let mut said = String::new();
-    reader.read_to_string(&mut said).expect("UTF-8");
     let expected = format!(
         "1\nfristen: Zeile 2: VON: erwartet ein Datum wie 2026-04-02, nicht „1“\n\n\
          fristen: Zeile 3: BIS 2026-02-29: {NO_DATE}\n\n5\n{ONE_UNREAD}"
     );
-    assert_eq!((said, status.expect("it runs").code()), (expected, Some(64)));
+    assert_eq!(said("portfolio", &path), (expected, Some(64)));
 }
 
 /// More than a call takes; by the single call, and at its place.
@@ -209,45 +201,15 @@ fn any_number_of_lines() {
     }
 }
 
-/// A line is counted as soon as it has ended, although the next has begun.
 #[test]
 fn input_in_pieces() {
-    let child = program().arg("portfolio").stdin(Stdio::piped()).stdout(Stdio::piped()).spawn();
-    let mut child = child.expect("the program runs");
-    let mut stdin = child.stdin.take().expect("a pipe");
-    let mut stdout = BufReader::new(child.stdout.take().expect("a pipe"));
-    let mut counted = String::new();
-    feed(&mut stdin, "\u{feff}VON;BI");
-    feed(&mut stdin, "S\r\n2026-04-02;2026-");
-    feed(&mut stdin, "04-07\r\n2025-12-23;");
-    (stdout, counted) = within(move || {
-        stdout.read_line(&mut counted).expect("UTF-8");
-        stdout.read_line(&mut counted).expect("UTF-8");
-        (stdout, counted)
-    });
-    assert_eq!(counted, "\n1\n");
-    feed(&mut stdin, "2026-01-07");
-    drop(stdin);
-    counted.clear();
-    stdout.read_to_string(&mut counted).expect("UTF-8");
-    assert_eq!(counted, "5\n");
-    assert_eq!(child.wait().expect("it ends").code(), Some(0));
+    let pieces = ["\u{feff}VON;BI", "S\r\n2026-04-02;2026-", "04-07\r\n2025-12-23;"];
+    assert_at_once("portfolio", pieces, "\n1\n", "2026-01-07", "5\n");
 }
 
 #[test]
 fn a_file_that_cannot_be_read() {
-    let folder = env!("CARGO_TARGET_TMPDIR");
-    let missing = format!("{folder}/gibt es nicht.csv");
-    for (path, why) in
-        [(missing.as_str(), "Diese Datei gibt es nicht."), (folder, "Das ist ein Verzeichnis.")]
-    {
-        for form in [&[][..], &["--json"]] {
-            let output = fed(&[&[path], form].concat(), "");
-            assert_eq!((output.status.code(), output.stdout.as_slice()), (Some(66), &b""[..]));
-            let expected = format!("fristen: „{path}“ lässt sich nicht lesen. {why}\n");
-            assert_eq!(complaints(&output), expected);
-        }
-    }
+    assert_unread("portfolio", &[&[], &["--json"]]);
 }
 
 #[test]
@@ -283,25 +245,15 @@ fn a_very_long_line() {
 
 #[test]
 fn a_reader_that_goes_away_has_read_enough() {
-    let (mut reader, writer) = std::io::pipe().expect("a pipe");
     let path = file("zeilen.csv", "2026-04-02;2026-04-07\n".repeat(200_000));
-    let child = program().arg("portfolio").arg(path).stdout(writer).stderr(Stdio::piped()).spawn();
-    let mut first = [0; 2];
-    reader.read_exact(&mut first).expect("a count");
-    drop(reader);
-    let output = child.expect("the program runs").wait_with_output().expect("it ends");
-    assert_eq!((output.status.code(), output.stderr, first), (Some(0), vec![], *b"1\n"));
+    assert_may_go_away("portfolio", &path, b"1\n");
 }
 
 #[cfg(target_os = "linux")]
 #[test]
 fn an_output_that_cannot_be_written_is_a_failure() {
     let path = file("wenige.csv", "2026-04-02;2026-04-07\n1\n2026-04-02;2026-04-07\n");
-    let full = || fs::OpenOptions::new().write(true).open("/dev/full").expect("/dev/full");
-    let output = program().arg("portfolio").arg(&path).stdout(full()).output().expect("it runs");
-    assert_eq!(output.status.code(), Some(74));
-    let output = program().arg("portfolio").arg(&path).stderr(full()).output().expect("it runs");
-    assert_eq!((output.status.code(), lines(&output).len()), (Some(74), 3), "all have their place");
+    zeilen::assert_unwritten("portfolio", &path, 3);
 }
 
 /// In seconds, also where nothing is optimised and other tests run beside it.
