@@ -13,7 +13,8 @@ use crate::{
 /// That an answer can be read does not say that it still means the same. An archive from before F-2
 /// of document 02, whose day test gives 1 for a Werktag and 0 for every other day, would be read the
 /// wrong way round; here it is found, and so is one from before F-3, whose counts do not say how
-/// many days they tested. It takes some microseconds.
+/// many days they tested. (One from before F-5 has no `mf_portfolio`: no program is linked with it.)
+/// It takes some microseconds.
 ///
 /// ```
 /// assert_eq!(mako_fristen_host::check_archive(), Ok(()));

@@ -77,10 +77,10 @@
 //!
 //! Every byte of an answer is looked at. A number or a kind that the documents do not have for the
 //! call, something in a field that the kind does not fill, a date or an instant outside the calendar,
-//! a number of days tested that no two dates have: each is an [`Error::Unreadable`], from any
-//! function, and never taken for the answer next to it. It comes only from an archive of another
-//! version than this crate. A kind that means something else in another version is still a kind:
-//! [`check_archive`], at the start of a service, finds that too.
+//! a number of days tested that no two dates have, a count of a portfolio that its pair cannot have:
+//! each is an [`Error::Unreadable`], from any function, and never taken for the answer next to it.
+//! It comes only from an archive of another version than this crate. A kind that means something else
+//! in another version is still a kind: [`check_archive`], at the start of a service, finds that too.
 //!
 //! # Threads, memory, time
 //!

@@ -170,7 +170,7 @@ pub(crate) fn unreadable_count(count: u32) -> Unreadable {
 mod tests {
     use super::*;
 
-    /// 2, 3 and 7 April 2026, and the days about the calendar.
+    /// 2 and 7 April 2026, and the days before and after the calendar.
     const THURSDAY: u32 = 20_545;
     const TUESDAY: u32 = 20_550;
     const BEFORE: u32 = Date::FIRST_DAY - 1;
