@@ -144,8 +144,9 @@ impl Answer {
     fn without_content(&self, fields: &Fields, number: u8, call: Call) -> Error {
         let refused = Fields { number, ..Fields::default() };
         match Refusal::of_number(number) {
-            // A 1 and a 9 leave the slice untouched, so that no 32 bytes hold them.
-            None | Some(Refusal::AnswerLength | Refusal::FileLength) => {
+            // A 1 and a 9 leave the slice untouched, so that no 32 bytes hold them; a 10 is of a
+            // portfolio's lists, and no question has them.
+            None | Some(Refusal::AnswerLength | Refusal::FileLength | Refusal::ListLength) => {
                 self.unreadable(number, call)
             }
             Some(refusal) if *fields == refused => refusal.into(),

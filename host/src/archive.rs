@@ -1,17 +1,20 @@
 //! Whether the archive that is linked answers as documents 01 and 02 have it.
 
+use crate::portfolio::unreadable_count;
 use crate::{
     ffi, Answer, Call, Clock, ContrlAnlass, Date, Eeg, Frage, FristShape, Instant, Question,
-    Reason, Refusal, Unreadable, VorlaufShape,
+    Reason, Refusal, Unreadable, VorlaufShape, OUT_OF_RANGE,
 };
 
 /// For the start of a service: asks for an answer of every kind, and compares the 32 bytes with those
-/// that documents 01 and 02 give; for those of a file too, with a question of every operation.
+/// that documents 01 and 02 give; for those of a file too, with a question of every operation, and for
+/// the counts and the answer of a portfolio.
 ///
 /// That an answer can be read does not say that it still means the same. An archive from before F-2
 /// of document 02, whose day test gives 1 for a Werktag and 0 for every other day, would be read the
 /// wrong way round; here it is found, and so is one from before F-3, whose counts do not say how
-/// many days they tested. It takes some microseconds.
+/// many days they tested. (One from before F-5 has no `mf_portfolio`: no program is linked with it.)
+/// It takes some microseconds.
 ///
 /// ```
 /// assert_eq!(mako_fristen_host::check_archive(), Ok(()));
@@ -29,11 +32,15 @@ pub fn check_archive() -> Result<(), Unreadable> {
     checked(&deregistrations())?;
     checked(&announcements())?;
     checked(&refusals())?;
-    checked_file(&file())
+    checked_file(&file())?;
+    checked_portfolio(&PORTFOLIO, RUNS)?;
+    checked_lists()
 }
 
 type Row = (Question, Answer);
 type FileRow = (Frage, Answer);
+/// Two days and the count.
+type Pair = (u32, u32, u32);
 
 fn checked(rows: &[Row]) -> Result<(), Unreadable> {
     for (question, expected) in rows {
@@ -59,6 +66,43 @@ fn checked_file<const N: usize>(rows: &[FileRow; N]) -> Result<(), Unreadable> {
         }
     }
     Ok(())
+}
+
+/// All in one call.
+fn checked_portfolio<const N: usize>(pairs: &[Pair; N], runs: u32) -> Result<(), Unreadable> {
+    let (from, to) = (pairs.map(|(from, ..)| from), pairs.map(|(_, to, _)| to));
+    let mut counts = pairs.map(|(.., count)| !count);
+    checked_call(&from, &to, &mut counts, Answer::default().with_count(runs))?;
+    let expected = pairs.iter().map(|(.., count)| *count);
+    match counts.into_iter().zip(expected).find(|(count, expected)| count != expected) {
+        Some((count, _)) => Err(unreadable_count(count)),
+        None => Ok(()),
+    }
+}
+
+/// Refusal 10, which leaves the third list as it was.
+fn checked_lists() -> Result<(), Unreadable> {
+    let mut counts = [7];
+    checked_call(&[], &[], &mut counts, Answer::refused(Refusal::ListLength))?;
+    match counts {
+        [7] => Ok(()),
+        [count] => Err(unreadable_count(count)),
+    }
+}
+
+fn checked_call(
+    from: &[u32],
+    to: &[u32],
+    counts: &mut [u32],
+    expected: Answer,
+) -> Result<(), Unreadable> {
+    let mut bytes = [u8::MAX; Answer::LEN];
+    let number = ffi::mf_portfolio(from, to, counts, &mut bytes);
+    let answer = Answer::from_bytes(bytes);
+    match number == expected.number() && answer == expected {
+        true => Ok(()),
+        false => Err(Unreadable { call: Call::WerktageBetween, number, answer }),
+    }
 }
 
 /// A day of 2026.
@@ -220,6 +264,21 @@ fn file() -> [FileRow; 5] {
     ]
 }
 
+/// From 2 to 7 April 2026 and back, twice with a day out of range behind it; ten years from 30 June
+/// 2025; the calendar.
+const PORTFOLIO: [Pair; 7] = [
+    (20_545, 20_550, 1),
+    (20_550, 20_545, 0),
+    (Date::FIRST_DAY - 1, 20_550, OUT_OF_RANGE),
+    (20_545, 20_550, 1),
+    (20_545, Date::LAST_DAY + 1, OUT_OF_RANGE),
+    (20_269, 23_921, 2_457),
+    (Date::FIRST_DAY, Date::LAST_DAY, 222_031),
+];
+
+/// Of 2026, of 2026 again, of 2025 and of 1996.
+const RUNS: u32 = 4;
+
 #[cfg(test)]
 mod tests {
     use super::*;
@@ -271,5 +330,26 @@ mod tests {
         let [contrl, (frist, due), ..] = file();
         let found = checked_file(&[contrl, (frist, contrl.1)]);
         assert_eq!(found, Err(Unreadable { call: Call::FristDueAt, number: 0, answer: due }));
+    }
+
+    #[test]
+    fn a_count_or_a_number_of_runs_of_a_portfolio_that_is_another_is_found() {
+        let one_more = PORTFOLIO.map(|(from, to, count)| (from, to, count.wrapping_add(1)));
+        assert_eq!(checked_portfolio(&one_more, RUNS), Err(unreadable_count(1)));
+        let [.., (from, to, _)] = PORTFOLIO;
+        let other = checked_portfolio(&[PORTFOLIO[0], (from, to, 222_030)], 2);
+        assert_eq!(other, Err(unreadable_count(222_031)));
+        let answer = Answer::default().with_count(RUNS);
+        let found = Unreadable { call: Call::WerktageBetween, number: 0, answer };
+        assert_eq!(checked_portfolio(&PORTFOLIO, RUNS + 1), Err(found));
+        assert_eq!(checked_portfolio(&PORTFOLIO, RUNS), Ok(()));
+    }
+
+    #[test]
+    fn lists_that_are_answered_instead_of_refused_are_found() {
+        let expected = Answer::refused(Refusal::ListLength);
+        let found =
+            Unreadable { call: Call::WerktageBetween, number: 0, answer: Answer::default() };
+        assert_eq!(checked_call(&[], &[], &mut [], expected), Err(found));
     }
 }

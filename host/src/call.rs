@@ -6,7 +6,7 @@
 //! `mf_questions` is no [`Call`]: a call has one question and one answer of 32 bytes, which is what
 //! a [`Question`] puts and an [`Answer`](crate::Answer) reads. A file of questions has any number of
 //! both, and each answer in it is read as one of the single call
-//! ([`Frage::call`](crate::Frage::call)).
+//! ([`Frage::call`](crate::Frage::call)). Nor is `mf_portfolio`, which takes lists.
 
 use crate::{ffi, Content, Parameter, Question};
 
@@ -55,7 +55,8 @@ macro_rules! put {
 macro_rules! calls {
     ($($call:ident $name:ident($($parameter:ident),+) -> $content:ident;)+) => {
         /// A host call with one question and one answer, which is each but
-        /// [`mf_questions`](crate::ffi::mf_questions). The order is that of docs/host-calls.md.
+        /// [`mf_questions`](crate::ffi::mf_questions) and
+        /// [`mf_portfolio`](crate::ffi::mf_portfolio). The order is that of docs/host-calls.md.
         #[derive(Clone, Copy, Debug, PartialEq, Eq, PartialOrd, Ord, Hash)]
         #[repr(u8)]
         pub enum Call {

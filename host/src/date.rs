@@ -27,6 +27,22 @@ impl Date {
     pub const FIRST: Date = Date::new(1996, 1, 1);
     /// The last date that the calls take.
     pub const LAST: Date = Date::new(2899, 12, 31);
+    /// The days from 1 January 1970 to [`FIRST`](Date::FIRST).
+    ///
+    /// ```
+    /// use mako_fristen_host::Date;
+    ///
+    /// assert_eq!(Date::of_day_number(Date::FIRST_DAY.into()), Some(Date::FIRST));
+    /// ```
+    pub const FIRST_DAY: u32 = 9_496;
+    /// The days from 1 January 1970 to [`LAST`](Date::LAST).
+    ///
+    /// ```
+    /// use mako_fristen_host::Date;
+    ///
+    /// assert_eq!(Date::of_day_number(Date::LAST_DAY.into()), Some(Date::LAST));
+    /// ```
+    pub const LAST_DAY: u32 = 339_675;
 
     /// The date of these three numbers, whatever they are: `Date::new(2026, 2, 29)` is a value that
     /// the calls refuse.
@@ -123,6 +139,40 @@ impl Date {
             u8::try_from(month).ok()?,
             u8::try_from(day - (153 * months + 2) / 5 + 1).ok()?,
         ))
+    }
+
+    /// The [`day_number`](Date::day_number) as the lists of a portfolio have it, from
+    /// [`FIRST_DAY`](Date::FIRST_DAY) to [`LAST_DAY`](Date::LAST_DAY); none if the calls do not take
+    /// the date.
+    ///
+    /// ```
+    /// use mako_fristen_host::Date;
+    ///
+    /// assert_eq!(Date::new(2026, 4, 2).calendar_day(), Some(20_545));
+    /// assert_eq!(Date::FIRST.calendar_day(), Some(Date::FIRST_DAY));
+    /// assert_eq!(Date::LAST.calendar_day(), Some(Date::LAST_DAY));
+    /// assert_eq!(Date::new(1995, 12, 31).calendar_day(), None);
+    /// assert_eq!(Date::new(2026, 2, 29).calendar_day(), None);
+    /// ```
+    #[must_use]
+    pub fn calendar_day(self) -> Option<u32> {
+        let day = u32::try_from(self.day_number()?).ok()?;
+        Some(day).filter(|day| (Date::FIRST_DAY..=Date::LAST_DAY).contains(day))
+    }
+
+    /// The inverse of [`calendar_day`](Date::calendar_day); none if the day is out of range.
+    ///
+    /// ```
+    /// use mako_fristen_host::Date;
+    ///
+    /// assert_eq!(Date::of_calendar_day(20_545), Some(Date::new(2026, 4, 2)));
+    /// assert_eq!(Date::of_calendar_day(Date::LAST_DAY), Some(Date::LAST));
+    /// assert_eq!(Date::of_calendar_day(Date::LAST_DAY + 1), None);
+    /// ```
+    #[must_use]
+    pub fn of_calendar_day(day: u32) -> Option<Date> {
+        let in_range = (Date::FIRST_DAY..=Date::LAST_DAY).contains(&day);
+        Date::of_day_number(day.into()).filter(|_| in_range)
     }
 
     /// So many days later, or earlier; none if there is no such date, or if this is none.

@@ -13,8 +13,8 @@
 //! assert_eq!(mf_is_werktag(2026, 4, 2, &mut answer[..31]), 1, "no room for an answer");
 //! ```
 //!
-//! [`mf_questions`] alone takes no number: it is lent a file of questions, and as many bytes for
-//! their answers, which docs/host-calls.md calls `answers`.
+//! [`mf_questions`] takes no number: it is lent a file of questions, and as many bytes for their
+//! answers, which docs/host-calls.md calls `answers`.
 //!
 //! ```
 //! use mako_fristen_host::ffi::mf_questions;
@@ -25,35 +25,55 @@
 //! assert_eq!(mf_questions(&[0; 63], &mut answers[..63]), 9, "no multiple of 32");
 //! ```
 //!
+//! [`mf_portfolio`] reads two lists of days and writes a third, beside its answer.
+//!
+//! ```
+//! use mako_fristen_host::ffi::mf_portfolio;
+//!
+//! // From 2 to 7 April 2026; from the day before the calendar's first.
+//! let (from, to) = ([20_545, 9_495], [20_550, 20_550]);
+//! let (mut counts, mut answer) = ([7; 2], [7; 32]);
+//! assert_eq!(mf_portfolio(&from, &to, &mut counts, &mut answer), 0);
+//! assert_eq!((counts, answer[4]), ([1, u32::MAX], 1), "one entry of the year index was read");
+//! assert_eq!(mf_portfolio(&from, &to[1..], &mut counts, &mut answer), 10, "of other lengths");
+//! assert_eq!((counts, answer[0]), ([1, u32::MAX], 10));
+//! ```
+//!
 //! This is the only module with `unsafe`. A new call is a new row of `calls!`, with the parameters
-//! that docs/host-calls.md gives before `answer`; `&reason` stands for a slice, which C sees as a
-//! pointer and a length.
+//! that docs/host-calls.md gives before `answer`; `&reason` stands for a slice that is read, `*counts`
+//! for one that is written, with the type of their entries. C sees a pointer and a length.
 
 #![allow(unsafe_code)]
 // The parameters of a call are the paper's: two dates are six, a clock and an instant as well.
 #![allow(clippy::too_many_arguments)]
 
 macro_rules! calls {
-    ($($call:ident($(&$slice:ident $(,)?)? $($parameter:ident: $number:ty),*);)+) => {
+    ($($call:ident(
+        $(&$slice:ident: $entry:ident $(,)?)* $(*$list:ident: $item:ident)?
+        $($parameter:ident: $number:ty),*
+    );)+) => {
         mod c {
             extern "C" {
                 $(pub fn $call(
-                    $($slice: *const u8, _: usize,)? $($parameter: $number,)*
-                    answer: *mut u8, len: usize
+                    $($slice: *const $entry, _: usize,)* $($list: *mut $item, _: usize,)?
+                    $($parameter: $number,)* answer: *mut u8, len: usize
                 ) -> u8;)+
             }
         }
         $(
             /// Lends `answer`, of any length, to the call of this name; returns its number.
             #[must_use]
-            pub fn $call($($slice: &[u8],)? $($parameter: $number,)* answer: &mut [u8]) -> u8 {
+            pub fn $call(
+                $($slice: &[$entry],)* $($list: &mut [$item],)? $($parameter: $number,)*
+                answer: &mut [u8]
+            ) -> u8 {
                 // SAFETY: a pointer and its length are one slice's, lent for the call alone. The
-                // call is proved to write nothing beyond `answer` and to demand nothing of its
-                // caller.
+                // call is proved to write nothing beyond `answer` and a list that it may write, and
+                // to demand nothing of its caller.
                 unsafe {
                     c::$call(
-                        $($slice.as_ptr(), $slice.len(),)? $($parameter,)*
-                        answer.as_mut_ptr(), answer.len()
+                        $($slice.as_ptr(), $slice.len(),)* $($list.as_mut_ptr(), $list.len(),)?
+                        $($parameter,)* answer.as_mut_ptr(), answer.len()
                     )
                 }
             }
@@ -109,11 +129,12 @@ calls! {
         seconds: i64, nanos: u32, seconds2: i64, nanos2: u32, sparte: u8
     );
     mf_vorlauf_span(shape: u8, count: u32, count2: u32, year: u16, month: u8, day: u8);
-    mf_abmeldung_fuer(&reason, eeg: u8);
+    mf_abmeldung_fuer(&reason: u8, eeg: u8);
     mf_abmeldung_check(
-        &reason, eeg: u8,
+        &reason: u8, eeg: u8,
         year: u16, month: u8, day: u8, year2: u16, month2: u8, day2: u8
     );
     mf_eog_ankuendigung_fristgerecht(seconds: i64, nanos: u32, year: u16, month: u8, day: u8);
-    mf_questions(&questions);
+    mf_questions(&questions: u8);
+    mf_portfolio(&from: u32, &to: u32, *counts: u32);
 }

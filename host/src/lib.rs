@@ -25,6 +25,7 @@
 //! | *And was it kept?* | [`AbmeldungVorlauf::check`] |
 //! | *Did the 13:00 announcement come in time?* | [`eog_ankuendigung_fristgerecht`] |
 //! | *What is the answer to each of a day's questions?* | [`fragen`] |
+//! | *How many Werktage has each contract of a portfolio?* | [`portfolio`], [`portfolio_counts`] |
 //!
 //! A call answers, or refuses with one of the numbers of documents 01 and 02, which [`Refusal`]
 //! names. What is neither is an [`Error::Unreadable`]. No input makes a function of this crate panic.
@@ -76,18 +77,18 @@
 //!
 //! Every byte of an answer is looked at. A number or a kind that the documents do not have for the
 //! call, something in a field that the kind does not fill, a date or an instant outside the calendar,
-//! a number of days tested that no two dates have: each is an [`Error::Unreadable`], from any
-//! function, and never taken for the answer next to it. It comes only from an archive of another
-//! version than this crate. A kind that means something else in another version is still a kind:
-//! [`check_archive`], at the start of a service, finds that too.
+//! a number of days tested that no two dates have, a count of a portfolio that its pair cannot have:
+//! each is an [`Error::Unreadable`], from any function, and never taken for the answer next to it.
+//! It comes only from an archive of another version than this crate. A kind that means something else
+//! in another version is still a kind: [`check_archive`], at the start of a service, finds that too.
 //!
 //! # Threads, memory, time
 //!
 //! The calls have no state, and read neither a clock nor a file: any number of threads may ask at
 //! the same time, without a lock, and the same question always has the same answer. They take no
 //! memory from the heap; [`fragen`], [`answers`] and [`answer_records`] do, for the questions and
-//! answers of a day. Steps and counts read whole years from a table; docs/BENCHMARKS.md has the
-//! times.
+//! answers of a day, and [`portfolio`] for its lists. Steps and counts read whole years from a table;
+//! docs/BENCHMARKS.md has the times.
 
 #![deny(missing_docs)]
 #![deny(unsafe_code)]
@@ -120,6 +121,7 @@ mod gas;
 mod instant;
 mod kalender;
 mod parameter;
+mod portfolio;
 mod question;
 mod reason;
 mod refusal;
@@ -167,6 +169,7 @@ pub use kalender::{
     werktage_between,
 };
 pub use parameter::Parameter;
+pub use portfolio::{portfolio, portfolio_counts, MOST_PAIRS, OUT_OF_RANGE};
 pub use question::Question;
 pub use reason::Reason;
 pub use refusal::Refusal;

@@ -1,6 +1,6 @@
 use std::{error, fmt};
 
-/// Why a call gives no answer. The numbers are document 01's, and 9 document 02's; where several
+/// Why a call gives no answer. The numbers are document 01's, from 9 on document 02's; where several
 /// apply, the call refuses with the lowest, but 9 goes before all others: it is for a whole file of
 /// questions, before any of them is read. Further numbers will come, so a `match` needs a case for
 /// the rest.
@@ -40,11 +40,15 @@ pub enum Refusal {
     /// differ from them in length. Only [`ffi::mf_questions`](crate::ffi::mf_questions) and
     /// [`answer_records`](crate::answer_records) can meet it.
     FileLength,
+    /// 10: the three lists of a portfolio differ in length or have over 4,096 entries. Only
+    /// [`ffi::mf_portfolio`](crate::ffi::mf_portfolio) and
+    /// [`portfolio_counts`](crate::portfolio_counts) can meet it.
+    ListLength,
 }
 
 impl Refusal {
     /// In the order of their numbers, from 1.
-    pub const ALL: [Refusal; 9] = [
+    pub const ALL: [Refusal; 10] = [
         Refusal::AnswerLength,
         Refusal::UnknownCode,
         Refusal::NoDate,
@@ -54,6 +58,7 @@ impl Refusal {
         Refusal::NoBeginning,
         Refusal::LeavesCalendar,
         Refusal::FileLength,
+        Refusal::ListLength,
     ];
 
     /// The number that a call returns, never 0.
@@ -75,6 +80,7 @@ impl Refusal {
             Refusal::NoBeginning => 7,
             Refusal::LeavesCalendar => 8,
             Refusal::FileLength => 9,
+            Refusal::ListLength => 10,
         }
     }
 
@@ -91,6 +97,7 @@ impl Refusal {
             7 => Some(Refusal::NoBeginning),
             8 => Some(Refusal::LeavesCalendar),
             9 => Some(Refusal::FileLength),
+            10 => Some(Refusal::ListLength),
             _ => None,
         }
     }
@@ -135,6 +142,9 @@ impl Refusal {
                 "Die Fragen sind kein Vielfaches von 32 Bytes oder länger als 65536 Bytes, oder \
                  die Antworten sind nicht ebenso lang."
             }
+            Refusal::ListLength => {
+                "Die drei Listen sind nicht gleich lang oder haben über 4096 Einträge."
+            }
         }
     }
 }
@@ -164,6 +174,7 @@ impl fmt::Display for Refusal {
                 "the bytes of the questions are no multiple of 32 or over 65,536, \
                  or the answers differ from them in length"
             }
+            Refusal::ListLength => "the three lists differ in length or have over 4,096 entries",
         })
     }
 }

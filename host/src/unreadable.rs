@@ -6,11 +6,11 @@ use std::{error, fmt};
 /// It is no refusal, and no verdict either.
 #[derive(Clone, Copy, Debug, PartialEq, Eq, Hash)]
 pub struct Unreadable {
-    /// The call that answered; for a question of a file, its single call.
+    /// The call that answered; for a question of a file and a pair of a portfolio, its single call.
     pub call: Call,
-    /// The number that was returned, of a file the one for all of it.
+    /// The number that was returned, of a file and a portfolio the one for all of it.
     pub number: u8,
-    /// The bytes that were left.
+    /// The bytes that were left; for a count of a portfolio that cannot be read, an answer with it.
     pub answer: Answer,
 }
 

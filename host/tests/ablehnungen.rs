@@ -358,6 +358,7 @@ fn every_number_has_its_sentence() {
         (7, "beginning of a day"),
         (8, "leaves the calendar"),
         (9, "multiple of 32"),
+        (10, "over 4,096 entries"),
     ];
     assert_eq!(Refusal::ALL.len(), words.len());
     for ((number, word), refusal) in words.into_iter().zip(Refusal::ALL) {

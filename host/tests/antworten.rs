@@ -74,6 +74,28 @@ fn the_days_that_a_count_tested() {
     assert_eq!(from_thursday(7), counted(1, 189));
 }
 
+/// 300 runs are 0x01_2c: each pair begins in another year than the one before it.
+#[test]
+fn a_portfolio() {
+    #[rustfmt::skip]
+    let expected = [
+        0, 0, 0, 0,  0x2c, 0x01, 0, 0,  0, 0, 0, 0, 0, 0, 0, 0,
+        0, 0, 0, 0,  0, 0, 0, 0,  0, 0, 0, 0,  0, 0, 0, 0,
+    ];
+    // From 23 December 2025 to 7 January 2026, and from 2 to 7 April 2026.
+    let from: [u32; 300] = std::array::from_fn(|i| if i % 2 == 0 { 20_445 } else { 20_545 });
+    let to = from.map(|day| if day == 20_445 { 20_460 } else { 20_550 });
+    let mut counts = [7; 300];
+    let mut answer = [7; 32];
+    assert_eq!(ffi::mf_portfolio(&from, &to, &mut counts, &mut answer), 0);
+    assert_eq!(answer, expected);
+    assert_eq!(counts, std::array::from_fn(|i| if i % 2 == 0 { 5 } else { 1 }));
+    let mut refused = [0; 32];
+    refused[0] = 10;
+    assert_eq!(bytes_of(|a| ffi::mf_portfolio(&from, &from[1..], &mut [7; 300], a)), refused);
+    assert_eq!(bytes_of(|a| ffi::mf_portfolio(&[], &[], &mut [], a)), [0; 32]);
+}
+
 /// 2026-04-01T22:00:00Z is 1,775,080,800 seconds, 0x69cd_9560.
 #[test]
 fn an_instant() {

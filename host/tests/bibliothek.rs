@@ -261,6 +261,26 @@ fn every_answer_is_read() {
     }
 }
 
+/// Of any numbers for days, and of dates that are none.
+#[test]
+fn every_pair_is_counted_or_refused() {
+    let mut random = Random(0x7061_6172);
+    for len in [0, 1, 2, 100, MOST_PAIRS, MOST_PAIRS + 1] {
+        let pairs: Vec<_> = (0..len).map(|_| (random.date(), random.date())).collect();
+        let given = portfolio(&pairs);
+        assert_eq!(given.len(), len);
+        for ((from, to), given) in pairs.into_iter().zip(given) {
+            let inside = from.is_in_calendar() && to.is_in_calendar();
+            assert_eq!(given.is_ok(), inside, "{from} {to}");
+            given.map_or_else(is_written, is_written);
+        }
+        let mut days = || (0..len).map(|_| random.number() as u32 >> 12).collect::<Vec<_>>();
+        let (from, to, mut counts) = (days(), days(), days());
+        let runs = portfolio_counts(&from, &to, &mut counts);
+        assert_eq!(runs.is_ok(), len <= MOST_PAIRS, "{runs:?}");
+    }
+}
+
 /// Longer than a question has room for, too.
 #[test]
 fn a_reason_may_have_any_length() {
@@ -371,6 +391,12 @@ fn every_date_is_counted_or_none() {
         let again = date.day_number().and_then(Date::of_day_number);
         assert_eq!((again.is_some(), again.unwrap_or(date)), (date.weekday().is_some(), date));
         assert_eq!(Date::of_day_number(number), None);
+        let day = date.calendar_day();
+        assert_eq!(day.is_some(), date.is_in_calendar(), "{date}");
+        assert_eq!(day.and_then(Date::of_calendar_day), day.map(|_| date));
+        let any = number as u32;
+        let of_any = Date::of_day_number(any.into()).filter(|date| date.is_in_calendar());
+        assert_eq!(Date::of_calendar_day(any), of_any, "{any}");
         assert_eq!(date.plus_days(number), None);
         assert_eq!(is_werktag(date), day_reason(date).map(DayReason::is_werktag), "{date}");
         let holiday = Feiertag::on(date).is_ok_and(|holiday| holiday.is_some());

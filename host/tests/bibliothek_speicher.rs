@@ -2,8 +2,8 @@
 //! puts any number of questions does, for them and their answers.
 
 use mako_fristen_host::{
-    answer_records, answers, check_archive, ffi, fragen, Answer, Call, ContrlAnlass, Date, Error,
-    Frage, Instant, Question, Reason, Refusal,
+    answer_records, answers, check_archive, ffi, fragen, portfolio, portfolio_counts, Answer, Call,
+    ContrlAnlass, Date, Error, Frage, Instant, Question, Reason, Refusal, MOST_PAIRS,
 };
 use std::alloc::{GlobalAlloc, Layout, System};
 use std::cell::Cell;
@@ -85,4 +85,22 @@ fn a_days_questions_take_memory_three_times() {
         taken(|| assert_eq!(frage.answer().ok(), frage.read(&Answer::from_bytes(lent)).ok())),
         0
     );
+}
+
+/// The three lists in one piece, and the counts as they are given.
+#[test]
+fn a_portfolio_takes_memory_twice() {
+    let pair = (Date::new(2026, 4, 2), Date::new(2026, 4, 7));
+    for count in [1, MOST_PAIRS, 10_000] {
+        let pairs = vec![pair; count];
+        assert_eq!(taken(|| assert!(portfolio(&pairs).iter().all(Result::is_ok))), 2);
+    }
+    assert_eq!(taken(|| assert!(portfolio(&[]).is_empty())), 0);
+    let (from, to, mut counts) = ([20_545; 9], [20_550; 9], [0; 9]);
+    assert_eq!(taken(|| assert_eq!(portfolio_counts(&from, &to, &mut counts), Ok(1))), 0);
+    let refuses = || assert!(portfolio_counts(&from, &[], &mut counts).is_err());
+    assert_eq!(taken(refuses), 0);
+    let mut lent = [0; Answer::LEN];
+    let call = || assert_eq!(ffi::mf_portfolio(&from, &to, &mut [0; 9], &mut lent), 0);
+    assert_eq!(taken(call), 0);
 }

@@ -3,8 +3,12 @@
 
 #[path = "kommandozeile/fragen.rs"]
 mod fragen;
+#[path = "kommandozeile/portfolio.rs"]
+mod portfolio;
 #[path = "kommandozeile/saetze.rs"]
 mod saetze;
+#[path = "kommandozeile/zeilen.rs"]
+mod zeilen;
 
 use mako_fristen_host::{
     ffi, Answer, Call, Clock, Date, DayReason, Instant, Parameter, Question, Reason,
@@ -65,7 +69,7 @@ fn unindented(block: &str) -> String {
 #[test]
 fn the_examples_of_the_help_print_what_it_says() {
     let folder = Path::new(env!("CARGO_TARGET_TMPDIR"));
-    let others = ["kalender", "fragen"].map(str::to_owned);
+    let others = ["kalender", "fragen", "portfolio"].map(str::to_owned);
     for name in source_names().map(|(_, name)| name).chain(others) {
         let help = printed(&["help", &name], 0);
         assert_eq!(help, printed(&[&name, "--help"], 0), "{name}");
@@ -308,6 +312,9 @@ const WRONG: &[(&str, &str)] = &[
     ("tag 2026-01-01 --laut", "unbekannte Option „--laut“"),
     ("tag 2026-01-01 --roh", "--roh gibt es zu diesem Befehl nicht"),
     ("kalender 2026 --roh --json", "--roh gibt es zu diesem Befehl nicht"),
+    ("portfolio --roh", "--roh gibt es zu diesem Befehl nicht"),
+    ("portfolio - --bytes", "--bytes gibt es zu diesem Befehl nicht"),
+    ("portfolio a b", "zu viel: „b“"),
 ];
 
 #[test]
@@ -531,7 +538,8 @@ impl Random {
 fn no_arguments_make_it_panic() {
     let mut vocabulary: Vec<String> = source_names().map(|(_, name)| name).collect();
     let others = "tag contrl check check-at span frist abmeldung kalender help --json --bytes --roh \
-                  --help fragen --eeg --eeg=ja ja nein -- - -1 0 1 2 61 4294967295 4294967296 1995 2026 2899 2900 \
+                  --help fragen portfolio --eeg --eeg=ja ja nein -- - -1 0 1 2 61 4294967295 4294967296 1995 \
+                  2026 2899 2900 \
                   1996-01-01 2026-02-29 2026-03-29 2899-12-31 9999-99-99 02:30 24:00 12:00:00.5 \
                   2026-03-29T02:30:00+02:00 1996-01-01T00:00:00+01:00 2899-12-31T23:59:59+01:00 \
                   0000-01-01T00:00:00Z @0 @-9223372036854775808.4294967295 @29348002799.999999999 \

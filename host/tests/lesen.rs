@@ -229,16 +229,14 @@ fn the_days_tested_are_those_of_two_dates() {
 }
 
 /// 2 to 8 with nothing behind them. A 1 and a 9 leave the slice as it was, so that they never stand
-/// there.
+/// there, and a 10 is no single call's.
 #[test]
 fn a_number_is_a_refusal_of_document_01_or_an_error() {
     for call in Call::ALL {
         for number in 1..=u8::MAX {
             let answer = with_byte(Answer::default(), 0, number);
             match Refusal::ALL.into_iter().find(|refusal| refusal.number() == number) {
-                Some(refusal)
-                    if ![Refusal::AnswerLength, Refusal::FileLength].contains(&refusal) =>
-                {
+                Some(refusal) if (2..=8).contains(&number) => {
                     assert_eq!(answer, Answer::refused(refusal));
                     assert_eq!(answer.checked(call), Err(Error::Refused(refusal)));
                 }

@@ -1,15 +1,11 @@
 //! `fristen fragen`: the questions of a file.
 
-use super::{complaint, program, run, words, Random, COUNTS, DATES, INSTANTS, SHAPES};
+use super::zeilen::{assert_at_once, assert_may_go_away, assert_unread, file, lines, said};
+use super::{complaint, program, run, words, zeilen, Random, COUNTS, DATES, INSTANTS, SHAPES};
 use mako_fristen_host::{
     answer_records, Clock, ContrlAnlass, Date, Frage, Fragesatz, FristShape, Instant, VorlaufShape,
 };
-use std::fs;
-use std::io::{BufRead, BufReader, Read, Write};
-use std::path::PathBuf;
-use std::process::{ChildStdin, Output, Stdio};
-use std::sync::mpsc;
-use std::thread;
+use std::process::Output;
 use std::time::{Duration, Instant as Now};
 
 const CHECK: &str = "check LatestWerktageBefore 1 2026-01-10 2026-01-12";
@@ -50,21 +46,7 @@ const MIXED: &[&str] = &[
 
 /// `fragen` with these arguments, fed with these bytes.
 fn fed(arguments: &[&str], input: &[u8]) -> Output {
-    let mut child = program()
-        .arg("fragen")
-        .args(arguments)
-        .stdin(Stdio::piped())
-        .stdout(Stdio::piped())
-        .stderr(Stdio::piped())
-        .spawn()
-        .expect("the program runs");
-    let mut stdin = child.stdin.take().expect("a pipe");
-    let input = input.to_vec();
-    // It may end before it has read everything.
-    let feeder = thread::spawn(move || stdin.write_all(&input).unwrap_or_default());
-    let output = child.wait_with_output().expect("it ends");
-    feeder.join().expect("it is fed");
-    output
+    zeilen::fed("fragen", arguments, input)
 }
 
 /// The lines that it prints with this status, complaining of nothing.
@@ -73,12 +55,6 @@ fn answers(arguments: &[&str], input: impl AsRef<[u8]>, status: i32) -> Vec<Stri
     assert_eq!(String::from_utf8_lossy(&output.stderr), "");
     assert_eq!(output.status.code(), Some(status));
     lines(&output)
-}
-
-fn lines(output: &Output) -> Vec<String> {
-    let text = str::from_utf8(&output.stdout).expect("UTF-8");
-    assert!(text.is_empty() || text.ends_with('\n'));
-    text.lines().map(str::to_owned).collect()
 }
 
 /// What the single command prints, as `fragen` prints it for this line.
@@ -90,12 +66,6 @@ fn single(line: &str, number: usize, form: &[&str]) -> String {
         ["--json"] => format!("{{\"line\":{number},{}", &text[1..]),
         _ => format!("{number}: {text}"),
     }
-}
-
-fn file(name: &str, content: impl AsRef<[u8]>) -> PathBuf {
-    let path = PathBuf::from(env!("CARGO_TARGET_TMPDIR")).join(name);
-    fs::write(&path, content).expect("a file is written");
-    path
 }
 
 #[test]
@@ -222,11 +192,6 @@ fn lines_that_cannot_be_read_are_named_and_the_others_answered() {
 #[test]
 fn a_complaint_stands_between_the_answers() {
     let path = file("dazwischen.txt", format!("{SPAN}\ngestern\n{SPAN}\nheute\n"));
-    let (mut reader, writer) = std::io::pipe().expect("a pipe");
-    let both = writer.try_clone().expect("a pipe");
-    let status = program().arg("fragen").arg(path).stdout(writer).stderr(both).status();
-    let mut said = String::new();
-    reader.read_to_string(&mut said).expect("UTF-8");
     let expected = "erwartet contrl, frist, check oder span, nicht";
     let expected = format!(
         "1: {SPANNED}\n\
@@ -235,8 +200,7 @@ fn a_complaint_stands_between_the_answers() {
          fristen: Zeile 4: {expected} „heute“\n\
          fristen: 2 Zeilen ließen sich nicht lesen. Mehr: ./fristen fragen --help\n"
     );
-    assert_eq!(said, expected);
-    assert_eq!(status.expect("it runs").code(), Some(64));
+    assert_eq!(said("fragen", &path), (expected, Some(64)));
 }
 
 /// A line that cannot be read goes before a refusal, and that before an answer.
@@ -401,65 +365,17 @@ fn more_lines_than_a_file_of_records_has() {
     }
 }
 
-/// The answer, which must come within half a minute.
-fn within<T: Send + 'static>(read: impl FnOnce() -> T + Send + 'static) -> T {
-    let (sender, receiver) = mpsc::channel();
-    thread::spawn(move || sender.send(read()));
-    receiver.recv_timeout(Duration::from_secs(30)).expect("an answer in time")
-}
-
-fn feed(to: &mut ChildStdin, text: &str) {
-    to.write_all(text.as_bytes()).expect("it is read");
-}
-
-/// A line is answered as soon as it has ended, although the next has begun.
 #[test]
 fn input_in_pieces() {
-    let child = program().arg("fragen").stdin(Stdio::piped()).stdout(Stdio::piped()).spawn();
-    let mut child = child.expect("the program runs");
-    let mut stdin = child.stdin.take().expect("a pipe");
-    let mut stdout = BufReader::new(child.stdout.take().expect("a pipe"));
-    let mut answer = String::new();
-    feed(&mut stdin, "\u{feff}# Erst\r\nspan LatestWerk");
-    feed(&mut stdin, "tageBefore 1 ");
-    feed(&mut stdin, "2026-01-10\r\nspan Latest");
-    (stdout, answer) = within(move || {
-        stdout.read_line(&mut answer).expect("UTF-8");
-        (stdout, answer)
-    });
-    assert_eq!(answer, format!("2: {SPANNED}\n"));
-    feed(&mut stdin, "WerktageBefore 1 2026-01-10");
-    drop(stdin);
-    answer.clear();
-    stdout.read_to_string(&mut answer).expect("UTF-8");
-    assert_eq!(answer, format!("3: {SPANNED}\n"));
-    assert_eq!(child.wait().expect("it ends").code(), Some(0));
+    let pieces =
+        ["\u{feff}# Erst\r\nspan LatestWerk", "tageBefore 1 ", "2026-01-10\r\nspan Latest"];
+    let (first, second) = (format!("2: {SPANNED}\n"), format!("3: {SPANNED}\n"));
+    assert_at_once("fragen", pieces, &first, "WerktageBefore 1 2026-01-10", &second);
 }
 
 #[test]
 fn a_file_that_cannot_be_read() {
-    let folder = env!("CARGO_TARGET_TMPDIR");
-    let missing = format!("{folder}/gibt es nicht.txt");
-    let cases = [
-        (
-            missing.as_str(),
-            format!("„{missing}“ lässt sich nicht lesen. Diese Datei gibt es nicht."),
-        ),
-        (folder, format!("„{folder}“ lässt sich nicht lesen. Das ist ein Verzeichnis.")),
-    ];
-    for (path, expected) in cases {
-        for form in [&[][..], &["--json"], &["--roh"]] {
-            let output = fed(&[&[path], form].concat(), b"");
-            assert_eq!((output.status.code(), output.stdout.as_slice()), (Some(66), &b""[..]));
-            assert_eq!(String::from_utf8_lossy(&output.stderr), format!("fristen: {expected}\n"));
-        }
-    }
-    let input = Stdio::from(fs::File::open(folder).expect("a folder is opened"));
-    let output = program().arg("fragen").stdin(input).output().expect("it runs");
-    assert_eq!(output.status.code(), Some(66));
-    let expected =
-        "fristen: Die Standardeingabe lässt sich nicht lesen. Das ist ein Verzeichnis.\n";
-    assert_eq!(String::from_utf8_lossy(&output.stderr), expected);
+    assert_unread("fragen", &[&[], &["--json"], &["--roh"]]);
 }
 
 /// A name that would be an option, and one of a file that `-` does not mean.
@@ -495,31 +411,15 @@ fn bad_usage() {
 
 #[test]
 fn a_reader_that_goes_away_has_read_enough() {
-    let input = format!("{SPAN}\n").repeat(200_000);
-    let (mut reader, writer) = std::io::pipe().expect("a pipe");
-    let path = file("viele.txt", input);
-    let child = program().arg("fragen").arg(path).stdout(writer).stderr(Stdio::piped()).spawn();
-    let mut first = [0; 3];
-    reader.read_exact(&mut first).expect("an answer");
-    drop(reader);
-    let output = child.expect("the program runs").wait_with_output().expect("it ends");
-    assert_eq!((output.status.code(), output.stderr, first), (Some(0), vec![], *b"1: "));
+    let path = file("viele.txt", format!("{SPAN}\n").repeat(200_000));
+    assert_may_go_away("fragen", &path, b"1: ");
 }
 
 #[cfg(target_os = "linux")]
 #[test]
 fn an_output_that_cannot_be_written_is_a_failure() {
     let path = file("wenige.txt", format!("{SPAN}\ngestern\n{SPAN}\n"));
-    let full = || fs::OpenOptions::new().write(true).open("/dev/full").expect("/dev/full");
-    let output = program().arg("fragen").arg(&path).stdout(full()).output().expect("it runs");
-    assert_eq!(output.status.code(), Some(74));
-    let complaint = String::from_utf8_lossy(&output.stderr);
-    assert!(
-        complaint.ends_with("fristen: Die Ausgabe ließ sich nicht schreiben.\n"),
-        "{complaint}"
-    );
-    let output = program().arg("fragen").arg(&path).stderr(full()).output().expect("it runs");
-    assert_eq!((output.status.code(), lines(&output).len()), (Some(74), 2), "both are answered");
+    zeilen::assert_unwritten("fragen", &path, 2);
 }
 
 /// In seconds, also where nothing is optimised and other tests run beside it.

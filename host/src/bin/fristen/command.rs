@@ -1,6 +1,6 @@
 //! The table of subcommands. A new one is a row of a file in `commands/`.
 
-use crate::commands::{abmeldung, berlin, fragen, fristen, kalender, vorlauf};
+use crate::commands::{abmeldung, berlin, fragen, fristen, kalender, portfolio, vorlauf};
 use mako_fristen_host::{Call, Parameter};
 
 /// How the program is called.
@@ -15,6 +15,8 @@ pub enum Task {
     Kalender,
     /// Answers the questions of a file.
     Fragen,
+    /// Counts for the pairs of dates of a file.
+    Portfolio,
 }
 
 /// A subcommand.
@@ -35,13 +37,14 @@ pub struct Command {
 }
 
 /// The subcommands under the headings of the help.
-pub const GROUPS: [(&str, &[Command]); 6] = [
+pub const GROUPS: [(&str, &[Command]); 7] = [
     ("Kalender", &kalender::COMMANDS),
     ("Uhr", &berlin::COMMANDS),
     ("Fristen", &fristen::COMMANDS),
     ("Vorlauf", &vorlauf::COMMANDS),
     ("Abmeldung und Ankündigung", &abmeldung::COMMANDS),
     ("Viele Fragen auf einmal", &fragen::COMMANDS),
+    ("Viele Verträge auf einmal", &portfolio::COMMANDS),
 ];
 
 pub fn all() -> impl Iterator<Item = &'static Command> {
@@ -76,7 +79,7 @@ impl Command {
     pub fn call(&self) -> Option<Call> {
         match self.task {
             Task::Ask(call) => Some(call),
-            Task::Kalender | Task::Fragen => None,
+            Task::Kalender | Task::Fragen | Task::Portfolio => None,
         }
     }
 
@@ -88,7 +91,11 @@ impl Command {
     /// The name with what stands behind it.
     pub fn usage(&self) -> String {
         let labels = self.operands.iter().map(|(_, label)| *label);
-        let file = (self.task == Task::Fragen).then_some("[DATEI] [--roh]");
+        let file = match self.task {
+            Task::Fragen => Some("[DATEI] [--roh]"),
+            Task::Portfolio => Some("[DATEI]"),
+            Task::Ask(_) | Task::Kalender => None,
+        };
         [self.name].into_iter().chain(labels).chain(file).collect::<Vec<_>>().join(" ")
     }
 }
@@ -103,7 +110,8 @@ mod tests {
             assert_eq!(all().filter(|c| c.call() == Some(call)).count(), 1, "{}", call.name());
         }
         let others = all().filter(|command| command.call().is_none());
-        assert_eq!(others.map(|command| command.name).collect::<Vec<_>>(), ["kalender", "fragen"]);
+        let names: Vec<_> = others.map(|command| command.name).collect();
+        assert_eq!(names, ["kalender", "fragen", "portfolio"]);
     }
 
     #[test]

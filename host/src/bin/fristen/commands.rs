@@ -5,4 +5,5 @@ pub mod berlin;
 pub mod fragen;
 pub mod fristen;
 pub mod kalender;
+pub mod portfolio;
 pub mod vorlauf;

@@ -1,7 +1,7 @@
 //! The help of the program and of each subcommand.
 
 use crate::command::{Command, Task, GROUPS, PROGRAM};
-use crate::commands::fragen::FILE;
+use crate::commands::{fragen, portfolio};
 use crate::names::{FRISTEN, VORLAUF};
 use mako_fristen_host::{Call, DayReason, Parameter};
 
@@ -26,14 +26,14 @@ Angaben
 
 Optionen, an beliebiger Stelle
   --json      eine Zeile JSON
-  --bytes     die 32 Bytes der Antwort, hexadezimal
+  --bytes     die 32 Bytes der Antwort, hexadezimal; nicht bei kalender und portfolio
   --roh       nur bei fragen: Datensätze von 32 Bytes statt Zeilen
   --help, -h  Hilfe, auch zu einem Befehl
   --          danach folgen keine Optionen mehr
 
-Ende mit 0: Antwort. 2: abgelehnt. 64: falscher Aufruf, auch in einer Zeile von fragen.
-66: Datei nicht lesbar. 69: nicht zu bauen. 70: Antwort der Bibliothek nicht lesbar.
-74: Ausgabe gestört.
+Ende mit 0: Antwort. 2: abgelehnt. 64: falscher Aufruf, auch in einer Zeile von fragen
+oder portfolio. 66: Datei nicht lesbar. 69: nicht zu bauen. 70: Antwort der Bibliothek
+nicht lesbar. 74: Ausgabe gestört.
 ";
 
 /// Above the numbers of the day test.
@@ -74,7 +74,8 @@ pub fn of(command: &Command) -> String {
         _ => String::new(),
     };
     let file = match command.task {
-        Task::Fragen => format!("  $ cat fragen.txt\n{}", block(FILE)),
+        Task::Fragen => format!("  $ cat fragen.txt\n{}", block(fragen::FILE)),
+        Task::Portfolio => format!("  $ cat portfolio.csv\n{}", block(portfolio::FILE)),
         Task::Ask(_) | Task::Kalender => String::new(),
     };
     let output = block(command.output);

@@ -7,27 +7,32 @@ mod deutsch;
 mod errors;
 mod fragen;
 mod help;
+mod input;
 mod inquiry;
 mod json;
 mod kalenderblatt;
 mod labels;
+mod lines;
 mod names;
 mod operands;
 mod outcome;
+mod portfolio;
+mod progress;
 mod reply;
 mod report;
+mod run;
 mod sentences;
 mod usage;
 
 use arguments::{is_option, Arguments, Form};
 use command::{Command, Task};
-use fragen::Input;
+use input::Input;
 use kalenderblatt::{Mark, Year};
 use mako_fristen_host::{check_archive, Call, Error};
 use outcome::Outcome;
 use reply::Reply;
 use std::env;
-use std::ffi::OsString;
+use std::ffi::{OsStr, OsString};
 use std::io::{self, IsTerminal};
 use std::process::ExitCode;
 use usage::{quoted, Usage};
@@ -53,7 +58,7 @@ fn run(arguments: Vec<OsString>) -> Result<Outcome, Usage> {
     if name.is_some_and(|name| name == "help") {
         let about = words.next();
         return match words.next() {
-            Some(word) => Err(Usage::new(format!("zu viel: {}", quoted(word)))),
+            Some(word) => Err(operands::too_much(word)),
             None => helped(about),
         };
     }
@@ -83,6 +88,7 @@ fn answered(command: &Command, arguments: &Arguments) -> Result<Outcome, Usage> 
         _ if arguments.raw => Err(Usage::new("--roh gibt es zu diesem Befehl nicht")),
         Task::Ask(call) => called(command, call, arguments),
         Task::Kalender => kalender(command, arguments),
+        Task::Portfolio => portfolio(arguments),
     }
 }
 
@@ -91,14 +97,30 @@ fn fragen(arguments: &Arguments) -> Result<Outcome, Usage> {
     if arguments.raw && form != Form::Sentence {
         return Err(Usage::new("erwartet --roh ohne --json und --bytes"));
     }
-    if let Err(unreadable) = check_archive() {
-        return Ok(Outcome::unreadable(&unreadable));
-    }
-    Ok(match Input::open(file) {
-        Ok(input) if arguments.raw => fragen::records(input),
-        Ok(input) => fragen::lines(input, form),
-        Err(unread) => unread,
+    Ok(match arguments.raw {
+        true => opened(file, fragen::records),
+        false => opened(file, |input| fragen::lines(input, form)),
     })
+}
+
+fn portfolio(arguments: &Arguments) -> Result<Outcome, Usage> {
+    let (file, form) = (operands::file(arguments)?, arguments.form);
+    if form == Form::Bytes {
+        return Err(no_bytes());
+    }
+    Ok(opened(file, |input| portfolio::lines(input, form)))
+}
+
+/// What `answer` makes of a file or of the standard input.
+fn opened(file: Option<&OsStr>, answer: impl FnOnce(Input) -> Outcome) -> Outcome {
+    if let Err(unreadable) = check_archive() {
+        return Outcome::unreadable(&unreadable);
+    }
+    Input::open(file).map_or_else(|unread| unread, answer)
+}
+
+fn no_bytes() -> Usage {
+    Usage::new("--bytes gibt es zu diesem Befehl nicht")
 }
 
 fn called(command: &Command, call: Call, arguments: &Arguments) -> Result<Outcome, Usage> {
@@ -119,6 +141,6 @@ fn kalender(command: &Command, arguments: &Arguments) -> Result<Outcome, Usage> 
         Form::Json => Ok(Outcome::of(year.map(|year| year.json(given)), |refusal| {
             kalenderblatt::refused_json(given, refusal)
         })),
-        Form::Bytes => Err(Usage::new("--bytes gibt es zu diesem Befehl nicht")),
+        Form::Bytes => Err(no_bytes()),
     }
 }

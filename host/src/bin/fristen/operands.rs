@@ -39,6 +39,30 @@ pub fn file(arguments: &Arguments) -> Result<Option<&OsStr>, Usage> {
     Ok(file.filter(|file| *file != "-"))
 }
 
+/// A date at the place of this label.
+pub fn date(label: &str, word: &OsStr) -> Result<Date, Usage> {
+    read_as(label, word, |word| word.parse().map_err(|_| "ein Datum wie 2026-04-02".to_owned()))
+}
+
+pub fn missing(label: &str) -> Usage {
+    Usage::new(format!("es fehlt: {label}"))
+}
+
+pub fn too_much(word: &OsStr) -> Usage {
+    Usage::new(format!("zu viel: {}", quoted(word)))
+}
+
+/// What `read` makes of a word, or what it expected.
+fn read_as<T>(
+    label: &str,
+    word: &OsStr,
+    read: impl FnOnce(&str) -> Result<T, String>,
+) -> Result<T, Usage> {
+    word.to_str().map_or_else(|| Err("lesbaren Text".to_owned()), read).map_err(|expected| {
+        Usage::new(format!("{label}: erwartet {expected}, nicht {}", quoted(word)))
+    })
+}
+
 fn read(
     inquiry: &mut Inquiry,
     parameter: Parameter,
@@ -101,13 +125,12 @@ impl<'a> Words<'a> {
     }
 
     fn next(&mut self, label: &str) -> Result<&'a OsStr, Usage> {
-        let missing = || Usage::new(format!("es fehlt: {label}"));
-        self.left.next().map(OsString::as_os_str).ok_or_else(missing)
+        self.left.next().map(OsString::as_os_str).ok_or_else(|| missing(label))
     }
 
     fn end(mut self) -> Result<(), Usage> {
         match (self.left.next(), self.eeg) {
-            (Some(word), _) => Err(Usage::new(format!("zu viel: {}", quoted(word)))),
+            (Some(word), _) => Err(too_much(word)),
             (_, Some(_)) => Err(Usage::new("--eeg gehört nicht zu diesem Befehl")),
             _ => Ok(()),
         }
@@ -119,14 +142,11 @@ impl<'a> Words<'a> {
         label: &str,
         read: impl FnOnce(&str) -> Result<T, String>,
     ) -> Result<T, Usage> {
-        let word = self.next(label)?;
-        word.to_str().map_or_else(|| Err("lesbaren Text".to_owned()), read).map_err(|expected| {
-            Usage::new(format!("{label}: erwartet {expected}, nicht {}", quoted(word)))
-        })
+        read_as(label, self.next(label)?, read)
     }
 
     fn date(&mut self, label: &str) -> Result<Date, Usage> {
-        self.read(label, |word| word.parse().map_err(|_| "ein Datum wie 2026-04-02".to_owned()))
+        date(label, self.next(label)?)
     }
 
     fn clock(&mut self, label: &str) -> Result<Clock, Usage> {
@@ -160,7 +180,7 @@ impl<'a> Words<'a> {
 
     /// The mark's code. An option: it is asked for here, and stands anywhere.
     fn eeg(&mut self, label: &str) -> Result<u8, Usage> {
-        let mark = self.eeg.take().ok_or_else(|| Usage::new(format!("es fehlt: {label}")))?;
+        let mark = self.eeg.take().ok_or_else(|| missing(label))?;
         let eeg = mark.to_str().and_then(|mark| names::find(&EEG, mark));
         let expected =
             || format!("--eeg: erwartet {}, nicht {}", names::expected(&EEG), quoted(mark));

@@ -1,7 +1,7 @@
-use super::lines::{Line, LONGEST};
 use crate::arguments::Arguments;
 use crate::command::{questions, Command};
 use crate::inquiry::Inquiry;
+use crate::lines::Line;
 use crate::usage::{quoted, Usage};
 use crate::{names, operands};
 use mako_fristen_host::{Call, Frage};
@@ -19,22 +19,10 @@ pub struct Asked {
 
 /// What a line asks, or why it cannot be read. None if it is blank or a comment.
 pub fn read(line: &Line) -> Option<Result<Asked, Usage>> {
-    let first = line.text.iter().find(|byte| !matches!(byte, b' ' | b'\t'));
-    match first {
-        Some(b'#') => None,
-        None if !line.cut => None,
-        _ => Some(asked(line)),
-    }
+    (!line.is_passed_over()).then(|| asked(line.read()?))
 }
 
-fn asked(line: &Line) -> Result<Asked, Usage> {
-    if line.cut {
-        return Err(Usage::new(format!("erwartet weniger als {LONGEST} Bytes")));
-    }
-    let text = str::from_utf8(line.text).map_err(|_| {
-        let shown = String::from_utf8_lossy(line.text);
-        Usage::new(format!("erwartet Text in UTF-8, nicht {}", quoted(OsStr::new(&*shown))))
-    })?;
+fn asked(text: &str) -> Result<Asked, Usage> {
     let words: Vec<&str> = text.split([' ', '\t']).filter(|word| !word.is_empty()).collect();
     let (command, call) = find(words.first().copied().unwrap_or_default())?;
     question(command, call, &words).map_err(|usage| usage.of(command))

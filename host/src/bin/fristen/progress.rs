@@ -12,6 +12,8 @@ const CLEAR: &str = "\r\x1b[K";
 #[derive(Debug)]
 pub struct Progress {
     on: bool,
+    /// As in '3 … ...'.
+    what: &'static str,
     /// When it is shown next.
     due: Instant,
     shown: bool,
@@ -20,19 +22,19 @@ pub struct Progress {
 impl Progress {
     /// On the standard error, if that is a terminal. Where the answers go to one, they are their
     /// own progress, and what is `typed` there should stay readable.
-    pub fn new(typed: bool) -> Progress {
+    pub fn new(typed: bool, what: &'static str) -> Progress {
         let on = io::stderr().is_terminal() && !io::stdout().is_terminal() && !typed;
-        Progress { on, due: Instant::now() + NOTICEABLE, shown: false }
+        Progress { on, what, due: Instant::now() + NOTICEABLE, shown: false }
     }
 
-    /// How many questions are answered, and how much of the input that is.
-    pub fn show(&mut self, questions: u64, done: u64, of: Option<u64>) {
+    /// How many are answered, and how much of the input that is.
+    pub fn show(&mut self, answered: u64, done: u64, of: Option<u64>) {
         if !self.on || Instant::now() < self.due {
             return;
         }
         let percent = of.and_then(|of| done.saturating_mul(100).checked_div(of));
         let share = percent.map_or(String::new(), |percent| format!(" ({percent} %)"));
-        put(&format!("{CLEAR}fristen: {questions} Fragen beantwortet{share} ..."));
+        put(&format!("{CLEAR}fristen: {answered} {}{share} ...", self.what));
         self.due = Instant::now() + PAUSE;
         self.shown = true;
     }

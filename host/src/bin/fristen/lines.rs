@@ -1,7 +1,9 @@
+use crate::usage::{quoted, Usage};
+use std::ffi::OsStr;
 use std::io::{self, BufRead, BufReader, Read};
 
-/// The most bytes of a line, its end among them. A question has some 60.
-pub const LONGEST: u64 = 65_536;
+/// The most bytes of a line, its end among them. A question has some 60, a pair of dates 22.
+const LONGEST: u64 = 65_536;
 
 /// How much is read at a time.
 const BUFFER: usize = 65_536;
@@ -16,6 +18,28 @@ pub struct Line<'a> {
     pub text: &'a [u8],
     /// Whether the text is only the beginning of a line that is too long.
     pub cut: bool,
+}
+
+impl<'a> Line<'a> {
+    /// Whether it is blank or a comment. Behind the blanks of a line that is too long something may
+    /// follow.
+    pub fn is_passed_over(&self) -> bool {
+        match self.text.iter().find(|byte| !matches!(byte, b' ' | b'\t')) {
+            Some(first) => *first == b'#',
+            None => !self.cut,
+        }
+    }
+
+    /// The text, or why there is none.
+    pub fn read(&self) -> Result<&'a str, Usage> {
+        if self.cut {
+            return Err(Usage::new(format!("erwartet weniger als {LONGEST} Bytes")));
+        }
+        str::from_utf8(self.text).map_err(|_| {
+            let shown = String::from_utf8_lossy(self.text);
+            Usage::new(format!("erwartet Text in UTF-8, nicht {}", quoted(OsStr::new(&*shown))))
+        })
+    }
 }
 
 /// The lines of an input. One ends with a line feed, before which a carriage return may stand, or

@@ -4,7 +4,7 @@ use std::ffi::OsStr;
 use std::fs::File;
 use std::io::{self, IsTerminal, Read, Write};
 
-/// Where the questions come from.
+/// Where the lines or records come from.
 pub struct Input {
     /// As in '… lässt sich nicht lesen'.
     name: String,
