@@ -313,7 +313,7 @@ const WRONG: &[(&str, &str)] = &[
     ("tag 2026-01-01 --roh", "--roh gibt es zu diesem Befehl nicht"),
     ("kalender 2026 --roh --json", "--roh gibt es zu diesem Befehl nicht"),
     ("portfolio --roh", "--roh gibt es zu diesem Befehl nicht"),
-    ("portfolio - --bytes", "--bytes gibt es zu diesem Befehl nicht"),
+    ("portfolio - --json --bytes", "erwartet --json oder --bytes, nicht beide"),
     ("portfolio a b", "zu viel: „b“"),
 ];
 

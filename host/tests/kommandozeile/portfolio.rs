@@ -56,6 +56,17 @@ fn one_count_a_line_whatever_parts_the_dates() {
     }
 }
 
+/// The entry of the third list, little-endian.
+#[test]
+fn a_count_as_bytes() {
+    let input = CONTRACTS.map(|(from, to, _)| format!("{from};{to}\n")).concat();
+    let expected = ["01000000", "05000000", "99090000", "00000000", "00000000"];
+    assert_eq!(counts(&["--bytes"], &input), expected);
+    let output = fed(&["--bytes"], "VON;BIS\n2026-02-29;2026-04-07\nx 1\n");
+    assert_eq!(output.status.code(), Some(64));
+    assert_eq!(lines(&output), ["", "ffffffff", ""]);
+}
+
 /// Each line of the input has a line of the output.
 #[test]
 fn a_line_without_dates_keeps_its_place() {
@@ -215,8 +226,7 @@ fn a_file_that_cannot_be_read() {
 #[test]
 fn bad_usage() {
     for (arguments, expected) in [
-        (&["--bytes"][..], "--bytes gibt es zu diesem Befehl nicht"),
-        (&["--roh", "--json"], "--roh gibt es zu diesem Befehl nicht"),
+        (&["--roh", "--json"][..], "--roh gibt es zu diesem Befehl nicht"),
         (&["a", "b"], "zu viel: „b“"),
         (&["--eeg", "ja"], "--eeg gehört nicht zu diesem Befehl"),
     ] {

@@ -26,7 +26,8 @@ Angaben
 
 Optionen, an beliebiger Stelle
   --json      eine Zeile JSON
-  --bytes     die 32 Bytes der Antwort, hexadezimal; nicht bei kalender und portfolio
+  --bytes     die 32 Bytes der Antwort, hexadezimal, bei portfolio vier zu jeder Zeile;
+              nicht bei kalender
   --roh       nur bei fragen: Datensätze von 32 Bytes statt Zeilen
   --help, -h  Hilfe, auch zu einem Befehl
   --          danach folgen keine Optionen mehr

@@ -105,9 +105,6 @@ fn fragen(arguments: &Arguments) -> Result<Outcome, Usage> {
 
 fn portfolio(arguments: &Arguments) -> Result<Outcome, Usage> {
     let (file, form) = (operands::file(arguments)?, arguments.form);
-    if form == Form::Bytes {
-        return Err(no_bytes());
-    }
     Ok(opened(file, |input| portfolio::lines(input, form)))
 }
 
@@ -117,10 +114,6 @@ fn opened(file: Option<&OsStr>, answer: impl FnOnce(Input) -> Outcome) -> Outcom
         return Outcome::unreadable(&unreadable);
     }
     Input::open(file).map_or_else(|unread| unread, answer)
-}
-
-fn no_bytes() -> Usage {
-    Usage::new("--bytes gibt es zu diesem Befehl nicht")
 }
 
 fn called(command: &Command, call: Call, arguments: &Arguments) -> Result<Outcome, Usage> {
@@ -141,6 +134,6 @@ fn kalender(command: &Command, arguments: &Arguments) -> Result<Outcome, Usage> 
         Form::Json => Ok(Outcome::of(year.map(|year| year.json(given)), |refusal| {
             kalenderblatt::refused_json(given, refusal)
         })),
-        Form::Bytes => Err(no_bytes()),
+        Form::Bytes => Err(Usage::new("--bytes gibt es zu diesem Befehl nicht")),
     }
 }

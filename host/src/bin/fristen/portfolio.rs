@@ -12,7 +12,7 @@ use crate::report::refusal_json;
 use crate::run::Run;
 use crate::usage::Usage;
 use line::{Pair, Reader, LABELS};
-use mako_fristen_host::{portfolio, Error, Refusal, MOST_PAIRS};
+use mako_fristen_host::{portfolio, Error, Refusal, MOST_PAIRS, OUT_OF_RANGE};
 
 /// Counts each line as it comes, in the form.
 pub fn lines(input: Input, form: Form) -> Outcome {
@@ -55,6 +55,12 @@ fn answer(run: &mut Run, batch: &mut Batch, form: Form) -> Result<(), Outcome> {
     Ok(())
 }
 
+/// The bytes of an entry of the third list.
+fn entry(number: u32) -> String {
+    let [a, b, c, d] = number.to_le_bytes();
+    format!("{a:02x}{b:02x}{c:02x}{d:02x}\n")
+}
+
 /// Where a line's count stands. What has none is empty, or null in JSON.
 #[derive(Clone, Copy)]
 struct Place {
@@ -66,12 +72,16 @@ impl Place {
     fn counted(self, pair: Pair, count: u32) -> String {
         match self.form {
             Form::Json => self.json(Some(pair), Json::Null, Json::number(count), None),
-            _ => format!("{count}\n"),
+            Form::Bytes => entry(count),
+            Form::Sentence => format!("{count}\n"),
         }
     }
 
     fn refused(self, pair: Pair, refusal: Refusal) -> String {
-        self.without_count(Some(pair), refusal_json(refusal), None)
+        match self.form {
+            Form::Bytes => entry(OUT_OF_RANGE),
+            _ => self.without_count(Some(pair), refusal_json(refusal), None),
+        }
     }
 
     fn unread(self, usage: &Usage) -> String {

@@ -27,8 +27,9 @@ trotzdem gezählt. Ende mit 64, wenn sich eine Zeile nicht lesen ließ, sonst mi
 eine abgelehnt wurde.
 
 Mit --json zu jeder Zeile eine Zeile JSON mit ihrer Nummer (line) und der Zahl (count).
-Wo es keine gibt, steht null, und in refusal oder error, warum. --bytes gibt es hier
-nicht: Die 32 Bytes einer Antwort gelten für viele Zeilen.",
+Wo es keine gibt, steht null, und in refusal oder error, warum. Mit --bytes die vier
+Bytes, die mf_portfolio an den Platz des Paares schreibt, hexadezimal; ffffffff, wenn ein
+Tag außerhalb des Kalenders liegt.",
     example: "portfolio portfolio.csv",
     output: "\n2457\n1",
 }];
