@@ -6,16 +6,15 @@
 --   reply-rules   for `reply`: a slice of another length; one byte more is copied; all are copied
 -- Assumes nothing.
 use Prim.Native.Nat.{ℕ, _+_, _≤_, _<_}
-use mathlib.Core.Path.{_≡_, sym, ap, _∙_}
+use mathlib.Core.Path.{_≡_, refl, ap, _∙_}
 use mathlib.Core.List.{List}
 use native.Mathlib.Omega.{arith}
-use native.Mathlib.Numerals.{add-one}
 use borrow.Author.Tests.{eq-eqb, ne-eqb}
 use mir.Syntax.{w64}
 use mir.Val.{SFits}
 use mir.Facts.{toZ-ofZ}
-use lib.ListN.{length, getD, set, take, length-set}
-use lib.Seq.{take-all, take-suc, take-suc-set}
+use lib.ListN.{length, getD, set, length-set}
+use Rattle.zaehlung.proofs.Filling.{Filled, fill-more, fill-all}
 use Rattle.datum.proofs.Signed.{back}
 use Rattle.zahlen.specs.TwosComplement.{bitsOf}
 use Rattle.antwortsatz.specs.declared.Answer.{Answer}
@@ -44,22 +43,19 @@ reply-whole l a h = rw (eq-eqb (length l) 32 h)
 
 pub copy-more :
     (l b : List ℕ) (a : Answer) (i : ℕ) →
-    b ≡ bytesOf a → length l ≡ 32 → i < 32 → take i l ≡ take i b →
-    take (i + 1) (set l i (getD b i 0)) ≡ take (i + 1) b
+    b ≡ bytesOf a → length l ≡ 32 → i < 32 → Filled b l i → Filled b (set l i (getD b i 0)) (i + 1)
 copy-more l b a i e n h t =
     let m = ap length e ∙ bytes-length a in
-    rw (add-one, take-suc-set l i (getD b i 0) (omega arith), take-suc b i 0 (omega arith), t)
+    fill-more b l i (omega arith) t (getD b i 0) (omega arith) refl
 
 pub copy-length : (l : List ℕ) (i x : ℕ) → length l ≡ 32 → length (set l i x) ≡ 32
 copy-length l i x n = simp length-set n
 
 pub reply-done :
     (l l′ b : List ℕ) (a : Answer) (i : ℕ) →
-    length l ≡ 32 → b ≡ bytesOf a → take i l′ ≡ take i b → length l′ ≡ 32 → 32 ≤ i →
-    (a .refusal, l′) ≡ reply l a
+    length l ≡ 32 → b ≡ bytesOf a → Filled b l′ i → length l′ ≡ 32 → 32 ≤ i → (a .refusal, l′) ≡ reply l a
 reply-done l l′ b a i h e t g m =
     let n = ap length e ∙ bytes-length a in
-    let w : l′ ≡ bytesOf a = sym (take-all i l′ (omega arith)) ∙ t ∙ take-all i b (omega arith) ∙ e in
-    rw (reply-whole l a h, w)
+    rw (reply-whole l a h, fill-all b l′ i (omega arith) t (omega arith), e)
 
 pub ruleset reply-rules = (reply-other, copy-more, copy-length, reply-done)

@@ -4,13 +4,14 @@
 use Prim.Native.Nat.{_≤_, _-_}
 use mathlib.Core.Path.{_≡_}
 use borrow.Author.Needs.{needs}
-use lib.ListN.{length, take}
+use lib.ListN.{length}
+use Rattle.zaehlung.proofs.Filling.{Filled}
 use Rattle.antwortsatz.proofs.Rules.{reply-rules}
 use Rattle.antwortsatz.proofs.reply.Statement.{statement}
 use Rattle.antwortsatz.proofs.reply.Tie as tie
 
 abbrev Inv-loop : tie.InvT-loop
-Inv-loop answer₀ a b i₀ answer i = (take i answer ≡ take i b) × (length answer ≡ 32) × (i ≤ 32)
+Inv-loop answer₀ a b i₀ answer i = Filled b answer i × (length answer ≡ 32) × (i ≤ 32)
 
 abbrev μ-loop : tie.MeasureT-loop
 μ-loop answer₀ a b i₀ answer i = 32 - i
