@@ -4,11 +4,11 @@
 --   weekday-rules   `weekday_or_none`
 --   may-rules       `himmelfahrt`
 --   listed-is       `weekday_holidays`
---   known-rules     `jahr_of`
+--   known-rules     `holiday_year`
 --   before-rules    `one_before`
 --   number-rules    `number_before`: b is what place i of the list adds
 --   count-rules     `werktage_in`: a and b are weekdays, m the holidays among them
---   year-of-rules   `werktage_in_year`: j is what `jahr_of` returned
+--   year-of-rules   `werktage_in_year`: j is what `holiday_year` returned
 -- Assumes nothing.
 use Prim.Native.Nat.{ℕ, _+_, _-_, _%_, _≤_, _<_}
 use mathlib.Core.Bool.{Bool, true, false, _&&_}
@@ -36,9 +36,9 @@ use Rattle.werktag.specs.Easter.{easterIndex}
 use Rattle.werktag.specs.Werktag.{isWerktag}
 use Rattle.werktag.proofs.Easter.{easter-is}
 use Rattle.jahre.specs.declared.Year.{Year}
-use Rattle.jahre.specs.declared.Jahr.{Jahr}
+use Rattle.jahre.specs.declared.HolidayYear.{HolidayYear}
 use Rattle.jahre.specs.Year.{yearNumbers, onWeekday, weekdays, bettagIn, himmelfahrtIn, holidays}
-use Rattle.jahre.specs.Year.{noDay, orNoDay, himmelfahrtOr, weekdayHolidays, jahrOf}
+use Rattle.jahre.specs.Year.{noDay, orNoDay, himmelfahrtOr, weekdayHolidays, holidayYear}
 use Rattle.jahre.proofs.Days.{Usual, usual}
 use Rattle.jahre.proofs.Counts.{inYear, count-weekdays, year-among}
 
@@ -135,7 +135,7 @@ module _ (y : Year) where
         ← feast-on f e s 60 (omega arith),
       ))
 
--- jahr_of, and what a caller of `werktage_in` knows by it
+-- holiday_year, and what a caller of `werktage_in` knows by it
 module _ (k : ℕ) (y : Year) (h : k ≤ 903) (e : y ≡ yearNumbers k) where
   is-usual : Usual y
   is-usual = rw e (usual k (omega arith))
@@ -157,8 +157,8 @@ module _ (k : ℕ) (y : Year) (h : k ≤ 903) (e : y ≡ yearNumbers k) where
 
   pub known :
       (cal : HolidayCalendar) (xs : List ℕ) → xs ≡ weekdayHolidays y →
-      _≡_ {A = Jahr} (record { year = k; first = y .first; holidays = xs }) (jahrOf cal k)
-  unfolding jahrOf
+      _≡_ {A = HolidayYear} (record { year = k; first = y .first; holidays = xs }) (holidayYear cal k)
+  unfolding holidayYear
   known BdewMaKo xs l = rw (l, e)
 
 pub ruleset known-rules = (first-small, leaps-small, easter-late, easter-small, easter-sunday, known)
@@ -212,16 +212,16 @@ below-each f n (x ∷ hs) h = ap₂ (λ (a b : ℕ). a + b) (bit-each f n x h) (
 
 known-is :
     (cal : HolidayCalendar) (k : ℕ) →
-    (jahrOf cal k .first ≡ yearNumbers k .first) × (jahrOf cal k .holidays ≡ weekdayHolidays (yearNumbers k))
-unfolding jahrOf
+    (holidayYear cal k .first ≡ yearNumbers k .first) × (holidayYear cal k .holidays ≡ weekdayHolidays (yearNumbers k))
+unfolding holidayYear
 known-is BdewMaKo k = (refl, refl)
 
-module _ (cal : HolidayCalendar) (j : Jahr) (h : j .year ≤ 903) (e : j ≡ jahrOf cal (j .year)) where
+module _ (cal : HolidayCalendar) (j : HolidayYear) (h : j .year ≤ 903) (e : j ≡ holidayYear cal (j .year)) where
   first-of : j .first ≡ yearNumbers (j .year) .first
-  first-of = ap (λ (x : Jahr). x .first) e ∙ known-is cal (j .year) .0
+  first-of = ap (λ (x : HolidayYear). x .first) e ∙ known-is cal (j .year) .0
 
   holidays-of : j .holidays ≡ weekdayHolidays (yearNumbers (j .year))
-  holidays-of = ap (λ (x : Jahr). x .holidays) e ∙ known-is cal (j .year) .1
+  holidays-of = ap (λ (x : HolidayYear). x .holidays) e ∙ known-is cal (j .year) .1
 
   pub first-few : j .first ≤ 400
   first-few = omega (arith, first-of, usual (j .year) (omega arith) .first-to)
@@ -275,19 +275,19 @@ pub ruleset count-rules = (
 )
 
 -- werktage_in_year
-module _ (cal : HolidayCalendar) (k : ℕ) (j : Jahr) (e : j ≡ jahrOf cal k) where
+module _ (cal : HolidayCalendar) (k : ℕ) (j : HolidayYear) (e : j ≡ holidayYear cal k) where
   same-year : j .year ≡ k
-  unfolding jahrOf
-  same-year = ap (λ (x : Jahr). x .year) e ∙ by cal
+  unfolding holidayYear
+  same-year = ap (λ (x : HolidayYear). x .year) e ∙ by cal
     where
-      by : (cal : HolidayCalendar) → jahrOf cal k .year ≡ k
+      by : (cal : HolidayCalendar) → holidayYear cal k .year ≡ k
       by BdewMaKo = refl
 
   pub year-within : k ≤ 903 → j .year ≤ 903
   year-within h = omega (arith, same-year)
 
-  pub year-known : j ≡ jahrOf cal (j .year)
-  year-known = e ∙ ap (jahrOf cal) (sym same-year)
+  pub year-known : j ≡ holidayYear cal (j .year)
+  year-known = e ∙ ap (holidayYear cal) (sym same-year)
 
   pub days-within : (n : ℕ) → n ≤ yearLen k → n ≤ yearLen (j .year)
   days-within n h = rw same-year h

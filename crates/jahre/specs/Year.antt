@@ -12,7 +12,7 @@
 --   orNoDay f r       = day r, if it is a weekday, else noDay
 --   himmelfahrtOr l e = Christi Himmelfahrt, unless it falls on 1 May
 --   weekdayHolidays y = the holidays, with no day in the places of Saturdays and Sundays
---   jahrOf cal k      = the year 1996 + k as a count inside it needs it
+--   holidayYear cal k      = the year 1996 + k as a count inside it needs it
 -- Source: document 01, 'lib.rs, calendar', with each date as a day of the year.
 -- Assumes nothing.
 use Prim.Native.Nat.{ℕ, _+_, _-_, _/_, _%_}
@@ -25,7 +25,7 @@ use Rattle.werktag.specs.declared.HolidayCalendar.{HolidayCalendar}
 use Rattle.werktag.specs.declared.HolidayCalendar.the-variants.{BdewMaKo}
 use Rattle.werktag.specs.Easter.{easterIndex}
 use Rattle.jahre.specs.declared.Year.{Year}
-use Rattle.jahre.specs.declared.Jahr.{Jahr}
+use Rattle.jahre.specs.declared.HolidayYear.{HolidayYear}
 
 unfoldable pub yearNumbers : ℕ → Year
 yearNumbers k =
@@ -74,7 +74,7 @@ himmelfahrtOr l e = cond (eqb (e + 39) (120 + l)) noDay (e + 39)
 unfoldable pub weekdayHolidays : Year → List ℕ
 weekdayHolidays y = map (orNoDay (y .first)) (holidays y)
 
-unfoldable pub jahrOf : HolidayCalendar → ℕ → Jahr
-jahrOf BdewMaKo k =
+unfoldable pub holidayYear : HolidayCalendar → ℕ → HolidayYear
+holidayYear BdewMaKo k =
     let y = yearNumbers k in
     record { year = k; first = y .first; holidays = weekdayHolidays y }

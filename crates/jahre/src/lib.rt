@@ -8,7 +8,7 @@ ghost use Rattle.zaehlung.specs.Walk.{bit, among};
 ghost use Rattle.zaehlung.specs.Lists.{below};
 ghost use Rattle.datum.specs.Calendar.{yearLen, yearStart};
 ghost use Rattle.werktag.specs.Werktag.{isWerktag};
-ghost use Rattle.jahre.specs.Year.{yearNumbers, weekdays, orNoDay, himmelfahrtOr, weekdayHolidays, jahrOf};
+ghost use Rattle.jahre.specs.Year.{yearNumbers, weekdays, orNoDay, himmelfahrtOr, weekdayHolidays, holidayYear};
 use werktag::HolidayCalendar;
 
 /// A year's own numbers: the weekday of its 1 January, its leap days, and Easter Sunday as a day of the year.
@@ -20,7 +20,7 @@ pub struct Year {
 
 /// A year as a count inside it needs it: which one, the weekday of its 1 January, and its holidays on weekdays, in
 /// document 01's order; in the place of one that is a Saturday or Sunday stands `NO_DAY`.
-pub struct Jahr {
+pub struct HolidayYear {
     pub year: u32,
     pub first: u32,
     pub holidays: [u32; 20],
@@ -132,15 +132,15 @@ fn weekday_holidays(year: Year) -> [u32; 20]
 }
 
 /// The year 1996 + k as a count inside it needs it.
-pub fn jahr_of(k: u32, cal: HolidayCalendar) -> Jahr
+pub fn holiday_year(k: u32, cal: HolidayCalendar) -> HolidayYear
     requires { ⌜ k ≤ 903 ⌝ }
-    ensures { λ r. ⌜ r ≡ jahrOf cal k ⌝ }
+    ensures { λ r. ⌜ r ≡ holidayYear cal k ⌝ }
 {
     match cal {
         HolidayCalendar::BdewMaKo => {
             let numbers = year_numbers(k);
             let holidays = weekday_holidays(numbers);
-            Jahr {
+            HolidayYear {
                 year: k,
                 first: numbers.first,
                 holidays,
@@ -176,12 +176,12 @@ fn number_before(days: [u32; 20], n: u32) -> u32
 /// The Werktage among the first `n` days of a year that is known: the weekdays, less the holidays among them.
 ///
 /// The first 97 days of 2026, up to 7 April, have 65.
-pub fn werktage_in(jahr: Jahr, n: u32, cal: HolidayCalendar) -> u32
-    requires { ⌜ (jahr .year ≤ 903) × (jahr ≡ jahrOf cal (jahr .year)) × (n ≤ yearLen (jahr .year)) ⌝ }
-    ensures { λ r. ⌜ (r ≡ among (isWerktag cal) (yearStart (jahr .year)) n) × (r ≤ n) ⌝ }
+pub fn werktage_in(known: HolidayYear, n: u32, cal: HolidayCalendar) -> u32
+    requires { ⌜ (known .year ≤ 903) × (known ≡ holidayYear cal (known .year)) × (n ≤ yearLen (known .year)) ⌝ }
+    ensures { λ r. ⌜ (r ≡ among (isWerktag cal) (yearStart (known .year)) n) × (r ≤ n) ⌝ }
 {
-    let first = jahr.first;
-    let holidays = jahr.holidays;
+    let first = known.first;
+    let holidays = known.holidays;
     weekdays_of(first + n) - weekdays_of(first) - number_before(holidays, n)
 }
 
@@ -190,5 +190,5 @@ pub fn werktage_in_year(k: u32, n: u32, cal: HolidayCalendar) -> u32
     requires { ⌜ (k ≤ 903) × (n ≤ yearLen k) ⌝ }
     ensures { λ r. ⌜ (r ≡ among (isWerktag cal) (yearStart k) n) × (r ≤ n) ⌝ }
 {
-    werktage_in(jahr_of(k, cal), n, cal)
+    werktage_in(holiday_year(k, cal), n, cal)
 }

@@ -31,12 +31,12 @@ use Rattle.datum.specs.Calendar.{firstYear, yearLen, yearStart, yearOf}
 use Rattle.datum.proofs.Years.{start-none}
 use Rattle.werktag.specs.declared.HolidayCalendar.{HolidayCalendar}
 use Rattle.werktag.specs.Werktag.{isWerktag}
-use Rattle.jahre.specs.declared.Jahr.{Jahr}
-use Rattle.jahre.specs.Year.{jahrOf}
+use Rattle.jahre.specs.declared.HolidayYear.{HolidayYear}
+use Rattle.jahre.specs.Year.{holidayYear}
 use Rattle.jahre.proofs.Rules.{year-within, year-known, days-within, of-year}
 use Rattle.jahresindex.specs.Werktage.{werktage}
 use Rattle.schritte.proofs.IndexRules.{year-at, sum-most, sum-at}
-use Rattle.portfolio.specs.declared.Lauf.{Lauf}
+use Rattle.portfolio.specs.declared.Run.{Run}
 use Rattle.portfolio.specs.Portfolio.{isPortfolio, firstDay, inCalendar, inRange, pairCount, pairwise, countsOf}
 use Rattle.portfolio.specs.Runs.{beginning, opens, openings, runs}
 use Rattle.portfolio.specs.Inside.{IsRun, Knows}
@@ -96,9 +96,9 @@ year-is d h =
 -- opened: k is the year of its day
 module _ (cal : HolidayCalendar) (d k : ℕ) (p : k ≡ yearOf d .0) where
   pub is-opened :
-      (b f a n : ℕ) (j : Jahr) → b ≡ count (isWerktag cal) (yearStart k) → f ≡ yearStart k → a ≡ yearStart (k + 1) →
-      j ≡ jahrOf cal k →
-      IsRun cal (yearOf d .0) (record { year = 1996 + k; first = f; after = a; before = b; jahr = j; read = n })
+      (b f a n : ℕ) (j : HolidayYear) → b ≡ count (isWerktag cal) (yearStart k) → f ≡ yearStart k → a ≡ yearStart (k + 1) →
+      j ≡ holidayYear cal k →
+      IsRun cal (yearOf d .0) (record { year = 1996 + k; first = f; after = a; before = b; known = j; read = n })
   is-opened b f a n j e g h i =
       let s = ap yearStart (add-one k) in
       rw (sym p)
@@ -124,7 +124,7 @@ pub ruleset holds-rules = (not-before, before)
 
 -- run_on: p is what `holds` returned
 module _
-    (cal : HolidayCalendar) (run : Lauf) (d : ℕ) (h : d ≤ last) (c : Knows cal run) (p : Bool)
+    (cal : HolidayCalendar) (run : Run) (d : ℕ) (h : d ≤ last) (c : Knows cal run) (p : Bool)
     (q : p ≡ (leb (run .first) d && ltb d (run .after))) where
   pub goes-on : p ≡ true → IsRun cal (yearOf d .0) run
   goes-on t =
@@ -190,7 +190,7 @@ module _ (a b : ℕ) where
   begins-not t = rw t
 
 -- next_run
-module _ (cal : HolidayCalendar) (a b : ℕ) (p : Bool) (q : p ≡ inRange a b) (y n : ℕ) (r : Lauf) where
+module _ (cal : HolidayCalendar) (a b : ℕ) (p : Bool) (q : p ≡ inRange a b) (y n : ℕ) (r : Run) where
   module _ (t : p ≡ true) where
     pub first-late : 9496 ≤ a
     first-late = within a b (sym q ∙ t) .0
@@ -223,34 +223,34 @@ module _ (cal : HolidayCalendar) (a b : ℕ) (p : Bool) (q : p ≡ inRange a b) 
     unfolding opens
     counted-out e = rw (begins-not a b (sym q ∙ t)) (omega arith)
 
-pub knows-none : (cal : HolidayCalendar) (r : Lauf) → r .year ≡ 0 → r .after ≡ 0 → Knows cal r
+pub knows-none : (cal : HolidayCalendar) (r : Run) → r .year ≡ 0 → r .after ≡ 0 → Knows cal r
 knows-none cal r e f = record { none = λ z. f; of = λ z. absurd (z e) }
 
 pub ruleset next-rules =
     (first-late, first-day, its-beginning, knows-run, counted-in, no-beginning, counted-out, knows-none)
 
 -- through: m are the Werktage of the days of the year up to the day d
-module _ (cal : HolidayCalendar) (d : ℕ) (run : Lauf) (i : IsRun cal (yearOf d .0) run) (h : d ≤ last) where
+module _ (cal : HolidayCalendar) (d : ℕ) (run : Run) (i : IsRun cal (yearOf d .0) run) (h : d ≤ last) where
   pub first-before : run .first ≤ d
   first-before = omega (arith, i .its-first, year-is d h)
 
-  pub day-in : d - run .first + 1 ≤ yearLen (run .jahr .year)
+  pub day-in : d - run .first + 1 ≤ yearLen (run .known .year)
   day-in =
-      days-within cal (yearOf d .0) (run .jahr) (i .its-year) (d - run .first + 1)
+      days-within cal (yearOf d .0) (run .known) (i .its-year) (d - run .first + 1)
       (omega (arith, i .its-first, year-is d h, start-suc yearLen (yearOf d .0)))
 
   pub day-fits : Fits w32 (d - run .first + 1)
   day-fits = record { fits = omega arith }
 
-  pub year-in : run .jahr .year ≤ 903
-  year-in = year-within cal (yearOf d .0) (run .jahr) (i .its-year) (year-is d h .2)
+  pub year-in : run .known .year ≤ 903
+  year-in = year-within cal (yearOf d .0) (run .known) (i .its-year) (year-is d h .2)
 
-  pub year-is-known : run .jahr ≡ jahrOf cal (run .jahr .year)
-  year-is-known = year-known cal (yearOf d .0) (run .jahr) (i .its-year)
+  pub year-is-known : run .known ≡ holidayYear cal (run .known .year)
+  year-is-known = year-known cal (yearOf d .0) (run .known) (i .its-year)
 
-  module _ (m : ℕ) (p : m ≡ among (isWerktag cal) (yearStart (run .jahr .year)) (d - run .first + 1)) where
+  module _ (m : ℕ) (p : m ≡ among (isWerktag cal) (yearStart (run .known .year)) (d - run .first + 1)) where
     in-year : m ≡ among (isWerktag cal) (yearStart (yearOf d .0)) (d - run .first + 1)
-    in-year = of-year cal (yearOf d .0) (run .jahr) (i .its-year) m (d - run .first + 1) p
+    in-year = of-year cal (yearOf d .0) (run .known) (i .its-year) m (d - run .first + 1) p
 
     short : d - run .first + 1 ≤ yearLen (yearOf d .0)
     short = omega (arith, i .its-first, year-is d h, start-suc yearLen (yearOf d .0))
@@ -272,7 +272,7 @@ pub ruleset through-rules =
 
 -- werktage_between: a second day before the next year is one of the run's year too
 pub same-run :
-    (cal : HolidayCalendar) (a b : ℕ) (run : Lauf) → IsRun cal (yearOf a .0) run → a ≤ last → a < b → b < run .after →
+    (cal : HolidayCalendar) (a b : ℕ) (run : Run) → IsRun cal (yearOf a .0) run → a ≤ last → a < b → b < run .after →
     IsRun cal (yearOf b .0) run
 same-run cal a b run i h l g =
     let y = year-is a h in
@@ -282,7 +282,7 @@ same-run cal a b run i h l g =
 
 -- pair_count: p is what `in_range` returned
 module _
-    (cal : HolidayCalendar) (a b : ℕ) (run : Lauf) (c : Knows cal run) (e : run .year ≡ beginning a b) (p : Bool)
+    (cal : HolidayCalendar) (a b : ℕ) (run : Run) (c : Knows cal run) (e : run .year ≡ beginning a b) (p : Bool)
     (q : p ≡ inRange a b) where
   pub pair-out : p ≡ false → 4294967295 ≡ pairCount (isWerktag cal) a b
   unfolding pairCount

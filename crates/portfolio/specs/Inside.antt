@@ -9,16 +9,16 @@ use Rattle.zaehlung.specs.Walk.{count}
 use Rattle.datum.specs.Calendar.{firstYear, lastYear, yearStart}
 use Rattle.werktag.specs.declared.HolidayCalendar.{HolidayCalendar}
 use Rattle.werktag.specs.Werktag.{isWerktag}
-use Rattle.jahre.specs.Year.{jahrOf}
-use Rattle.portfolio.specs.declared.Lauf.{Lauf}
+use Rattle.jahre.specs.Year.{holidayYear}
+use Rattle.portfolio.specs.declared.Run.{Run}
 
-pub record IsRun (cal : HolidayCalendar) (k : ℕ) (r : Lauf) : Type 0 where
+pub record IsRun (cal : HolidayCalendar) (k : ℕ) (r : Run) : Type 0 where
   pub its-number : r .year ≡ firstYear + k
   pub its-first : r .first ≡ yearStart k
   pub its-after : r .after ≡ yearStart (suc k)
   pub its-entry : r .before ≡ count (isWerktag cal) (yearStart k)
-  pub its-year : r .jahr ≡ jahrOf cal k
+  pub its-year : r .known ≡ holidayYear cal k
 
-pub record Knows (cal : HolidayCalendar) (r : Lauf) : Type 0 where
+pub record Knows (cal : HolidayCalendar) (r : Run) : Type 0 where
   pub none : r .year ≡ 0 → r .after ≡ 0
   pub of : (r .year ≡ 0 → ⊥) → IsRun cal (r .year - firstYear) r × (r .year ≤ lastYear)

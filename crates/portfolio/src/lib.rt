@@ -16,7 +16,7 @@ ghost use Rattle.jahresindex.specs.Werktage.{werktage};
 ghost use Rattle.portfolio.specs.Portfolio.{isPortfolio, inCalendar, inRange, pairCount, countsOf};
 ghost use Rattle.portfolio.specs.Runs.{beginning, opens, runs};
 ghost use Rattle.portfolio.specs.Inside.{IsRun, Knows};
-use jahre::Jahr;
+use jahre::HolidayYear;
 use jahresindex::WERKTAGE_BEFORE;
 use werktag::HolidayCalendar;
 
@@ -39,12 +39,12 @@ const NO_YEAR: u32 = 0;
 /// The run that a pair belongs to: the year in which its pairs begin, the indexes of that year's first day and of the
 /// next year's, the Werktage before the year, and the year as a count inside it needs it; and how many entries were
 /// read for first days so far. Of a pair out of range the year is `NO_YEAR`, and no day lies in it.
-pub struct Lauf {
+pub struct Run {
     pub year: u32,
     pub first: u32,
     pub after: u32,
     pub before: u32,
-    pub jahr: Jahr,
+    pub known: HolidayYear,
     pub read: u32,
 }
 
@@ -83,27 +83,27 @@ fn in_range(from: u32, to: u32) -> bool
 }
 
 /// Before the first pair there is no run: any pair in range opens one.
-fn no_run() -> Lauf
+fn no_run() -> Run
     ensures { λ r. ⌜ (r .year ≡ 0) × (r .after ≡ 0) × (r .read ≡ 0) ⌝ }
 {
     let holidays = [0; 20];
-    let jahr = Jahr {
+    let known = HolidayYear {
         year: 0,
         first: 0,
         holidays,
     };
-    Lauf {
+    Run {
         year: NO_YEAR,
         first: 0,
         after: 0,
         before: 0,
-        jahr,
+        known,
         read: 0,
     }
 }
 
 /// "A pair with an out-of-range day .. ends a run and belongs to none": behind it any pair in range opens one.
-fn ended(mut run: Lauf) -> Lauf
+fn ended(mut run: Run) -> Run
     ensures { λ r. ⌜ (r .year ≡ 0) × (r .after ≡ 0) × (r .read ≡ run .read) ⌝ }
 {
     run.year = NO_YEAR;
@@ -112,20 +112,20 @@ fn ended(mut run: Lauf) -> Lauf
 }
 
 /// The run that a pair opens whose first day has this index. Here the entry of the year is read, and counted.
-fn opened(from: u32, read: u32, table: &[u32], cal: HolidayCalendar) -> Lauf
+fn opened(from: u32, read: u32, table: &[u32], cal: HolidayCalendar) -> Run
     requires { ⌜ (from ≤ last) × (read < 4096) × (now table ≡ entries) ⌝ }
     ensures { λ r. ⌜ IsRun cal (yearOf from .0) r × (r .read ≡ read + 1) ⌝ }
 {
     let at = datum::year_of(from);
     let k = at.year;
     let before = jahresindex::entry_of(table, k, cal);
-    let jahr = jahre::jahr_of(k, cal);
-    Lauf {
+    let known = jahre::holiday_year(k, cal);
+    Run {
         year: FIRST_YEAR + k,
         first: datum::year_start(k),
         after: datum::year_start(k + 1),
         before,
-        jahr,
+        known,
         read: read + 1,
     }
 }
@@ -141,7 +141,7 @@ fn holds(first: u32, after: u32, day: u32) -> bool
 }
 
 /// The run of a pair in range, behind the one of the pair before it: the same, or one that it opens.
-fn run_on(run: Lauf, from: u32, table: &[u32], cal: HolidayCalendar) -> Lauf
+fn run_on(run: Run, from: u32, table: &[u32], cal: HolidayCalendar) -> Run
     requires { ⌜ Knows cal run × (from ≤ last) × (run .read < 4096) × (now table ≡ entries) ⌝ }
     ensures { λ r. ⌜ IsRun cal (yearOf from .0) r ⌝ }
     ensures { λ r. ⌜ r .read ≡ run .read + bit (opens (run .year) (firstYear + yearOf from .0)) ⌝ }
@@ -153,7 +153,7 @@ fn run_on(run: Lauf, from: u32, table: &[u32], cal: HolidayCalendar) -> Lauf
 }
 
 /// The run of a pair of two days, behind the one of the pair before it.
-fn next_run(run: Lauf, from: u32, to: u32, table: &[u32], cal: HolidayCalendar) -> Lauf
+fn next_run(run: Run, from: u32, to: u32, table: &[u32], cal: HolidayCalendar) -> Run
     requires { ⌜ Knows cal run × (run .read < 4096) × (now table ≡ entries) ⌝ }
     ensures { λ r. ⌜ Knows cal r × (r .year ≡ beginning from to) ⌝ }
     ensures { λ r. ⌜ r .read ≡ run .read + bit (opens (run .year) (beginning from to)) ⌝ }
@@ -165,12 +165,12 @@ fn next_run(run: Lauf, from: u32, to: u32, table: &[u32], cal: HolidayCalendar) 
 }
 
 /// The Werktage up to and with a day of a run's year.
-fn through(run: Lauf, day: u32, cal: HolidayCalendar) -> u32
+fn through(run: Run, day: u32, cal: HolidayCalendar) -> u32
     requires { ⌜ IsRun cal (yearOf day .0) run × (day ≤ last) ⌝ }
     ensures { λ r. ⌜ (r ≡ count (isWerktag cal) (suc day)) × (r ≤ werktage) ⌝ }
 {
-    let jahr = run.jahr;
-    run.before + jahre::werktage_in(jahr, day - run.first + 1, cal)
+    let known = run.known;
+    run.before + jahre::werktage_in(known, day - run.first + 1, cal)
 }
 
 /// The same of a day of any year.
@@ -183,7 +183,7 @@ fn through_any(day: u32, table: &[u32], cal: HolidayCalendar) -> u32
 }
 
 /// The Werktage between two days, the first of a run's year: those up to the second, less those up to the first.
-fn werktage_between(run: Lauf, from: u32, to: u32, table: &[u32], cal: HolidayCalendar) -> u32
+fn werktage_between(run: Run, from: u32, to: u32, table: &[u32], cal: HolidayCalendar) -> u32
     requires { ⌜ IsRun cal (yearOf from .0) run × (from ≤ last) × (to ≤ last) × (now table ≡ entries) ⌝ }
     ensures { λ r. ⌜ r ≡ between (isWerktag cal) from to ⌝ }
 {
@@ -197,7 +197,7 @@ fn werktage_between(run: Lauf, from: u32, to: u32, table: &[u32], cal: HolidayCa
 }
 
 /// The count of a pair of two days, whose run is known.
-fn pair_count(run: Lauf, from: u32, to: u32, table: &[u32], cal: HolidayCalendar) -> u32
+fn pair_count(run: Run, from: u32, to: u32, table: &[u32], cal: HolidayCalendar) -> u32
     requires { ⌜ Knows cal run × (run .year ≡ beginning from to) × (now table ≡ entries) ⌝ }
     ensures { λ r. ⌜ r ≡ pairCount (isWerktag cal) from to ⌝ }
 {

@@ -1,8 +1,7 @@
--- `jahre::himmelfahrt` meets its contract.
+-- `jahre::himmelfahrt` meets its contract: the test of 1 May is the definition's.
 -- Assumes nothing.
 use borrow.Author.Needs.{needs}
 use Rattle.jahre.proofs.Rules.{may-rules}
-use borrow.Author.Needs.{needs}
 use Rattle.jahre.proofs.himmelfahrt.Statement.{statement}
 use Rattle.jahre.proofs.himmelfahrt.Tie as tie
 

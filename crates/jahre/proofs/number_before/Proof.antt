@@ -1,5 +1,5 @@
 -- `jahre::number_before` meets its contract. The invariant: the days counted so far, and those of the rest of the list,
---  are those of the whole list.
+-- are those of the whole list.
 -- Assumes nothing.
 use borrow.Author.Needs.{needs}
 use Prim.Native.Nat.{_+_, _-_, _≤_}

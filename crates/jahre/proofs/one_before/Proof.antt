@@ -1,4 +1,4 @@
--- `jahre::one_before` meets its contract.
+-- `jahre::one_before` meets its contract: a test, as a number.
 -- Assumes nothing.
 use borrow.Author.Needs.{needs}
 use Rattle.jahre.proofs.Rules.{before-rules}

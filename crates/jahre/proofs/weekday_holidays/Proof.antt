@@ -1,9 +1,8 @@
 -- `jahre::weekday_holidays` meets its contract: the array is the definition's list, with what `weekday_or_none` and
---  `himmelfahrt` returned in their places.
+-- `himmelfahrt` returned in their places.
 -- Assumes nothing.
 use borrow.Author.Needs.{needs}
 use Rattle.jahre.proofs.Rules.{listed-is}
-use borrow.Author.Needs.{needs}
 use Rattle.jahre.proofs.weekday_holidays.Statement.{statement}
 use Rattle.jahre.proofs.weekday_holidays.Tie as tie
 

@@ -1,8 +1,7 @@
--- `jahre::weekday_or_none` meets its contract.
+-- `jahre::weekday_or_none` meets its contract: the test of a weekday is the definition's.
 -- Assumes nothing.
 use borrow.Author.Needs.{needs}
 use Rattle.jahre.proofs.Rules.{weekday-rules}
-use borrow.Author.Needs.{needs}
 use Rattle.jahre.proofs.weekday_or_none.Statement.{statement}
 use Rattle.jahre.proofs.weekday_or_none.Tie as tie
 

@@ -2,7 +2,6 @@
 -- Assumes nothing.
 use borrow.Author.Needs.{needs}
 use Rattle.jahre.proofs.Rules.{count-rules}
-use borrow.Author.Needs.{needs}
 use Rattle.jahre.proofs.werktage_in.Statement.{statement}
 use Rattle.jahre.proofs.werktage_in.Tie as tie
 

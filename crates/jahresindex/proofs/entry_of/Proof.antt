@@ -2,7 +2,6 @@
 -- Assumes nothing.
 use borrow.Author.Needs.{needs}
 use Rattle.jahresindex.proofs.Rules.{entry-rules}
-use borrow.Author.Needs.{needs}
 use Rattle.jahresindex.proofs.entry_of.Statement.{statement}
 use Rattle.jahresindex.proofs.entry_of.Tie as tie
 

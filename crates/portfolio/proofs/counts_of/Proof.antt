@@ -1,5 +1,5 @@
 -- `portfolio::counts_of` meets its contract. The loop's invariant: the counts so far, and the entries read so far with
---  those that the pairs still to come will need, are those of all pairs.
+-- those that the pairs still to come will need, are those of all pairs.
 -- Assumes nothing.
 use borrow.Author.Needs.{needs}
 use Prim.Native.Nat.{_-_, _≤_}

@@ -1,4 +1,4 @@
--- `portfolio::holds` meets its contract.
+-- `portfolio::holds` meets its contract: two tests, in the definition's order.
 -- Assumes nothing.
 use borrow.Author.Needs.{needs}
 use Rattle.portfolio.proofs.Rules.{holds-rules}

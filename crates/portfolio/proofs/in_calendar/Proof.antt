@@ -1,4 +1,4 @@
--- `portfolio::in_calendar` meets its contract.
+-- `portfolio::in_calendar` meets its contract: two tests, in the definition's order.
 -- Assumes nothing.
 use borrow.Author.Needs.{needs}
 use Rattle.portfolio.proofs.Rules.{calendar-rules}

@@ -1,8 +1,7 @@
--- `portfolio::in_range` meets its contract.
+-- `portfolio::in_range` meets its contract: both days, the first one first.
 -- Assumes nothing.
 use borrow.Author.Needs.{needs}
 use Rattle.portfolio.proofs.Rules.{range-rules}
-use borrow.Author.Needs.{needs}
 use Rattle.portfolio.proofs.in_range.Statement.{statement}
 use Rattle.portfolio.proofs.in_range.Tie as tie
 

@@ -1,8 +1,7 @@
--- `portfolio::next_run` meets its contract.
+-- `portfolio::next_run` meets its contract: a pair in range goes on by its first day, any other ends the run.
 -- Assumes nothing.
 use borrow.Author.Needs.{needs}
 use Rattle.portfolio.proofs.Rules.{next-rules}
-use borrow.Author.Needs.{needs}
 use Rattle.portfolio.proofs.next_run.Statement.{statement}
 use Rattle.portfolio.proofs.next_run.Tie as tie
 

@@ -1,8 +1,7 @@
--- `portfolio::opened` meets its contract.
+-- `portfolio::opened` meets its contract: each field is the year's.
 -- Assumes nothing.
 use borrow.Author.Needs.{needs}
 use Rattle.portfolio.proofs.Rules.{opened-rules}
-use borrow.Author.Needs.{needs}
 use Rattle.portfolio.proofs.opened.Statement.{statement}
 use Rattle.portfolio.proofs.opened.Tie as tie
 
@@ -12,8 +11,8 @@ year-of-requires c κs = search needs
 entry-of-requires : tie.Need-entry-of-requires
 entry-of-requires c κs = search needs
 
-jahr-of-requires : tie.Need-jahr-of-requires
-jahr-of-requires c κs = search needs
+holiday-year-requires : tie.Need-holiday-year-requires
+holiday-year-requires c κs = search needs
 
 add-t9 : tie.Need-add-t9
 add-t9 c = search needs
@@ -39,7 +38,7 @@ opened-spec =
     (tie.spec
     year-of-requires
     entry-of-requires
-    jahr-of-requires
+    holiday-year-requires
     add-t9
     year-start-requires
     add-year-start

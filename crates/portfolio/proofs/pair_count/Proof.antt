@@ -1,4 +1,4 @@
--- `portfolio::pair_count` meets its contract.
+-- `portfolio::pair_count` meets its contract: the run of a pair in range is of the year of its first day.
 -- Assumes nothing.
 use borrow.Author.Needs.{needs}
 use Rattle.portfolio.proofs.Rules.{pair-rules}

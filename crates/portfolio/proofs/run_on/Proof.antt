@@ -2,7 +2,6 @@
 -- Assumes nothing.
 use borrow.Author.Needs.{needs}
 use Rattle.portfolio.proofs.Rules.{on-rules}
-use borrow.Author.Needs.{needs}
 use Rattle.portfolio.proofs.run_on.Statement.{statement}
 use Rattle.portfolio.proofs.run_on.Tie as tie
 

@@ -2,7 +2,6 @@
 -- Assumes nothing.
 use borrow.Author.Needs.{needs}
 use Rattle.portfolio.proofs.Rules.{through-rules}
-use borrow.Author.Needs.{needs}
 use Rattle.portfolio.proofs.through.Statement.{statement}
 use Rattle.portfolio.proofs.through.Tie as tie
 

@@ -2,7 +2,6 @@
 -- Assumes nothing.
 use borrow.Author.Needs.{needs}
 use Rattle.schritte.proofs.IndexRules.{day-rules}
-use borrow.Author.Needs.{needs}
 use Rattle.portfolio.proofs.through_any.Statement.{statement}
 use Rattle.portfolio.proofs.through_any.Tie as tie
 

@@ -1,9 +1,9 @@
--- `jahre::jahr_of` meets its contract.
+-- `jahre::holiday_year` meets its contract: its fields are the definition's.
 -- Assumes nothing.
 use borrow.Author.Needs.{needs}
 use Rattle.jahre.proofs.Rules.{known-rules}
-use Rattle.jahre.proofs.jahr_of.Statement.{statement}
-use Rattle.jahre.proofs.jahr_of.Tie as tie
+use Rattle.jahre.proofs.holiday_year.Statement.{statement}
+use Rattle.jahre.proofs.holiday_year.Tie as tie
 
 year-numbers-requires : tie.Need-year-numbers-requires
 year-numbers-requires c κs = search needs
@@ -14,5 +14,5 @@ weekday-holidays-requires c κs = search (needs, known-rules)
 returns : tie.Need-returns
 returns c = search (needs, known-rules)
 
-pub jahr-of-spec : {M : Type 1} → statement M
-jahr-of-spec = tie.close (tie.spec year-numbers-requires weekday-holidays-requires returns)
+pub holiday-year-spec : {M : Type 1} → statement M
+holiday-year-spec = tie.close (tie.spec year-numbers-requires weekday-holidays-requires returns)
