@@ -96,8 +96,8 @@ year-is d h =
 -- opened: k is the year of its day
 module _ (cal : HolidayCalendar) (d k : ℕ) (p : k ≡ yearOf d .0) where
   pub is-opened :
-      (b f a n : ℕ) (j : HolidayYear) → b ≡ count (isWerktag cal) (yearStart k) → f ≡ yearStart k → a ≡ yearStart (k + 1) →
-      j ≡ holidayYear cal k →
+      (b f a n : ℕ) (j : HolidayYear) →
+      b ≡ count (isWerktag cal) (yearStart k) → f ≡ yearStart k → a ≡ yearStart (k + 1) → j ≡ holidayYear cal k →
       IsRun cal (yearOf d .0) (record { year = 1996 + k; first = f; after = a; before = b; known = j; read = n })
   is-opened b f a n j e g h i =
       let s = ap yearStart (add-one k) in
