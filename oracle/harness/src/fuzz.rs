@@ -248,7 +248,7 @@ impl Fuzzer {
         round: &PortfolioRound,
         singles: &[Option<u32>],
     ) -> Option<String> {
-        let PortfolioRound { lent, places, guard, .. } = round;
+        let PortfolioRound { lent, places, guard } = round;
         let [from, to, counts] = &mut self.lists;
         let mut from = from.lend(places[0], &lent.from, *guard);
         let mut to = to.lend(places[1], &lent.to, *guard);
@@ -265,7 +265,7 @@ impl Fuzzer {
             case.fault(number, counts.slice(), answer.slice(), singles)
         } else {
             counts.mark(Mark::Defined);
-            if let Mark::NoAccess = of_answer {
+            if of_answer == Mark::NoAccess {
                 answer.mark(Mark::Defined);
             }
             round.refused_fault(number, counts.slice(), answer.slice())

@@ -68,11 +68,16 @@ impl fmt::Display for Portfolio {
     }
 }
 
-/// The question of the single call for a pair, if both days are the calendar's.
-#[must_use]
-pub fn single((from, to): (u32, u32)) -> Option<Question> {
+/// What the single call counts for a pair, if both days are the calendar's; the largest number where it
+/// refuses.
+pub fn single((from, to): (u32, u32), ask: impl Fn(&Question, &mut [u8]) -> u8) -> Option<u32> {
     let date = |number| days::numbered(number).and_then(days::to_host);
-    Some(Question::on(Call::WerktageBetween, date(from)?).with_second(date(to)?))
+    let question = Question::on(Call::WerktageBetween, date(from)?).with_second(date(to)?);
+    let mut answer = [u8::MAX; Answer::LEN];
+    Some(match ask(&question, &mut answer) {
+        0 => Answer::from_bytes(answer).count(),
+        _ => u32::MAX,
+    })
 }
 
 /// A pair for people.

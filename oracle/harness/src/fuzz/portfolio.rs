@@ -11,7 +11,7 @@ use crate::portfolio::{self, Lens, Portfolio, CALL};
 use crate::random::Random;
 use crate::rows::portfolios::any_pairs;
 use crate::run::hex;
-use mako_fristen_host::{Answer, Refusal};
+use mako_fristen_host::{Answer, Question, Refusal};
 use std::fmt;
 
 /// The longest list: twice as long as one may be, and somewhat more.
@@ -58,15 +58,11 @@ impl PortfolioCase {
         self.expected.as_ref().map_or(0, |expected| expected.counts.len() as u64)
     }
 
-    /// What the single call counts for each pair that it answers.
+    /// What the single call counts for each pair.
     #[must_use]
     pub fn singles(&self, ask: Ask) -> Vec<Option<u32>> {
-        let single = |&pair: &(u32, u32)| {
-            let mut answer = [u8::MAX; Answer::LEN];
-            let number = ask(&portfolio::single(pair)?, &[], &mut answer);
-            (number == 0).then(|| Answer::from_bytes(answer).count())
-        };
-        self.pairs.iter().map(single).collect()
+        let ask = |question: &Question, answer: &mut [u8]| ask(question, &[], answer);
+        self.pairs.iter().map(|&pair| portfolio::single(pair, ask)).collect()
     }
 
     /// What is wrong with what a call of the portfolio has left, beside the original's counts and
@@ -80,16 +76,12 @@ impl PortfolioCase {
         singles: &[Option<u32>],
     ) -> Option<String> {
         let expected = self.expected.as_ref().ok();
-        let single = || {
-            let mut each = singles.iter().zip(counts).enumerate();
-            let other =
-                each.find(|(_, (single, got))| single.is_some_and(|single| single != **got));
-            other.map(|(place, (single, got))| {
-                let single = single.unwrap_or_default();
-                format!("count {place}: the single call gives {single}, got {got}")
-            })
+        let fault = expected.and_then(|expected| left_fault(number, counts, answer, expected));
+        let other = |(place, (single, got)): (usize, (&Option<u32>, &u32))| {
+            let single = single.filter(|single| single != got)?;
+            Some(format!("count {place}: the single call gives {single}, got {got}"))
         };
-        expected.and_then(|expected| left_fault(number, counts, answer, expected)).or_else(single)
+        fault.or_else(|| singles.iter().zip(counts).enumerate().find_map(other))
     }
 }
 
@@ -119,6 +111,7 @@ impl PortfolioRound {
     }
 }
 
+/// What is wrong with what a call has left.
 fn left_fault(number: u8, counts: &[u32], answer: &[u8], expected: &Left) -> Option<String> {
     let whole = answer.len() == Answer::LEN;
     let count = if number == 0 { 4..8 } else { 4..4 };

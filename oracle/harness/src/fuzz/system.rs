@@ -91,7 +91,7 @@ extern "C" fn crashed(number: c_int) {
 }
 
 /// Memcheck's view of bytes. Without valgrind, marks do nothing.
-#[derive(Clone, Copy)]
+#[derive(Clone, Copy, PartialEq, Eq)]
 pub enum Mark {
     NoAccess = 0x4d43_0000,
     Undefined = 0x4d43_0001,

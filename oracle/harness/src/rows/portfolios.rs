@@ -82,7 +82,7 @@ impl PortfolioRow {
 pub fn rows(seed: u64, random: u64) -> Vec<PortfolioRow> {
     /// Where the original walks far, which takes it up to 40 ms for each pair.
     const FAR: u64 = 24;
-    let lists = random / 1600;
+    let lists = random / 2000;
     vec![
         every_date(seed),
         PortfolioRow::random("random, in any order", lists, seed, unsorted),
@@ -142,11 +142,13 @@ fn before(index: u32, random: &mut Random) -> u32 {
     index.saturating_sub(1 + random.below(days))
 }
 
-/// How many pairs: any number, and most are few.
+/// How many pairs: any number, one list in 32 as many as it may have, and most few.
 fn any_len(random: &mut Random) -> u32 {
-    let below = match random.below(16) {
-        0 => MOST_PAIRS as u32 + 1,
-        1..4 => 257,
+    const MOST: u32 = MOST_PAIRS as u32;
+    let below = match random.below(32) {
+        0 => return MOST,
+        1 => MOST + 1,
+        2..8 => 257,
         _ => 17,
     };
     random.below(below)
@@ -316,7 +318,7 @@ fn of_kind(kind: u64, year: u32, random: &mut Random) -> Pair {
     let day = days::number(first);
     match kind {
         0 => (day, days::number(first + 1 + random.below(2 * YEAR))),
-        1 => (day, days::number(random.below(first + 1))),
+        1 => (day, days::number(first.saturating_sub(random.below(3)))),
         2 => (days::number(of_year(years::ends(year).1 + 1, random)), day),
         3 => (outside(day, random), day),
         4 => (day, outside(day, random)),
@@ -388,7 +390,7 @@ mod tests {
     use std::collections::HashSet;
 
     fn row(what: &str) -> PortfolioRow {
-        let found = rows(1, 1_600_000).into_iter().find(|row| row.what == what);
+        let found = rows(1, 2_000_000).into_iter().find(|row| row.what == what);
         found.expect("a row")
     }
 
@@ -475,6 +477,9 @@ mod tests {
         }
         assert!((0..71).all(|answer| lens.contains(&[3, 3, 3, answer])));
         assert!((0..71).all(|answer| lens.contains(&[3, 3, 2, answer])));
-        assert!(lent(&row("random, in any order")).any(|lent| lent.from.len() > 4000));
+        let any: HashSet<usize> =
+            lent(&row("random, in any order")).map(|p| p.from.len()).collect();
+        assert!((0..17).chain([4096]).all(|len| any.contains(&len)));
+        assert!(any.iter().any(|len| (2000..4096).contains(len)));
     }
 }

@@ -5,7 +5,7 @@ use super::{hex, Places, Put, SHOWN};
 use crate::original::{caught, expected_of_portfolio, Left};
 use crate::portfolio::{self, Portfolio, CALL};
 use crate::rows::portfolios::{PortfolioProbe, PortfolioRow};
-use mako_fristen_host::Answer;
+use mako_fristen_host::Question;
 
 impl Places for PortfolioRow {
     fn call(&self) -> &'static str {
@@ -75,7 +75,7 @@ fn of_pairs(row: &PortfolioRow, lent: &Portfolio, expected: &Left, counts: &[u32
     let counts = expected.counts.iter().zip(counts);
     for (place, (pair, (&expected, &got))) in lent.pairs().zip(counts).enumerate() {
         put.compared += 1;
-        let single = if row.singles { single(pair) } else { None };
+        let single = if row.singles { portfolio::single(pair, Question::ask) } else { None };
         let single = single.unwrap_or(got);
         if (expected, single) == (got, got) {
             continue;
@@ -88,13 +88,6 @@ fn of_pairs(row: &PortfolioRow, lent: &Portfolio, expected: &Left, counts: &[u32
         }
     }
     put
-}
-
-/// What our single call counts for a pair that it answers.
-fn single(pair: (u32, u32)) -> Option<u32> {
-    let mut answer = [0; Answer::LEN];
-    let number = portfolio::single(pair)?.ask(&mut answer);
-    (number == 0).then(|| Answer::from_bytes(answer).count())
 }
 
 #[cfg(test)]

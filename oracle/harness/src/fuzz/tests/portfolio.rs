@@ -238,7 +238,7 @@ fn cases_are_of_every_kind_and_length() {
     let cases: Vec<PortfolioCase> = (0..1000).map(|place| PortfolioCase::at(1, place)).collect();
     assert!(cases.iter().all(|case| case.panic().is_none() && case.rounds.len() == 8));
     let lens: HashSet<usize> = cases.iter().map(|case| case.pairs.len()).collect();
-    assert!((0..17).all(|len| lens.contains(&len)) && lens.iter().any(|&len| len > 3500));
+    assert!((0..17).chain([MOST_PAIRS]).all(|len| lens.contains(&len)));
     let rounds = || cases.iter().flat_map(|case| &case.rounds);
     for number in [0, 1, 10] {
         let of_number = rounds().filter(|round| round.refusal() == number);
