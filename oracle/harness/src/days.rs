@@ -2,10 +2,11 @@
 
 use mako_fristen_host::{Date, Refusal};
 use time::macros::date;
-use time::Month;
+use time::{Duration, Month};
 
 const FIRST: time::Date = date!(1996 - 01 - 01);
 const LAST: time::Date = date!(2899 - 12 - 31);
+const DAY_0: time::Date = date!(1970 - 01 - 01);
 
 /// How many days the calendar has.
 pub const DAYS: u32 = (LAST.to_julian_day() - FIRST.to_julian_day() + 1) as u32;
@@ -20,6 +21,19 @@ pub fn day(index: u32) -> time::Date {
 #[must_use]
 pub fn index(day: time::Date) -> u32 {
     (day.to_julian_day() - FIRST.to_julian_day()) as u32
+}
+
+/// The day so many days after 1 January 1970, if the calendar has it.
+#[must_use]
+pub fn numbered(number: u32) -> Option<time::Date> {
+    let day = DAY_0.checked_add(Duration::days(number.into()))?;
+    (FIRST..=LAST).contains(&day).then_some(day)
+}
+
+/// How many days after 1 January 1970 the day of an index lies.
+#[must_use]
+pub fn number(index: u32) -> u32 {
+    (day(index) - DAY_0).whole_days() as u32
 }
 
 /// How many days of the calendar come after.
@@ -68,4 +82,21 @@ pub fn given(date: Date) -> Result<time::Date, Refusal> {
     let month = Month::try_from(date.month).map_err(|_| Refusal::NoDate)?;
     let day = time::Date::from_calendar_date(date.year.into(), month, date.day);
     day.ok().filter(|day| (FIRST..=LAST).contains(day)).ok_or(Refusal::NoDate)
+}
+
+#[cfg(test)]
+mod tests {
+    use super::{day, number, numbered, DAYS};
+    use time::macros::date;
+
+    #[test]
+    fn days_are_numbered_from_1970_on() {
+        assert_eq!((number(0), number(DAYS - 1)), (9496, 339_675));
+        assert_eq!(numbered(9496), Some(date!(1996 - 01 - 01)));
+        assert_eq!(numbered(339_675), Some(date!(2899 - 12 - 31)));
+        assert_eq!(numbered(20_545), Some(date!(2026 - 04 - 02)));
+        assert!((0..DAYS).step_by(1000).all(|index| numbered(number(index)) == Some(day(index))));
+        let outside = [0, 9495, 339_676, i32::MAX as u32, 1 << 31, u32::MAX - 1, u32::MAX];
+        assert_eq!(outside.map(numbered), [None; 7]);
+    }
 }

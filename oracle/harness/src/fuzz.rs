@@ -4,20 +4,24 @@
 mod area;
 mod case;
 mod file;
+mod portfolio;
 mod system;
 
 pub use area::Place;
 pub use case::Case;
 pub use file::FileCase;
+pub use portfolio::PortfolioCase;
 pub use system::{on_valgrind, tell_of_crashes};
 
 use crate::original::caught;
+use crate::portfolio::AskPortfolio;
 use crate::records;
 use crate::rows::files::AskFile;
-use area::{Area, Lent};
+use area::Area;
 use case::Round;
 use file::refused_fault;
 use mako_fristen_host::{ffi, Answer, Call, Question, Refusal};
+use portfolio::PortfolioRound;
 use std::fmt;
 use std::time::{Duration, Instant};
 use system::Mark;
@@ -28,8 +32,8 @@ const LONGEST_TIME: Duration = Duration::from_millis(300);
 const SLOWER_ON_VALGRIND: u32 = 50;
 const TIMES: usize = 3;
 const SHOWN: usize = 5;
-/// One case in so many is a file.
-const FILES: u64 = Call::ALL.len() as u64 + 1;
+/// One case in so many is a file, and one a portfolio.
+const TURN: u64 = Call::ALL.len() as u64 + 1;
 
 /// Puts a question with a reason of any length and a lent answer; returns the number.
 pub type Ask = fn(&Question, &[u8], &mut [u8]) -> u8;
@@ -64,7 +68,7 @@ pub struct Found {
     pub wrong: u64,
     /// The first few, in full.
     pub shown: Vec<String>,
-    /// The longest time that a question took, of a file on average.
+    /// The longest time that a question took, of a file or a portfolio on average.
     pub slowest: Duration,
     /// The question that took longest.
     pub slowest_question: String,
@@ -90,26 +94,35 @@ impl Found {
 pub struct Fuzzer {
     ask: Ask,
     ask_file: AskFile,
+    ask_portfolio: AskPortfolio,
     /// What the calls write.
-    answers: Area,
+    answers: Area<u8>,
     /// What they read: reasons and questions.
-    read: Area,
+    read: Area<u8>,
+    /// The lists of a portfolio: two to read and one to write.
+    lists: [Area<u32>; 3],
     pub found: Found,
 }
 
 impl Fuzzer {
     #[must_use]
-    pub fn new(ask: Ask, ask_file: AskFile) -> Fuzzer {
-        let (answers, read, found) = (Area::default(), Area::default(), Found::default());
-        Fuzzer { ask, ask_file, answers, read, found }
+    pub fn new(ask: Ask, ask_file: AskFile, ask_portfolio: AskPortfolio) -> Fuzzer {
+        let [answers, read] = [(); 2].map(|()| Area::new(file::LONGEST));
+        let lists = [(); 3].map(|()| Area::new(portfolio::LONGEST));
+        Fuzzer { ask, ask_file, ask_portfolio, answers, read, lists, found: Found::default() }
     }
 
-    /// Puts the case of a place: a question, or a file of them.
+    /// Puts the case of a place: a question, a file of them, or a portfolio.
     pub fn put_at(&mut self, seed: u64, place: u64) {
-        let put = if (place + 1).is_multiple_of(FILES) {
-            caught(|| FileCase::at(seed, place)).map(|case| self.put_file(&case, seed, place))
-        } else {
-            caught(|| Case::at(seed, place)).map(|case| self.put(&case, seed, place))
+        const FILE: u64 = TURN - 1;
+        const PORTFOLIO: u64 = TURN / 2 - 1;
+        let put = match place % TURN {
+            FILE => {
+                caught(|| FileCase::at(seed, place)).map(|case| self.put_file(&case, seed, place))
+            }
+            PORTFOLIO => caught(|| PortfolioCase::at(seed, place))
+                .map(|case| self.put_portfolio(&case, seed, place)),
+            _ => caught(|| Case::at(seed, place)).map(|case| self.put(&case, seed, place)),
         };
         if let Err(panic) = put {
             self.wrong("a question", &panic.to_string(), seed, place);
@@ -135,12 +148,23 @@ impl Fuzzer {
         });
     }
 
-    fn put_each(
+    /// Puts the portfolio at every place, with lists and an answer as they have to be and others.
+    pub fn put_portfolio(&mut self, case: &PortfolioCase, seed: u64, place: u64) {
+        if let Some(panic) = case.panic() {
+            self.wrong(case, &panic.to_string(), seed, place);
+        }
+        let singles = case.singles(self.ask);
+        self.put_each(case, &case.rounds, [seed, place], |fuzzer, round| {
+            fuzzer.portfolio_round(case, round, &singles)
+        });
+    }
+
+    fn put_each<R>(
         &mut self,
         case: impl fmt::Display,
-        rounds: &[Round],
+        rounds: &[R],
         [seed, place]: [u64; 2],
-        mut put: impl FnMut(&mut Fuzzer, &Round) -> Option<String>,
+        mut put: impl FnMut(&mut Fuzzer, &R) -> Option<String>,
     ) {
         system::at_place(place);
         let errors = system::valgrind_errors();
@@ -176,7 +200,7 @@ impl Fuzzer {
         if !whole {
             answer.mark(Mark::Defined);
         }
-        let beside = beside(&answer, &mut reason, &case.reason);
+        let beside = beside(answer.is_intact(), reason.is_unchanged(&case.reason));
         let fault = match <[u8; Answer::LEN]>::try_from(&*answer.slice()) {
             Ok(bytes) if whole => {
                 self.found.told += u64::from(expected.is_some());
@@ -208,10 +232,49 @@ impl Fuzzer {
             self.found.told += case.told();
             case.answers_fault(number, answers.slice(), singles)
         };
-        let beside = beside(&answers, &mut questions, &case.questions);
+        let beside = beside(answers.is_intact(), questions.is_unchanged(&case.questions));
         let ask = self.ask_file;
         let late = self.late(case, case.records(), took, || {
             let _ = ask(&case.questions, &mut round.content.clone());
+        });
+        let fault = fault.or(beside.map(String::from)).or(late);
+        fault.map(|fault| format!("{fault} ({round})"))
+    }
+
+    /// One call of a portfolio; what is wrong with it.
+    fn portfolio_round(
+        &mut self,
+        case: &PortfolioCase,
+        round: &PortfolioRound,
+        singles: &[Option<u32>],
+    ) -> Option<String> {
+        let PortfolioRound { lent, places, guard } = round;
+        let [from, to, counts] = &mut self.lists;
+        let mut from = from.lend(places[0], &lent.from, *guard);
+        let mut to = to.lend(places[1], &lent.to, *guard);
+        let mut counts = counts.lend(places[2], &lent.counts, *guard);
+        let mut answer = self.answers.lend(places[3], &lent.answer, *guard as u8);
+        let [of_counts, of_answer] = round.marks();
+        counts.mark(of_counts);
+        answer.mark(of_answer);
+        let started = Instant::now();
+        let number = (self.ask_portfolio)(from.slice(), to.slice(), counts.slice(), answer.slice());
+        let took = started.elapsed();
+        let fault = if round.refusal() == 0 {
+            self.found.told += case.told();
+            case.fault(number, counts.slice(), answer.slice(), singles)
+        } else {
+            counts.mark(Mark::Defined);
+            if of_answer == Mark::NoAccess {
+                answer.mark(Mark::Defined);
+            }
+            round.refused_fault(number, counts.slice(), answer.slice())
+        };
+        let read = from.is_unchanged(&lent.from) && to.is_unchanged(&lent.to);
+        let beside = beside(counts.is_intact() && answer.is_intact(), read);
+        let ask = self.ask_portfolio;
+        let late = self.late(case, case.pairs.len().max(1) as u32, took, || {
+            let _ = ask(&lent.from, &lent.to, &mut lent.counts.clone(), &mut lent.answer.clone());
         });
         let fault = fault.or(beside.map(String::from)).or(late);
         fault.map(|fault| format!("{fault} ({round})"))
@@ -270,11 +333,11 @@ fn length_fault(number: u8, untouched: bool) -> Option<String> {
     }
 }
 
-/// What is wrong beside the answer.
-fn beside(answer: &Lent, read: &mut Lent, content: &[u8]) -> Option<&'static str> {
-    if !answer.is_intact() {
+/// What is wrong beside what a call writes, and with what it reads.
+fn beside(intact: bool, unchanged: bool) -> Option<&'static str> {
+    if !intact {
         Some("bytes beside the answer were written")
-    } else if !read.is_intact() || read.slice() != content {
+    } else if !unchanged {
         Some("what is read or bytes beside it were written")
     } else {
         None

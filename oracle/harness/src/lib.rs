@@ -7,6 +7,7 @@
 //! | [`original`] | what the original answers to a question, in document 01's terms |
 //! | [`zone`] | what the system's tz database answers |
 //! | [`records`] | questions as the records of a file |
+//! | [`portfolio`] | two lists of days, and what is lent with them |
 //! | [`random`] | seeded numbers |
 //! | [`walk`] | how far the original walks for an answer |
 //! | [`rows`] | the questions, in rows: a new call is a new set of rows |
@@ -22,6 +23,7 @@ pub mod fuzz;
 pub mod instants;
 pub mod options;
 pub mod original;
+pub mod portfolio;
 pub mod progress;
 pub mod random;
 pub mod records;

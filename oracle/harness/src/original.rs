@@ -2,6 +2,7 @@
 //! answer is made.
 
 mod panics;
+mod portfolio;
 mod reason;
 mod span;
 mod tested;
@@ -9,6 +10,10 @@ mod verdict;
 mod werktage;
 
 pub use panics::{caught, Panic};
+pub use portfolio::{
+    count_both_ways, count_by_list, count_soon, expected_of_portfolio,
+    refusal as refusal_of_portfolio, Count, Left, MOST_PAIRS, OUT_OF_RANGE,
+};
 pub use reason::{ALIKE, ENDS};
 pub use span::expected_of_the_verdicts;
 pub use werktage::{werktag, werktage_before};

@@ -7,6 +7,7 @@ mod corners;
 pub mod files;
 mod instants;
 mod kalender;
+pub mod portfolios;
 mod uhr;
 mod vorlauf;
 pub(crate) mod years;
@@ -15,7 +16,6 @@ pub mod zone;
 use crate::original::{self, Expected};
 use crate::random::Random;
 use crate::run::Places;
-use files::FileRow;
 use mako_fristen_host::{Answer, Call, Question};
 
 /// The longest answer that is lent.
@@ -86,10 +86,10 @@ pub fn through_years(seed: u64, random: u64) -> Vec<Row> {
     years::rows(seed, random)
 }
 
-/// The rows of a short run: those above, of the tz database, and of files.
+/// The rows of a short run: those above, of the tz database, of files and of portfolios.
 #[must_use]
 pub fn short(seed: u64, random: u64) -> Vec<Box<dyn Places>> {
-    all(short_rows(seed, random), files::rows(seed, random))
+    all(short_rows(seed, random), seed, random)
 }
 
 fn short_rows(seed: u64, random: u64) -> Vec<Row> {
@@ -102,7 +102,7 @@ fn short_rows(seed: u64, random: u64) -> Vec<Row> {
 /// ones are four times what they are told, and for every call arguments of every kind.
 #[must_use]
 pub fn long(seed: u64, random: u64) -> Vec<Box<dyn Places>> {
-    all(long_rows(seed, random), files::rows(seed, random / 8))
+    all(long_rows(seed, random), seed, random / 8)
 }
 
 fn long_rows(seed: u64, random: u64) -> Vec<Row> {
@@ -111,10 +111,15 @@ fn long_rows(seed: u64, random: u64) -> Vec<Row> {
     rows
 }
 
-fn all(rows: Vec<Row>, files: Vec<FileRow>) -> Vec<Box<dyn Places>> {
-    let rows = rows.into_iter().chain(zone::opened());
-    let rows = rows.map(|row| Box::new(row) as Box<dyn Places>);
-    rows.chain(files.into_iter().map(|row| Box::new(row) as Box<dyn Places>)).collect()
+/// The rows, and those of files and portfolios.
+fn all(rows: Vec<Row>, seed: u64, random: u64) -> Vec<Box<dyn Places>> {
+    fn boxed(row: impl Places + 'static) -> Box<dyn Places> {
+        Box::new(row)
+    }
+    let rows = rows.into_iter().chain(zone::opened()).map(boxed);
+    let files = files::rows(seed, random).into_iter().map(boxed);
+    let portfolios = portfolios::rows(seed, random).into_iter().map(boxed);
+    rows.chain(files).chain(portfolios).collect()
 }
 
 /// How many questions there are where the original walks far and `few` are enough for a short run:

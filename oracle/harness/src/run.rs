@@ -1,6 +1,8 @@
 //! Puts the questions of rows to both sides.
 
 mod file;
+mod guarded;
+mod portfolio;
 
 use crate::cores::{cores, split};
 use crate::original::{caught, Panic};

@@ -7,7 +7,7 @@ use mako_fristen_host::{Call, Date, Instant, Parameter, Question};
 
 /// An answer for which it would walk more days than this comes from the list of Werktage, and is
 /// asked of it rarely.
-const FAR: u32 = 3000;
+pub const FAR: u32 = 3000;
 
 /// Whether the original may walk far for its answer: over many Werktage, or from one date to another.
 #[must_use]

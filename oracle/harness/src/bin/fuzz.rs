@@ -1,6 +1,6 @@
 //! Puts any numbers and bytes to the host calls, with guarded slices. Ends with 1 if anything is
-//! wrong, or nothing was put. Options: `--seed N`, `--count N` (questions and files of them, each put
-//! eight times), and to put one again, `--place N`.
+//! wrong, or nothing was put. Options: `--seed N`, `--count N` (questions, files of them and
+//! portfolios, each put eight times), and to put one again, `--place N`.
 
 use harness::cores::{cores, split};
 use harness::fuzz::{host_calls, on_valgrind, tell_of_crashes, Found, Fuzzer};
@@ -34,7 +34,7 @@ fn main() -> ExitCode {
         (from..to).for_each(|place| fuzzer.put_at(seed, place));
         progress.add(to - from);
     };
-    let fuzzer = || Fuzzer::new(host_calls, ffi::mf_questions);
+    let fuzzer = || Fuzzer::new(host_calls, ffi::mf_questions, ffi::mf_portfolio);
     let parts = (places.end - places.start).div_ceil(SHARE);
     let fuzzers = progress.shown(|| split(threads, parts, fuzzer, work));
     let found = fuzzers.into_iter().map(|fuzzer| fuzzer.found).fold(Found::default(), Found::and);

@@ -6,7 +6,7 @@
 use harness::options::{self, DEFAULT_SEED};
 use harness::progress::{span, Progress};
 use harness::run::{self, Difference, Outcome, Places};
-use harness::{records, rows};
+use harness::{portfolio, records, rows};
 use mako_fristen_host::Call;
 use std::process::ExitCode;
 use std::time::Instant;
@@ -43,7 +43,8 @@ fn main() -> ExitCode {
 fn table(rows: &[&dyn Places], outcomes: &[Outcome]) -> u64 {
     println!("{:36} {:>12} {:>12}", "call", "comparisons", "differences");
     let (mut comparisons, mut differences) = (0, 0);
-    for call in Call::ALL.map(Call::name).into_iter().chain([records::CALL]) {
+    let lists = [records::CALL, portfolio::CALL];
+    for call in Call::ALL.map(Call::name).into_iter().chain(lists) {
         let of_call = || rows.iter().zip(outcomes).filter(|(row, _)| row.call() == call);
         let compared: u64 = of_call().map(|(_, outcome)| outcome.compared).sum();
         let differing: u64 = of_call().map(|(_, outcome)| outcome.differences).sum();

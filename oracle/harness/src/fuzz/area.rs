@@ -3,15 +3,14 @@
 use super::system::{between_closed_pages, mark, Mark};
 use std::ops::Range;
 
-/// The longest slice: somewhat more than the longest file of questions.
-pub const LONGEST: usize = 65_700;
-/// At least so many guard bytes before and after a slice among others.
+/// At least so many guard entries before and after a slice among others. In bytes it is also what
+/// [`Place::Among`] goes by.
 const GUARD: usize = 64;
 
 /// Where a slice lies.
-#[derive(Clone, Copy, Debug, PartialEq, Eq)]
+#[derive(Clone, Copy, Debug, PartialEq, Eq, Hash)]
 pub enum Place {
-    /// Among guard bytes, so many bytes after a multiple of 64.
+    /// Among guard entries, so many bytes after a multiple of 64, as far as whole entries go.
     Among(usize),
     /// Directly after a page that may not be touched.
     AfterPage,
@@ -22,27 +21,26 @@ pub enum Place {
 }
 
 /// Memory from which one slice at a time is lent.
-pub struct Area {
-    among: Vec<u8>,
-    pages: &'static mut [u8],
-    heap: Box<[u8]>,
+pub struct Area<T: 'static> {
+    among: Vec<T>,
+    pages: &'static mut [T],
+    heap: Box<[T]>,
 }
 
-impl Default for Area {
-    fn default() -> Area {
-        let among = vec![0; LONGEST + 4 * GUARD];
-        Area { among, pages: between_closed_pages(LONGEST + GUARD), heap: Box::default() }
+impl<T: Copy + Default + PartialEq> Area<T> {
+    /// For slices of up to so many entries.
+    pub fn new(longest: usize) -> Area<T> {
+        let among = vec![T::default(); longest + 4 * GUARD];
+        Area { among, pages: between_closed_pages(longest + GUARD), heap: Box::default() }
     }
-}
 
-impl Area {
-    /// A slice with the content, and guard bytes of this value wherever there is room beside it.
-    pub fn lend(&mut self, place: Place, content: &[u8], guard: u8) -> Lent<'_> {
+    /// A slice with the content, and guard entries of this value wherever there is room beside it.
+    pub fn lend(&mut self, place: Place, content: &[T], guard: T) -> Lent<'_, T> {
         let len = content.len();
         let (whole, from) = match place {
             Place::Among(by) => {
                 let start = self.among.as_ptr().align_offset(GUARD);
-                let from = GUARD + by % GUARD;
+                let from = GUARD + by % GUARD / size_of::<T>();
                 (&mut self.among[start..start + from + len + GUARD], from)
             }
             Place::AfterPage => (&mut self.pages[..len + GUARD], 0),
@@ -51,7 +49,7 @@ impl Area {
                 (&mut self.pages[start..], GUARD)
             }
             Place::Heap => {
-                self.heap = vec![0; len].into_boxed_slice();
+                self.heap = vec![T::default(); len].into_boxed_slice();
                 (&mut self.heap[..], 0)
             }
         };
@@ -63,14 +61,14 @@ impl Area {
 }
 
 /// A slice and what is around it.
-pub struct Lent<'a> {
-    whole: &'a mut [u8],
+pub struct Lent<'a, T> {
+    whole: &'a mut [T],
     range: Range<usize>,
-    guard: u8,
+    guard: T,
 }
 
-impl Lent<'_> {
-    pub fn slice(&mut self) -> &mut [u8] {
+impl<T: Copy + PartialEq> Lent<'_, T> {
+    pub fn slice(&mut self) -> &mut [T] {
         &mut self.whole[self.range.clone()]
     }
 
@@ -78,10 +76,16 @@ impl Lent<'_> {
         mark(self.slice(), view);
     }
 
-    /// Whether all guard bytes are as they were.
+    /// Whether the slice and all guard entries are as they were.
+    #[must_use]
+    pub fn is_unchanged(&self, content: &[T]) -> bool {
+        self.is_intact() && self.whole[self.range.clone()] == *content
+    }
+
+    /// Whether all guard entries are as they were.
     #[must_use]
     pub fn is_intact(&self) -> bool {
         let sides = [&self.whole[..self.range.start], &self.whole[self.range.end..]];
-        sides.into_iter().flatten().all(|&byte| byte == self.guard)
+        sides.into_iter().flatten().all(|&entry| entry == self.guard)
     }
 }

@@ -98,7 +98,7 @@ pub(super) fn rounds(
 }
 
 /// A length that is not 32.
-fn other_len(random: &mut Random) -> usize {
+pub(super) fn other_len(random: &mut Random) -> usize {
     let len = match random.below(16) {
         0 => random.below(LONGEST_ANSWER + 1),
         1..4 => random.one_of(&[0, 1, 31, 33, 64, LONGEST_ANSWER]),

@@ -1,6 +1,5 @@
 //! A file of questions of any kind and length, what is expected of it, and where its slices lie.
 
-use super::area::LONGEST;
 use super::case::{rounds, wild, Round, WALKED};
 use super::{answer_fault, Ask};
 use crate::original::{self, Expected, Panic};
@@ -13,6 +12,8 @@ use crate::walk::is_far;
 use mako_fristen_host::{Answer, Refusal};
 use std::fmt;
 
+/// The longest slice: somewhat more than the longest file.
+pub(super) const LONGEST: usize = 65_700;
 /// One in so many of the questions for which a walk is far is put.
 const SELDOM: u32 = 16;
 

@@ -33,20 +33,22 @@ extern "C" {
     fn write(fd: c_int, bytes: *const u8, len: usize) -> isize;
 }
 
-/// At least so many bytes with a page before and a page after them that may not be touched. They are
-/// never given back: a thread has two of them.
+/// At least so many entries with a page before and a page after them that may not be touched. They
+/// are never given back: a thread has five of them.
 #[must_use]
-pub fn between_closed_pages(least: usize) -> &'static mut [u8] {
-    let len = least.next_multiple_of(PAGE);
-    // SAFETY: new memory, of which the middle is opened for reading and writing and is used by
-    // nobody else.
+pub fn between_closed_pages<T: Copy + Default>(least: usize) -> &'static mut [T] {
+    let len = (least * size_of::<T>()).next_multiple_of(PAGE);
+    // SAFETY: new memory, of which the middle is opened for reading and writing, is filled with
+    // entries, and is used by nobody else.
     unsafe {
         let whole = len + 2 * PAGE;
         let at = mmap(ptr::null_mut(), whole, PROT_NONE, MAP_PRIVATE_ANONYMOUS, -1, 0);
         assert!(at as isize != -1, "no memory");
         let middle = at.cast::<u8>().add(PAGE);
         assert_eq!(mprotect(middle.cast(), len, PROT_READ_WRITE), 0, "no memory");
-        slice::from_raw_parts_mut(middle, len)
+        let (first, entries) = (middle.cast::<T>(), len / size_of::<T>());
+        (0..entries).for_each(|entry| first.add(entry).write(T::default()));
+        slice::from_raw_parts_mut(first, entries)
     }
 }
 
@@ -89,15 +91,15 @@ extern "C" fn crashed(number: c_int) {
 }
 
 /// Memcheck's view of bytes. Without valgrind, marks do nothing.
-#[derive(Clone, Copy)]
+#[derive(Clone, Copy, PartialEq, Eq)]
 pub enum Mark {
     NoAccess = 0x4d43_0000,
     Undefined = 0x4d43_0001,
     Defined = 0x4d43_0002,
 }
 
-pub fn mark(bytes: &mut [u8], mark: Mark) {
-    request(mark as usize, bytes.as_mut_ptr() as usize, bytes.len());
+pub fn mark<T>(slice: &mut [T], mark: Mark) {
+    request(mark as usize, slice.as_mut_ptr() as usize, size_of_val(slice));
 }
 
 #[must_use]

@@ -1,6 +1,7 @@
 //! What errs in a known way has to be found.
 
 mod file;
+mod portfolio;
 
 use super::area::{Area, Place};
 use super::case::Round;
@@ -35,7 +36,7 @@ fn round(place: Place, len: usize) -> Round {
 
 /// The faults of the case, one for each place.
 fn faults(ask: Ask, case: &Case) -> Vec<String> {
-    let mut fuzzer = Fuzzer::new(ask, ffi::mf_questions);
+    let mut fuzzer = Fuzzer::new(ask, ffi::mf_questions, ffi::mf_portfolio);
     // No call is put again for its time, which would be without guard bytes.
     fuzzer.found.slowest = Duration::MAX;
     let each = case.rounds.iter().filter_map(|round| fuzzer.round(case, round));
@@ -67,7 +68,7 @@ fn a_wrong_expectation_is_found() {
 #[test]
 fn an_unknown_panic_of_the_original_is_wrong() {
     let panic = original::caught(|| -> u8 { panic!("made up") }).expect_err("a panic");
-    let mut fuzzer = Fuzzer::new(host_calls, ffi::mf_questions);
+    let mut fuzzer = Fuzzer::new(host_calls, ffi::mf_questions, ffi::mf_portfolio);
     fuzzer.put(&Case { expected: Err(panic), ..case(32) }, 1, 2);
     let Found { wrong, told, shown, .. } = &fuzzer.found;
     assert_eq!((*wrong, *told), (1, 0), "{shown:?}");
@@ -87,7 +88,7 @@ fn an_answer_that_goes_by_what_stood_there_is_found() {
     for place in [0, 2, 3] {
         case.rounds[place].content[5] = 0;
     }
-    let mut fuzzer = Fuzzer::new(keeps_a_byte, ffi::mf_questions);
+    let mut fuzzer = Fuzzer::new(keeps_a_byte, ffi::mf_questions, ffi::mf_portfolio);
     fuzzer.put(&case, 1, 2);
     assert_eq!((fuzzer.found.calls, fuzzer.found.wrong), (4, 1));
     assert!(fuzzer.found.shown[0].contains("oracle/fuzz --seed 1 --place 2"));
@@ -177,7 +178,7 @@ fn a_slow_call_is_found() {
 
 #[test]
 fn slices_lie_where_they_should() {
-    let mut area = Area::default();
+    let mut area = Area::new(100);
     for by in 0..64 {
         let mut lent = area.lend(Place::Among(by), &[1, 2, 3], 9);
         assert_eq!(lent.slice().as_ptr() as usize % 64, by);
@@ -188,6 +189,21 @@ fn slices_lie_where_they_should() {
     assert_eq!(page(area.lend(Place::BeforePage, &[0; 70], 9).slice()), 4096 - 70);
     assert_eq!(page(area.lend(Place::BeforePage, &[], 9).slice()), 0);
     assert_eq!(area.lend(Place::Heap, &[], 9).slice().as_ptr() as usize, 1);
+}
+
+#[test]
+fn lists_lie_where_numbers_may() {
+    let mut area = Area::<u32>::new(100);
+    for by in 0..64 {
+        let mut lent = area.lend(Place::Among(by), &[1, 2, 3], 9);
+        assert_eq!(lent.slice().as_ptr() as usize % 64, by / 4 * 4);
+        assert!(lent.is_unchanged(&[1, 2, 3]) && !lent.is_unchanged(&[1, 2, 4]));
+    }
+    let page = |lent: &[u32]| lent.as_ptr() as usize % 4096;
+    assert_eq!(page(area.lend(Place::AfterPage, &[0; 70], 9).slice()), 0);
+    assert_eq!(page(area.lend(Place::BeforePage, &[0; 70], 9).slice()), 4096 - 4 * 70);
+    assert_eq!(page(area.lend(Place::BeforePage, &[], 9).slice()), 0);
+    assert_eq!(area.lend(Place::Heap, &[], 9).slice().as_ptr() as usize, 4);
 }
 
 #[test]
@@ -248,7 +264,7 @@ fn memcheck_sees_bytes_outside_and_bytes_not_written() {
 /// Puts the case at the place, with this reason.
 fn put_one(ask: Ask, place: Place, len: usize, reason: &[u8]) -> Found {
     tell_of_crashes(5);
-    let mut fuzzer = Fuzzer::new(ask, ffi::mf_questions);
+    let mut fuzzer = Fuzzer::new(ask, ffi::mf_questions, ffi::mf_portfolio);
     let rounds = vec![round(place, len)];
     fuzzer.put(&Case { reason: reason.to_vec(), rounds, ..case(len) }, 5, 6);
     fuzzer.found

@@ -80,6 +80,12 @@ impl Year {
     }
 }
 
+/// The indexes of the first and the last day of the year of an index.
+pub(super) fn ends(index: u32) -> (u32, u32) {
+    let Year { first, last, .. } = *Year::of(index);
+    (first, last)
+}
+
 static YEARS: LazyLock<Vec<Year>> =
     LazyLock::new(|| (FIRST_YEAR..=LAST_YEAR).map(Year::new).collect());
 
@@ -278,7 +284,7 @@ pub(crate) fn question(call: Call, random: &mut Random) -> Question {
 }
 
 /// The index of a day; half are days of note.
-fn any_day(random: &mut Random) -> u32 {
+pub(super) fn any_day(random: &mut Random) -> u32 {
     match random.below(2) {
         0 => day_of_note(random.below(DAYS), random),
         _ => kalender::any_index(random),
@@ -291,7 +297,7 @@ fn day_of_note(index: u32, random: &mut Random) -> u32 {
 }
 
 /// The index of another day, most of them of ten years before or after; one in eight is any.
-fn other_day(index: u32, random: &mut Random) -> u32 {
+pub(super) fn other_day(index: u32, random: &mut Random) -> u32 {
     let near = any::around(index, TEN_YEARS, random);
     match random.below(8) {
         0 => any_day(random),

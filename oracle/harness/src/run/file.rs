@@ -1,6 +1,7 @@
 //! Files of questions, each put to one call and question by question to the original.
 
-use super::{hex, Places, Put, GUARD, SHOWN};
+use super::guarded::Guarded;
+use super::{hex, Places, Put, SHOWN};
 use crate::original::{caught, Expected};
 use crate::records::{self, Record, CALL};
 use crate::rows::files::{FileProbe, FileRow};
@@ -38,20 +39,18 @@ fn told(probe: &FileProbe) -> String {
 /// Each answer is a comparison; a file without any is one.
 fn compared(row: &FileRow, probe: &FileProbe) -> Put {
     let FileProbe { questions, len, fill } = probe;
-    let lent = among_guards(questions, *fill);
-    let mut answers = among_guards(&vec![*fill; *len], *fill);
-    let number = (row.ask)(inside(&lent), inside_mut(&mut answers));
+    let lent = Guarded::new(questions, *fill);
+    let mut answers = Guarded::new(&vec![*fill; *len], *fill);
+    let number = (row.ask)(lent.slice(), answers.slice_mut());
     let refused = records::is_refused(questions.len(), *len);
     let expected_number = if refused { Refusal::FileLength.number() } else { 0 };
-    let (answers, beside) = (inside(&answers), guards(&answers));
-    let untouched = |bytes: &[u8]| bytes.iter().all(|byte| byte == fill);
     let fault = if number != expected_number {
         Some(format!("{number} returned and not {expected_number}"))
-    } else if !beside.into_iter().all(untouched) {
+    } else if !answers.is_intact() {
         Some(String::from("bytes beside the answers were written"))
-    } else if lent != among_guards(questions, *fill) {
+    } else if !lent.is_intact() || lent.slice() != questions {
         Some(String::from("the questions or bytes beside them were written"))
-    } else if refused && !untouched(answers) {
+    } else if refused && answers.slice().iter().any(|byte| byte != fill) {
         Some(String::from("refused, and the answers were written"))
     } else {
         None
@@ -60,7 +59,7 @@ fn compared(row: &FileRow, probe: &FileProbe) -> Put {
     if refused || questions.is_empty() {
         return of_file;
     }
-    let mut put = of_records(row.expected, questions, answers);
+    let mut put = of_records(row.expected, questions, answers.slice());
     // A fault beside right answers counts as one, and beside wrong ones as these.
     put.differences = put.differences.max(of_file.differences);
     put.shown.splice(0..0, of_file.shown);
@@ -87,23 +86,6 @@ fn of_records(expected: fn(&Record) -> Expected, questions: &[u8], answers: &[u8
         }
     }
     put
-}
-
-fn among_guards(content: &[u8], fill: u8) -> Vec<u8> {
-    [&[fill; GUARD], content, &[fill; GUARD]].concat()
-}
-
-fn inside(lent: &[u8]) -> &[u8] {
-    &lent[GUARD..lent.len() - GUARD]
-}
-
-fn inside_mut(lent: &mut [u8]) -> &mut [u8] {
-    let end = lent.len() - GUARD;
-    &mut lent[GUARD..end]
-}
-
-fn guards(lent: &[u8]) -> [&[u8]; 2] {
-    [&lent[..GUARD], &lent[lent.len() - GUARD..]]
 }
 
 #[cfg(test)]

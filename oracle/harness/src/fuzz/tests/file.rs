@@ -23,7 +23,7 @@ fn case([len, answers]: [usize; 2], places: &[Place]) -> FileCase {
 }
 
 fn put(ask: AskFile, case: &FileCase) -> Found {
-    let mut fuzzer = Fuzzer::new(host_calls, ask);
+    let mut fuzzer = Fuzzer::new(host_calls, ask, ffi::mf_portfolio);
     // No call is put again for its time, which would be without guard bytes.
     fuzzer.found.slowest = Duration::MAX;
     fuzzer.put_file(case, 5, 6);
@@ -143,7 +143,7 @@ fn a_slow_call_is_found() {
         thread::sleep(Duration::from_millis(4 * 310));
         ffi::mf_questions(questions, answers)
     };
-    let mut fuzzer = Fuzzer::new(host_calls, slow);
+    let mut fuzzer = Fuzzer::new(host_calls, slow, ffi::mf_portfolio);
     fuzzer.put_file(&case([128, 128], &[Place::Heap]), 5, 6);
     let Found { wrong, slowest, slowest_question, .. } = fuzzer.found;
     assert_eq!((wrong, slowest_question.as_str()), (1, "mf_questions of 128 bytes"));
