@@ -1,0 +1,303 @@
+//! Writes stored portfolios with the original's counts, for the program `vektoren_portfolio`, which
+//! replays them without Rust. The same seed gives the same portfolios. Options: `--seed N`,
+//! `--out FOLDER` (that of the crates).
+
+use harness::days::{self, DAYS};
+use harness::options::{self, DEFAULT_SEED};
+use harness::random::Random;
+use mako_fristen::HolidayCalendar::BdewMaKo;
+use mako_fristen_host::{Answer, Refusal};
+use std::path::Path;
+use std::process::ExitCode;
+use std::{fs, io};
+use time::macros::date;
+
+/// What stands in each byte that is lent before the call, and in an untouched one still.
+const UNWRITTEN: u8 = 170;
+const UNWRITTEN_ENTRY: u32 = u32::from_le_bytes([UNWRITTEN; 4]);
+/// Document 02's: at the most so many pairs, and what stands at the place of one out of range.
+const MOST_PAIRS: usize = 4096;
+const OUT_OF_RANGE: u32 = 4_294_967_295;
+/// The calendar's first day and its last, in days from 1 January 1970 on.
+const FIRST_DAY: u32 = 9_496;
+const LAST_DAY: u32 = 339_675;
+/// Days by both edges of the calendar, of a signed number and of an unsigned one.
+const EDGES: [u32; 13] = [
+    0,
+    1,
+    FIRST_DAY - 1,
+    FIRST_DAY,
+    FIRST_DAY + 1,
+    LAST_DAY - 1,
+    LAST_DAY,
+    LAST_DAY + 1,
+    (1 << 31) - 1,
+    1 << 31,
+    (1 << 31) + 1,
+    u32::MAX - 1,
+    u32::MAX,
+];
+/// A year and 20 years, in days.
+const CONTRACT: (u32, u32) = (365, 7_305);
+
+fn main() -> ExitCode {
+    options::only(&["--seed", "--out"]);
+    let random = &mut Random::at(options::option("--seed", DEFAULT_SEED), 6 << 32, 0);
+    let folder = options::option("--out", String::from("../crates"));
+    match written(&Path::new(&folder).join("vektoren_portfolio"), random) {
+        Ok(told) => {
+            println!("{told} in {folder}");
+            ExitCode::SUCCESS
+        }
+        Err(error) => {
+            eprintln!("{folder}: {error}");
+            ExitCode::FAILURE
+        }
+    }
+}
+
+fn written(folder: &Path, random: &mut Random) -> io::Result<String> {
+    let portfolios = portfolios(random);
+    let bytes: Vec<u8> = portfolios.iter().flat_map(stored).collect();
+    let number = portfolios.len();
+    fs::create_dir_all(folder)?;
+    fs::write(folder.join("stdin"), &bytes)?;
+    fs::write(folder.join("stdout"), format!("{number} portfolios, {number} equal\n"))?;
+    Ok(format!("{number} portfolios of {} bytes", bytes.len()))
+}
+
+type Pair = (u32, u32);
+
+/// Two lists, how many entries are lent for the third, and how many bytes for the answer.
+struct Portfolio {
+    from: Vec<u32>,
+    to: Vec<u32>,
+    lent: usize,
+    answer: usize,
+}
+
+impl Portfolio {
+    fn of(pairs: Vec<Pair>) -> Portfolio {
+        let (lent, answer) = (pairs.len(), Answer::LEN);
+        let (from, to) = pairs.into_iter().unzip();
+        Portfolio { from, to, lent, answer }
+    }
+
+    fn pairs(&self) -> impl Iterator<Item = Pair> + '_ {
+        self.from.iter().copied().zip(self.to.iter().copied())
+    }
+
+    /// Whether the lists differ in length, or have too many entries.
+    fn has_wrong_lists(&self) -> bool {
+        let len = self.from.len();
+        self.to.len() != len || self.lent != len || len > MOST_PAIRS
+    }
+}
+
+/// A portfolio with what is expected of it: 4 bytes each, how many entries the lists have and how
+/// many bytes the answer; two lists; the number; the third list; the answer.
+fn stored(portfolio: &Portfolio) -> Vec<u8> {
+    let Portfolio { from, to, lent, answer } = portfolio;
+    let lens = [from.len(), to.len(), *lent, *answer].map(|len| len as u32);
+    let (number, counts, answer) = expected(portfolio);
+    [bytes_of(&lens), bytes_of(from), bytes_of(to), vec![number], bytes_of(&counts), answer]
+        .concat()
+}
+
+fn bytes_of(list: &[u32]) -> Vec<u8> {
+    list.iter().flat_map(|entry| entry.to_le_bytes()).collect()
+}
+
+/// The number, the third list and the answer after the call, by document 02's words.
+fn expected(portfolio: &Portfolio) -> (u8, Vec<u32>, Vec<u8>) {
+    let untouched = vec![UNWRITTEN_ENTRY; portfolio.lent];
+    if portfolio.answer != Answer::LEN {
+        let number = Refusal::AnswerLength.number();
+        return (number, untouched, vec![UNWRITTEN; portfolio.answer]);
+    }
+    let mut answer = vec![0; Answer::LEN];
+    if portfolio.has_wrong_lists() {
+        answer[0] = Refusal::ListLength.number();
+        return (answer[0], untouched, answer);
+    }
+    answer[4..8].copy_from_slice(&runs(portfolio).to_le_bytes());
+    (0, portfolio.pairs().map(count).collect(), answer)
+}
+
+/// The date of a day, if the calendar has it.
+fn date(day: u32) -> Option<time::Date> {
+    let julian = date!(1970 - 01 - 01).to_julian_day().checked_add(i32::try_from(day).ok()?)?;
+    let date = time::Date::from_julian_day(julian).ok()?;
+    (1996..=2899).contains(&date.year()).then_some(date)
+}
+
+/// The original's, which walks.
+fn count((from, to): Pair) -> u32 {
+    match (date(from), date(to)) {
+        (Some(from), Some(to)) => mako_fristen::werktage_between(from, to, BdewMaKo),
+        _ => OUT_OF_RANGE,
+    }
+}
+
+/// "Where neighbouring pairs begin in the same year, the year's index entry is read once for the run
+/// of them. A single pair is a run too, whether or not its second day is later." A pair out of range
+/// "ends a run and belongs to none".
+fn runs(portfolio: &Portfolio) -> u32 {
+    let (mut runs, mut before) = (0, None);
+    for (from, to) in portfolio.pairs() {
+        let year = date(from).filter(|_| date(to).is_some()).map(time::Date::year);
+        if year.is_some() && year != before {
+            runs += 1;
+        }
+        before = year;
+    }
+    runs
+}
+
+fn portfolios(random: &mut Random) -> Vec<Portfolio> {
+    let mut lists = vec![Vec::new()];
+    lists.extend(short());
+    lists.extend([16, 100].map(|pairs| times(pairs, random, any)));
+    lists.extend([16, 100].map(|pairs| sorted(times(pairs, random, contract))));
+    lists.push(EDGES.iter().flat_map(|&from| EDGES.map(|to| (from, to))).collect());
+    lists.extend([of_one_year(random), of_two_years(random), cut(random), ends_of_years(random)]);
+    lists.push(times(MOST_PAIRS, random, contract));
+    lists.push(sorted(times(MOST_PAIRS, random, contract)));
+    lists.push(times(MOST_PAIRS, random, any));
+    lists.into_iter().map(Portfolio::of).chain(refused(random)).collect()
+}
+
+/// One to three pairs: the second day later, the same and earlier; one of a pair's days, or both, out
+/// of range; before, between and behind pairs that begin in one year, and in two.
+fn short() -> Vec<Vec<Pair>> {
+    // 2 April and 31 December 2026, 1 January 2027, 2 April 2036.
+    let (from, same_year, next_year, to) = (20_545, 20_818, 20_819, 24_198);
+    let [one, same, other] = [from, same_year, next_year].map(|from| (from, to));
+    let out = [(FIRST_DAY - 1, to), (from, LAST_DAY + 1), (u32::MAX, u32::MAX)];
+    let mut lists = vec![vec![one], vec![(from, from)], vec![(to, from)]];
+    lists.extend(out.map(|out| vec![out]));
+    lists.extend([vec![one, one], vec![one, same], vec![same, other], vec![(to, from), (to, to)]]);
+    lists.extend([vec![one, out[0]], vec![out[1], one], vec![out[2], out[0]]]);
+    lists.extend([vec![one, same, other], vec![other, one, one], vec![one, other, one]]);
+    lists.extend(out.map(|out| vec![one, out, one]));
+    lists
+}
+
+fn times(pairs: usize, random: &mut Random, pair: fn(&mut Random) -> Pair) -> Vec<Pair> {
+    (0..pairs).map(|_| pair(random)).collect()
+}
+
+fn sorted(mut pairs: Vec<Pair>) -> Vec<Pair> {
+    pairs.sort_unstable();
+    pairs
+}
+
+/// Beginning anywhere in the calendar, and of 1 to 20 years.
+fn contract(random: &mut Random) -> Pair {
+    let (least, most) = CONTRACT;
+    let from = FIRST_DAY + random.below(DAYS - most);
+    (from, from + least + random.below(most - least + 1))
+}
+
+/// A pair of any kind: a contract, days close to each other in any order, days anywhere, one or both
+/// out of range or by an edge.
+fn any(random: &mut Random) -> Pair {
+    let (from, to) = contract(random);
+    match random.below(16) {
+        0 => (to, from),
+        1 => (from, from),
+        2 => (from, from - random.below(4).min(from - FIRST_DAY)),
+        3 => (from, from + random.below(40)),
+        4 => (from, FIRST_DAY + random.below(DAYS)),
+        5 => (random.one_of(&EDGES), to),
+        6 => (from, random.one_of(&EDGES)),
+        7 => (random.number() as u32, random.number() as u32),
+        _ => (from, to),
+    }
+}
+
+/// Pairs that begin on days of the year.
+fn in_year(year: i32, pairs: usize, random: &mut Random) -> Vec<Pair> {
+    let first = time::Date::from_ordinal_date(year, 1).expect("a first of January");
+    let first = FIRST_DAY + days::index(first);
+    let pair = |_| {
+        let from = first + random.below(365);
+        (from, from + random.below(CONTRACT.1))
+    };
+    (0..pairs).map(pair).collect()
+}
+
+/// 300 pairs, one run.
+fn of_one_year(random: &mut Random) -> Vec<Pair> {
+    in_year(2026, 300, random)
+}
+
+/// 200 pairs that begin in either of two years by turns, each a run.
+fn of_two_years(random: &mut Random) -> Vec<Pair> {
+    let years = [2027, 2028].map(|year| in_year(year, 100, random));
+    years[0].iter().zip(&years[1]).flat_map(|(&one, &other)| [one, other]).collect()
+}
+
+/// 300 pairs of one year, of which some have a day out of range, so that there are runs of many
+/// lengths.
+fn cut(random: &mut Random) -> Vec<Pair> {
+    let mut pairs = of_one_year(random);
+    for (from, to) in &mut pairs {
+        match random.below(12) {
+            0 => *from = random.one_of(&[0, FIRST_DAY - 1, LAST_DAY + 1, 1 << 31, u32::MAX]),
+            1 => *to = random.one_of(&[0, FIRST_DAY - 1, LAST_DAY + 1, 1 << 31, u32::MAX]),
+            _ => {}
+        }
+    }
+    pairs
+}
+
+/// From the first day and from the last of every year, in order, to a day near by.
+fn ends_of_years(random: &mut Random) -> Vec<Pair> {
+    let ends = (1996..=2899).flat_map(|year| [(year, 1), (year, time::util::days_in_year(year))]);
+    let pair = |(year, day)| {
+        let day = time::Date::from_ordinal_date(year, day).expect("a day of the year");
+        let from = FIRST_DAY + days::index(day);
+        (from, (from + random.below(800)).min(LAST_DAY))
+    };
+    ends.map(pair).collect()
+}
+
+/// Lengths that are refused: by 10, by 1, and by 1 where 10 would come next.
+fn refused(random: &mut Random) -> Vec<Portfolio> {
+    const TOO_MANY: usize = MOST_PAIRS + 1;
+    let pairs = times(TOO_MANY, random, any);
+    let (from, to): (Vec<u32>, Vec<u32>) = pairs.into_iter().unzip();
+    let of_lens = |(first, second, lent, answer): (usize, usize, usize, usize)| Portfolio {
+        from: from[..first].to_vec(),
+        to: to[..second].to_vec(),
+        lent,
+        answer,
+    };
+    let lens = [
+        (1, 0, 0, 32),
+        (0, 1, 0, 32),
+        (0, 0, 1, 32),
+        (1, 1, 0, 32),
+        (1, 0, 1, 32),
+        (0, 1, 1, 32),
+        (1, 2, 3, 32),
+        (16, 16, 17, 32),
+        (16, 17, 16, 32),
+        (17, 16, 16, 32),
+        (100, 100, 99, 32),
+        (TOO_MANY, TOO_MANY, TOO_MANY, 32),
+        (0, 0, 0, 0),
+        (0, 0, 0, 31),
+        (1, 1, 1, 0),
+        (1, 1, 1, 31),
+        (1, 1, 1, 33),
+        (3, 3, 3, 64),
+        (100, 100, 100, 31),
+        (1, 0, 0, 31),
+        (0, 1, 0, 33),
+        (2, 2, 1, 0),
+        (17, 16, 16, 31),
+    ];
+    lens.map(of_lens).into()
+}
