@@ -5,8 +5,6 @@
 // the third list have, and how many bytes the answer; then the first list and the second, 4 bytes an entry; then the
 // number that the call returns; then the third list and the answer as it leaves them. An input that ends within a
 // portfolio, or has one longer than any here, counts as one that differs, and nothing behind it is read.
-ghost use mathlib.Core.Path.{_≡_};
-ghost use mathlib.Core.Bool.{true};
 use libc::STDIN_FILENO;
 use libc::STDOUT_FILENO;
 
@@ -55,91 +53,82 @@ fn is_list_filled(list: &mut [u32]) -> bool {
     true
 }
 
-// Whether two lists have the same entries.
-fn is_same_list(a: &[u32], b: &[u32]) -> bool
-    ensures { λ r. ⌜ (r ≡ true → now (a .entry) ≡ now (b .entry)) ⌝ }
-{
-    if a.len() != b.len() {
-        return false;
-    }
-    let mut i = 0;
-    while i < a.len() {
-        if a[i] != b[i] {
-            return false;
-        }
-        i += 1;
-    }
-    true
-}
-
-// Whether the call returns this number and leaves this third list and this answer.
-fn is_equal(
-    from: &[u32],
-    to: &[u32],
-    counts: &mut [u32],
-    answer: &mut [u8],
-    number: u8,
-    expected_counts: &[u32],
-    expected_answer: &[u8],
-) -> bool {
-    if mako_fristen::mf_portfolio(from, to, counts, answer) != number {
-        return false;
-    }
-    if is_same_list(counts, expected_counts) {
-        return check::same(answer, expected_answer);
+// Whether the input goes on with a byte.
+fn is_byte_next(x: u8) -> bool {
+    let mut bytes = [0u8; 1];
+    if is_filled(&mut bytes) {
+        return bytes[0] == x;
     }
     false
 }
 
-// Reads a portfolio into slices of its lengths, asks for its counts and compares.
+// Whether it goes on with a number.
+fn is_number_next(x: u32) -> bool {
+    let mut bytes = [0u8; 4];
+    if is_filled(&mut bytes) {
+        return zahlen::u32_at(&bytes, 0) == x;
+    }
+    false
+}
+
+// Whether it goes on with a slice. As many bytes are read, also behind one that differs.
+fn are_bytes_next(bytes: &[u8]) -> bool {
+    let mut same = true;
+    let mut i = 0;
+    while i < bytes.len() {
+        if !is_byte_next(bytes[i]) {
+            same = false;
+        }
+        i += 1;
+    }
+    same
+}
+
+// Whether it goes on with a list.
+fn is_list_next(list: &[u32]) -> bool {
+    let mut same = true;
+    let mut i = 0;
+    while i < list.len() {
+        if !is_number_next(list[i]) {
+            same = false;
+        }
+        i += 1;
+    }
+    same
+}
+
+// Reads the days of a portfolio into lists of its lengths, asks for its counts, and compares with what is expected. All
+// of that is read before it is told whether it differs: there the next portfolio begins.
 fn replay_portfolio(
     from: &mut [u32],
     to: &mut [u32],
     counts: &mut [u32],
     answer: &mut [u8],
-    expected_counts: &mut [u32],
-    expected_answer: &mut [u8],
 ) -> Replayed {
-    let mut number = [0u8; 1];
     if !is_list_filled(from) {
         return Replayed::Unreadable;
     }
     if !is_list_filled(to) {
         return Replayed::Unreadable;
     }
-    if !is_filled(&mut number) {
-        return Replayed::Unreadable;
+    let same_number = is_byte_next(mako_fristen::mf_portfolio(from, to, counts, answer));
+    let same_counts = is_list_next(counts);
+    let same_answer = are_bytes_next(answer);
+    if !same_number {
+        return Replayed::Different;
     }
-    if !is_list_filled(expected_counts) {
-        return Replayed::Unreadable;
+    if !same_counts {
+        return Replayed::Different;
     }
-    if !is_filled(expected_answer) {
-        return Replayed::Unreadable;
+    if !same_answer {
+        return Replayed::Different;
     }
-    if is_equal(
-        from,
-        to,
-        counts,
-        answer,
-        number[0],
-        expected_counts,
-        expected_answer,
-    ) {
-        return Replayed::Equal;
-    }
-    Replayed::Different
+    Replayed::Equal
 }
 
 // Reads the four lengths of the next portfolio, and then the portfolio, into the front of slices that are long enough
 // for any.
-fn replay_in(
-    from: &mut [u32],
-    to: &mut [u32],
-    counts: &mut [u32],
-    answer: &mut [u8],
-    expected_counts: &mut [u32],
-    expected_answer: &mut [u8],
-) -> Replayed {
+fn replay_in(from: &mut [u32], to: &mut [u32], counts: &mut [u32], answer: &mut [u8]) -> Replayed {
     let mut head = [0u8; HEAD_BYTES];
     let n = io::read_full(STDIN_FILENO, &mut head);
     if n == 0 {
@@ -161,13 +150,7 @@ fn replay_in(
     if counts.len() < third {
         return Replayed::Unreadable;
     }
-    if expected_counts.len() < third {
-        return Replayed::Unreadable;
-    }
     if answer.len() < lent {
-        return Replayed::Unreadable;
-    }
-    if expected_answer.len() < lent {
         return Replayed::Unreadable;
     }
     replay_portfolio(
@@ -175,8 +158,6 @@ fn replay_in(
         &mut to[..second],
         &mut counts[..third],
         &mut answer[..lent],
-        &mut expected_counts[..third],
-        &mut expected_answer[..lent],
     )
 }
 
@@ -185,16 +166,7 @@ fn replay_next() -> Replayed {
     let mut to = [0u32; MOST_ENTRIES];
     let mut counts = [UNWRITTEN_ENTRY; MOST_ENTRIES];
     let mut answer = [UNWRITTEN; MOST_BYTES];
-    let mut expected_counts = [0u32; MOST_ENTRIES];
-    let mut expected_answer = [0u8; MOST_BYTES];
-    replay_in(
-        &mut from,
-        &mut to,
-        &mut counts,
-        &mut answer,
-        &mut expected_counts,
-        &mut expected_answer,
-    )
+    replay_in(&mut from, &mut to, &mut counts, &mut answer)
 }
 
 fn print_number(n: u64, after: &[u8]) {

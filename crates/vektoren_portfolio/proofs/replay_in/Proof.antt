@@ -66,12 +66,6 @@ returns-5 c = search needs
 returns-6 : tie.Need-returns-6
 returns-6 c = search needs
 
-returns-7 : tie.Need-returns-7
-returns-7 c = search needs
-
-returns-8 : tie.Need-returns-8
-returns-8 c = search needs
-
 slice-relend-prefix-replay-portfolio : tie.Need-slice-relend-prefix-replay-portfolio
 slice-relend-prefix-replay-portfolio c = search needs
 
@@ -96,18 +90,6 @@ slice-relend-prefix-replay-portfolio-4 c = search needs
 slice-aggregate-replay-portfolio-4 : tie.Need-slice-aggregate-replay-portfolio-4
 slice-aggregate-replay-portfolio-4 c = sym (length-take-le _ _ (search needs))
 
-slice-relend-prefix-replay-portfolio-5 : tie.Need-slice-relend-prefix-replay-portfolio-5
-slice-relend-prefix-replay-portfolio-5 c = search needs
-
-slice-aggregate-replay-portfolio-5 : tie.Need-slice-aggregate-replay-portfolio-5
-slice-aggregate-replay-portfolio-5 c = sym (length-take-le _ _ (search needs))
-
-slice-relend-prefix-replay-portfolio-6 : tie.Need-slice-relend-prefix-replay-portfolio-6
-slice-relend-prefix-replay-portfolio-6 c = search needs
-
-slice-aggregate-replay-portfolio-6 : tie.Need-slice-aggregate-replay-portfolio-6
-slice-aggregate-replay-portfolio-6 c = sym (length-take-le _ _ (search needs))
-
 replay-portfolio-requires : tie.Need-replay-portfolio-requires
 replay-portfolio-requires c κs = search needs
 
@@ -123,14 +105,8 @@ same-length-3 c = search needs
 same-length-4 : tie.Need-same-length-4
 same-length-4 c = search needs
 
-same-length-5 : tie.Need-same-length-5
-same-length-5 c = search needs
-
-same-length-6 : tie.Need-same-length-6
-same-length-6 c = search needs
-
-returns-9 : tie.Need-returns-9
-returns-9 c = search needs
+returns-7 : tie.Need-returns-7
+returns-7 c = search needs
 
 pub replay-in-spec : {M : Type 1} → statement M
 replay-in-spec =
@@ -156,8 +132,6 @@ replay-in-spec =
     returns-4
     returns-5
     returns-6
-    returns-7
-    returns-8
     slice-relend-prefix-replay-portfolio
     slice-aggregate-replay-portfolio
     slice-relend-prefix-replay-portfolio-2
@@ -166,15 +140,9 @@ replay-in-spec =
     slice-aggregate-replay-portfolio-3
     slice-relend-prefix-replay-portfolio-4
     slice-aggregate-replay-portfolio-4
-    slice-relend-prefix-replay-portfolio-5
-    slice-aggregate-replay-portfolio-5
-    slice-relend-prefix-replay-portfolio-6
-    slice-aggregate-replay-portfolio-6
     replay-portfolio-requires
     same-length
     same-length-2
     same-length-3
     same-length-4
-    same-length-5
-    same-length-6
-    returns-9)
+    returns-7)
