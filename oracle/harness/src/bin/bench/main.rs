@@ -2,6 +2,7 @@
 //! the two take turns. Ours is the C call with its answer of 32 bytes.
 
 mod files;
+mod portfolio;
 
 use harness::random::Random;
 use harness::{days, instants, options};
@@ -516,4 +517,5 @@ fn main() {
     files::print(&only);
     print_case(&wrong_length(), &only);
     println!("{:53} {:12.1}", "a call that only fills 32 bytes", floor());
+    portfolio::print(&only);
 }
