@@ -2,6 +2,7 @@
 //! the two take turns. Ours is the C call with its answer of 32 bytes.
 
 mod files;
+mod numpy;
 mod portfolio;
 
 use harness::random::Random;

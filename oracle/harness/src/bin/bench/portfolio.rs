@@ -1,6 +1,7 @@
 //! Counts for portfolios of contracts, at random and sorted, beside the single calls, numpy's
 //! `busday_count` and the original.
 
+use crate::numpy::Numpy;
 use crate::{first_of_january, medians};
 use harness::days::{self, DAYS};
 use harness::random::Random;
@@ -8,9 +9,6 @@ use mako_fristen::HolidayCalendar::BdewMaKo;
 use mako_fristen_host::{ffi, Answer, Date};
 use std::cell::RefCell;
 use std::hint::black_box;
-use std::io::Write;
-use std::process::{Command, Stdio};
-use time::Weekday;
 
 const CALL: &str = "mf_portfolio";
 /// The most that a call takes.
@@ -18,12 +16,10 @@ const PAIRS: usize = 4096;
 /// Of them the original gets one in so many: it takes some 0.3 ms for each.
 const EVERY: usize = 64;
 /// The days from 1 January 1970 to the calendar's first.
-const FIRST_DAY: u32 = 9_496;
+pub const FIRST_DAY: u32 = 9_496;
 /// A contract's days: 1 to 20 years.
 const SHORTEST: u32 = 365;
 const LONGEST: u32 = 7_305;
-/// What the script ends with if there is no numpy.
-const NO_NUMPY: i32 = 3;
 
 /// The pairs as each side takes them, and room for their counts.
 struct Portfolio {
@@ -119,58 +115,6 @@ fn contracts(first: u16, last: u16) -> [Portfolio; 2] {
     [at_random, Portfolio::new(format!("sorted, {first} to {last}"), &pairs)]
 }
 
-/// The weekdays of the calendar that are no Werktage, by the original's day test.
-fn holidays() -> Vec<u32> {
-    let is_holiday = |&index: &u32| {
-        let day = days::day(index);
-        let weekend = matches!(day.weekday(), Weekday::Saturday | Weekday::Sunday);
-        !weekend && !mako_fristen::is_werktag(day, BdewMaKo)
-    };
-    (0..DAYS).filter(is_holiday).map(|index| FIRST_DAY + index).collect()
-}
-
-/// What numpy needs for each portfolio, in nanoseconds of its best run, and its counts.
-struct Numpy {
-    version: String,
-    counted: Vec<(f64, Vec<u32>)>,
-}
-
-impl Numpy {
-    /// None if there is no numpy, or no Python of the system.
-    fn asked(portfolios: &[Portfolio]) -> Option<Numpy> {
-        let mut lists = vec![holidays()];
-        lists.extend(portfolios.iter().flat_map(|p| [p.from.clone(), p.to.clone()]));
-        let told: String = lists.iter().map(|list| line(list)).collect();
-        let script = ["-B", "-c", include_str!("busday_count.py")];
-        let mut python = Command::new("/usr/bin/python3");
-        let python = python.args(script).stdin(Stdio::piped()).stdout(Stdio::piped());
-        let mut python = python.spawn().ok()?;
-        // A script that has ended already reads nothing: its status then says why.
-        let _ = python.stdin.take().map(|mut stdin| stdin.write_all(told.as_bytes()));
-        let output = python.wait_with_output().expect("the script's output");
-        if output.status.code() == Some(NO_NUMPY) {
-            return None;
-        }
-        assert!(output.status.success(), "the script of busday_count failed");
-        Numpy::read(&String::from_utf8_lossy(&output.stdout))
-    }
-
-    fn read(told: &str) -> Option<Numpy> {
-        let (version, told) = told.split_once('\n')?;
-        let lines: Vec<&str> = told.lines().collect();
-        let counted = lines.chunks_exact(2).map(|lines| {
-            let counts = lines[1].split(' ').map(|count| count.parse().expect(lines[1]));
-            (lines[0].parse().expect(lines[0]), counts.collect())
-        });
-        Some(Numpy { version: version.to_owned(), counted: counted.collect() })
-    }
-}
-
-fn line(list: &[u32]) -> String {
-    let entries: Vec<String> = list.iter().map(u32::to_string).collect();
-    entries.join(" ") + "\n"
-}
-
 fn print_row(portfolio: &Portfolio, numpy: Option<&(f64, Vec<u32>)>) {
     let (counts, runs) = portfolio.sound();
     let numpy = numpy.map(|(time, numpys)| {
@@ -208,11 +152,12 @@ pub fn print(only: &str) {
         "Nanoseconds per pair of portfolios of {PAIRS} contracts of 1 to 20 years, which begin in"
     );
     println!("these years. The original gets one in {EVERY}.");
-    let numpy = Numpy::asked(&portfolios);
+    let lists: Vec<[&[u32]; 2]> = portfolios.iter().map(|p| [&*p.from, &*p.to]).collect();
+    let numpy = Numpy::asked(&lists);
     match &numpy {
-        Some(Numpy { version, .. }) => {
-            println!("numpy {version}: busday_count, the best of 1000 runs.");
-        }
+        Some(Numpy { version, holidays, .. }) => println!(
+            "numpy {version}: busday_count with the {holidays} weekday holidays, the best of 1000 runs."
+        ),
         None => println!("There is no numpy for /usr/bin/python3 (Debian's python3-numpy)."),
     }
     println!(
