@@ -4,20 +4,18 @@
 
 use harness::days::{self, DAYS};
 use harness::options::{self, DEFAULT_SEED};
+use harness::original::{self, Left, MOST_PAIRS};
+use harness::portfolio::{Lens, Portfolio};
 use harness::random::Random;
 use mako_fristen::HolidayCalendar::BdewMaKo;
-use mako_fristen_host::{Answer, Refusal};
+use mako_fristen_host::Answer;
+use std::fs;
 use std::path::Path;
 use std::process::ExitCode;
-use std::{fs, io};
-use time::macros::date;
 
 /// What stands in each byte that is lent before the call, and in an untouched one still.
 const UNWRITTEN: u8 = 170;
 const UNWRITTEN_ENTRY: u32 = u32::from_le_bytes([UNWRITTEN; 4]);
-/// Document 02's: at the most so many pairs, and what stands at the place of one out of range.
-const MOST_PAIRS: usize = 4096;
-const OUT_OF_RANGE: u32 = 4_294_967_295;
 /// The calendar's first day and its last, in days from 1 January 1970 on.
 const FIRST_DAY: u32 = 9_496;
 const LAST_DAY: u32 = 339_675;
@@ -49,109 +47,54 @@ fn main() -> ExitCode {
             println!("{told} in {folder}");
             ExitCode::SUCCESS
         }
-        Err(error) => {
-            eprintln!("{folder}: {error}");
+        Err(told) => {
+            eprintln!("{told}");
             ExitCode::FAILURE
         }
     }
 }
 
-fn written(folder: &Path, random: &mut Random) -> io::Result<String> {
+fn written(folder: &Path, random: &mut Random) -> Result<String, String> {
     let portfolios = portfolios(random);
-    let bytes: Vec<u8> = portfolios.iter().flat_map(stored).collect();
-    let number = portfolios.len();
-    fs::create_dir_all(folder)?;
-    fs::write(folder.join("stdin"), &bytes)?;
-    fs::write(folder.join("stdout"), format!("{number} portfolios, {number} equal\n"))?;
+    let stored: Result<Vec<Vec<u8>>, String> = portfolios.iter().map(stored).collect();
+    let (bytes, number) = (stored?.concat(), portfolios.len());
+    let equal = format!("{number} portfolios, {number} equal\n");
+    let done = fs::create_dir_all(folder)
+        .and_then(|()| fs::write(folder.join("stdin"), &bytes))
+        .and_then(|()| fs::write(folder.join("stdout"), equal));
+    done.map_err(|error| format!("{}: {error}", folder.display()))?;
     Ok(format!("{number} portfolios of {} bytes", bytes.len()))
-}
-
-type Pair = (u32, u32);
-
-/// Two lists, how many entries are lent for the third, and how many bytes for the answer.
-struct Portfolio {
-    from: Vec<u32>,
-    to: Vec<u32>,
-    lent: usize,
-    answer: usize,
-}
-
-impl Portfolio {
-    fn of(pairs: Vec<Pair>) -> Portfolio {
-        let (lent, answer) = (pairs.len(), Answer::LEN);
-        let (from, to) = pairs.into_iter().unzip();
-        Portfolio { from, to, lent, answer }
-    }
-
-    fn pairs(&self) -> impl Iterator<Item = Pair> + '_ {
-        self.from.iter().copied().zip(self.to.iter().copied())
-    }
-
-    /// Whether the lists differ in length, or have too many entries.
-    fn has_wrong_lists(&self) -> bool {
-        let len = self.from.len();
-        self.to.len() != len || self.lent != len || len > MOST_PAIRS
-    }
 }
 
 /// A portfolio with what is expected of it: 4 bytes each, how many entries the lists have and how
 /// many bytes the answer; two lists; the number; the third list; the answer.
-fn stored(portfolio: &Portfolio) -> Vec<u8> {
-    let Portfolio { from, to, lent, answer } = portfolio;
-    let lens = [from.len(), to.len(), *lent, *answer].map(|len| len as u32);
-    let (number, counts, answer) = expected(portfolio);
-    [bytes_of(&lens), bytes_of(from), bytes_of(to), vec![number], bytes_of(&counts), answer]
-        .concat()
+fn stored(portfolio: &Portfolio) -> Result<Vec<u8>, String> {
+    let left = original::expected_of_portfolio(portfolio, walked);
+    let Left { number, counts, answer } = left.map_err(|panic| panic.to_string())?;
+    let lens = portfolio.lens().map(|len| len as u32);
+    let [from, to] = [&portfolio.from, &portfolio.to].map(|list| bytes_of(list));
+    Ok([bytes_of(&lens), from, to, vec![number], bytes_of(&counts), answer].concat())
 }
 
 fn bytes_of(list: &[u32]) -> Vec<u8> {
     list.iter().flat_map(|entry| entry.to_le_bytes()).collect()
 }
 
-/// The number, the third list and the answer after the call, by document 02's words.
-fn expected(portfolio: &Portfolio) -> (u8, Vec<u32>, Vec<u8>) {
-    let untouched = vec![UNWRITTEN_ENTRY; portfolio.lent];
-    if portfolio.answer != Answer::LEN {
-        let number = Refusal::AnswerLength.number();
-        return (number, untouched, vec![UNWRITTEN; portfolio.answer]);
-    }
-    let mut answer = vec![0; Answer::LEN];
-    if portfolio.has_wrong_lists() {
-        answer[0] = Refusal::ListLength.number();
-        return (answer[0], untouched, answer);
-    }
-    answer[4..8].copy_from_slice(&runs(portfolio).to_le_bytes());
-    (0, portfolio.pairs().map(count).collect(), answer)
+/// The original's count, which walks however far it is.
+fn walked(from: time::Date, to: time::Date) -> u32 {
+    mako_fristen::werktage_between(from, to, BdewMaKo)
 }
 
-/// The date of a day, if the calendar has it.
-fn date(day: u32) -> Option<time::Date> {
-    let julian = date!(1970 - 01 - 01).to_julian_day().checked_add(i32::try_from(day).ok()?)?;
-    let date = time::Date::from_julian_day(julian).ok()?;
-    (1996..=2899).contains(&date.year()).then_some(date)
-}
+type Pair = (u32, u32);
 
-/// The original's, which walks.
-fn count((from, to): Pair) -> u32 {
-    match (date(from), date(to)) {
-        (Some(from), Some(to)) => mako_fristen::werktage_between(from, to, BdewMaKo),
-        _ => OUT_OF_RANGE,
+/// The front of the pairs, with lists and an answer of these lengths.
+fn lent(pairs: &[Pair], [from, to, counts, answer]: Lens) -> Portfolio {
+    Portfolio {
+        from: pairs[..from].iter().map(|&(from, _)| from).collect(),
+        to: pairs[..to].iter().map(|&(_, to)| to).collect(),
+        counts: vec![UNWRITTEN_ENTRY; counts],
+        answer: vec![UNWRITTEN; answer],
     }
-}
-
-/// "Where neighbouring pairs begin in the same year, the year's index entry is read once for the run
-/// of them. A single pair is a run too, whether or not its second day is later." A pair out of range
-/// "ends a run and belongs to none".
-fn runs(portfolio: &Portfolio) -> u32 {
-    let (mut runs, mut before) = (0, None);
-    for (from, to) in portfolio.pairs() {
-        let year = date(from).filter(|_| date(to).is_some()).map(time::Date::year);
-        if year.is_some() && year != before {
-            runs += 1;
-        }
-        before = year;
-    }
-    runs
 }
 
 fn portfolios(random: &mut Random) -> Vec<Portfolio> {
@@ -164,7 +107,11 @@ fn portfolios(random: &mut Random) -> Vec<Portfolio> {
     lists.push(times(MOST_PAIRS, random, contract));
     lists.push(sorted(times(MOST_PAIRS, random, contract)));
     lists.push(times(MOST_PAIRS, random, any));
-    lists.into_iter().map(Portfolio::of).chain(refused(random)).collect()
+    let answered = |pairs: Vec<Pair>| {
+        let len = pairs.len();
+        lent(&pairs, [len, len, len, Answer::LEN])
+    };
+    lists.into_iter().map(answered).chain(refused(random)).collect()
 }
 
 /// One to three pairs: the second day later, the same and earlier; one of a pair's days, or both, out
@@ -267,37 +214,30 @@ fn ends_of_years(random: &mut Random) -> Vec<Pair> {
 fn refused(random: &mut Random) -> Vec<Portfolio> {
     const TOO_MANY: usize = MOST_PAIRS + 1;
     let pairs = times(TOO_MANY, random, any);
-    let (from, to): (Vec<u32>, Vec<u32>) = pairs.into_iter().unzip();
-    let of_lens = |(first, second, lent, answer): (usize, usize, usize, usize)| Portfolio {
-        from: from[..first].to_vec(),
-        to: to[..second].to_vec(),
-        lent,
-        answer,
-    };
     let lens = [
-        (1, 0, 0, 32),
-        (0, 1, 0, 32),
-        (0, 0, 1, 32),
-        (1, 1, 0, 32),
-        (1, 0, 1, 32),
-        (0, 1, 1, 32),
-        (1, 2, 3, 32),
-        (16, 16, 17, 32),
-        (16, 17, 16, 32),
-        (17, 16, 16, 32),
-        (100, 100, 99, 32),
-        (TOO_MANY, TOO_MANY, TOO_MANY, 32),
-        (0, 0, 0, 0),
-        (0, 0, 0, 31),
-        (1, 1, 1, 0),
-        (1, 1, 1, 31),
-        (1, 1, 1, 33),
-        (3, 3, 3, 64),
-        (100, 100, 100, 31),
-        (1, 0, 0, 31),
-        (0, 1, 0, 33),
-        (2, 2, 1, 0),
-        (17, 16, 16, 31),
+        [1, 0, 0, 32],
+        [0, 1, 0, 32],
+        [0, 0, 1, 32],
+        [1, 1, 0, 32],
+        [1, 0, 1, 32],
+        [0, 1, 1, 32],
+        [1, 2, 3, 32],
+        [16, 16, 17, 32],
+        [16, 17, 16, 32],
+        [17, 16, 16, 32],
+        [100, 100, 99, 32],
+        [TOO_MANY, TOO_MANY, TOO_MANY, 32],
+        [0, 0, 0, 0],
+        [0, 0, 0, 31],
+        [1, 1, 1, 0],
+        [1, 1, 1, 31],
+        [1, 1, 1, 33],
+        [3, 3, 3, 64],
+        [100, 100, 100, 31],
+        [1, 0, 0, 31],
+        [0, 1, 0, 33],
+        [2, 2, 1, 0],
+        [17, 16, 16, 31],
     ];
-    lens.map(of_lens).into()
+    lens.map(|lens| lent(&pairs, lens)).into()
 }

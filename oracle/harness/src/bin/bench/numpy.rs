@@ -1,6 +1,5 @@
 //! numpy's `busday_count`, by a script for the Python of the system.
 
-use crate::portfolio::FIRST_DAY;
 use harness::days::{self, DAYS};
 use mako_fristen::HolidayCalendar::BdewMaKo;
 use std::io::Write;
@@ -61,5 +60,5 @@ fn holidays() -> Vec<u32> {
         let weekend = matches!(day.weekday(), Weekday::Saturday | Weekday::Sunday);
         !weekend && !mako_fristen::is_werktag(day, BdewMaKo)
     };
-    (0..DAYS).filter(is_holiday).map(|index| FIRST_DAY + index).collect()
+    (0..DAYS).filter(is_holiday).map(days::number).collect()
 }

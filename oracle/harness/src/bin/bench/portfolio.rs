@@ -15,8 +15,6 @@ const CALL: &str = "mf_portfolio";
 const PAIRS: usize = 4096;
 /// Of them the original gets one in so many: it takes some 0.3 ms for each.
 const EVERY: usize = 64;
-/// The days from 1 January 1970 to the calendar's first.
-pub const FIRST_DAY: u32 = 9_496;
 /// A contract's days: 1 to 20 years.
 const SHORTEST: u32 = 365;
 const LONGEST: u32 = 7_305;
@@ -35,7 +33,8 @@ struct Portfolio {
 impl Portfolio {
     /// Of pairs of indexes.
     fn new(what: String, pairs: &[(u32, u32)]) -> Portfolio {
-        let (from, to) = pairs.iter().map(|&(from, to)| (FIRST_DAY + from, FIRST_DAY + to)).unzip();
+        let numbers = pairs.iter().map(|&(from, to)| (days::number(from), days::number(to)));
+        let (from, to) = numbers.unzip();
         let dates = pairs.iter().map(|&(from, to)| (days::date(from), days::date(to))).collect();
         let originals = pairs.iter().step_by(EVERY);
         let originals = originals.map(|&(from, to)| (days::day(from), days::day(to))).collect();
