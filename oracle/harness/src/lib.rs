@@ -13,6 +13,7 @@
 //! | [`rows`] | the questions, in rows: a new call is a new set of rows |
 //! | [`run`] | puts the questions of rows to both sides |
 //! | [`fuzz`] | puts any numbers and bytes to the host calls, with guarded slices |
+//! | [`stored`] | writes answers for programs that replay them without Rust |
 //! | [`cores`] | work in parts, on all cores |
 //! | [`progress`] | how far a long run has come |
 //! | [`options`] | `--name value` of the programs |
@@ -29,5 +30,6 @@ pub mod random;
 pub mod records;
 pub mod rows;
 pub mod run;
+pub mod stored;
 pub mod walk;
 pub mod zone;

@@ -2,34 +2,19 @@
 //! without Rust: `fragen` has one, `vektoren_fragen` several with what is expected of each. The same
 //! seed gives the same files. Options: `--seed N`, `--out FOLDER` (that of the crates).
 
-use harness::options::{self, DEFAULT_SEED};
 use harness::original;
 use harness::random::Random;
 use harness::records::{self, Record, LAST_CLOCK, LEN, LONGEST_FILE, OPERATIONS};
 use harness::rows::files::{any_bytes, any_record, turned};
+use harness::stored::{self, write, UNWRITTEN};
 use mako_fristen_host::{Call, Refusal};
 use std::path::Path;
 use std::process::ExitCode;
-use std::{fs, io};
 
-/// What stands in lent answers before, and behind a refusal still.
-const UNWRITTEN: u8 = 170;
 const LONGEST: usize = LONGEST_FILE / LEN;
 
 fn main() -> ExitCode {
-    options::only(&["--seed", "--out"]);
-    let random = &mut Random::at(options::option("--seed", DEFAULT_SEED), 5 << 32, 0);
-    let folder = options::option("--out", String::from("../crates"));
-    match written(Path::new(&folder), random) {
-        Ok(told) => {
-            println!("{told} in {folder}");
-            ExitCode::SUCCESS
-        }
-        Err(told) => {
-            eprintln!("{told}");
-            ExitCode::FAILURE
-        }
-    }
+    stored::run(5 << 32, written)
 }
 
 fn written(folder: &Path, random: &mut Random) -> Result<String, String> {
@@ -37,7 +22,7 @@ fn written(folder: &Path, random: &mut Random) -> Result<String, String> {
     write(folder, "fragen/stdin", &questions)?;
     write(folder, "fragen/stdout", &answers(&questions)?)?;
     let files = files(random);
-    let stored: Result<Vec<Vec<u8>>, String> = files.iter().map(stored).collect();
+    let stored: Result<Vec<Vec<u8>>, String> = files.iter().map(expected).collect();
     let bytes = stored?.concat();
     let number = files.len();
     write(folder, "vektoren_fragen/stdin", &bytes)?;
@@ -46,19 +31,12 @@ fn written(folder: &Path, random: &mut Random) -> Result<String, String> {
     Ok(format!("a file of {LONGEST} questions and {number} files of {} bytes", bytes.len()))
 }
 
-fn write(folder: &Path, name: &str, bytes: &[u8]) -> Result<(), String> {
-    let path = folder.join(name);
-    let folder = path.parent().unwrap_or(folder);
-    let done = fs::create_dir_all(folder).and_then(|()| fs::write(&path, bytes));
-    done.map_err(|error: io::Error| format!("{}: {error}", path.display()))
-}
-
 /// Questions, and how many bytes are lent for their answers.
 type File = (Vec<u8>, usize);
 
 /// A file with what is expected of it: 4 bytes, how many the questions have; 4 bytes, how many are
 /// lent; the questions; the number; the answers.
-fn stored((questions, lent): &File) -> Result<Vec<u8>, String> {
+fn expected((questions, lent): &File) -> Result<Vec<u8>, String> {
     let (number, answers) = if records::is_refused(questions.len(), *lent) {
         (Refusal::FileLength.number(), vec![UNWRITTEN; *lent])
     } else {

@@ -3,18 +3,16 @@
 //! `--out FOLDER` (that of the crates).
 
 use harness::days::{self, DAYS};
-use harness::options::{self, DEFAULT_SEED};
 use harness::original::{self, Left, MOST_PAIRS};
 use harness::portfolio::{Lens, Portfolio};
 use harness::random::Random;
+use harness::stored::{self, write, UNWRITTEN};
 use mako_fristen::HolidayCalendar::BdewMaKo;
 use mako_fristen_host::Answer;
-use std::fs;
 use std::path::Path;
 use std::process::ExitCode;
 
-/// What stands in each byte that is lent before the call, and in an untouched one still.
-const UNWRITTEN: u8 = 170;
+/// An entry of unwritten bytes.
 const UNWRITTEN_ENTRY: u32 = u32::from_le_bytes([UNWRITTEN; 4]);
 /// The calendar's first day and its last, in days from 1 January 1970 on.
 const FIRST_DAY: u32 = 9_496;
@@ -39,36 +37,22 @@ const EDGES: [u32; 13] = [
 const CONTRACT: (u32, u32) = (365, 7_305);
 
 fn main() -> ExitCode {
-    options::only(&["--seed", "--out"]);
-    let random = &mut Random::at(options::option("--seed", DEFAULT_SEED), 6 << 32, 0);
-    let folder = options::option("--out", String::from("../crates"));
-    match written(&Path::new(&folder).join("vektoren_portfolio"), random) {
-        Ok(told) => {
-            println!("{told} in {folder}");
-            ExitCode::SUCCESS
-        }
-        Err(told) => {
-            eprintln!("{told}");
-            ExitCode::FAILURE
-        }
-    }
+    stored::run(6 << 32, written)
 }
 
 fn written(folder: &Path, random: &mut Random) -> Result<String, String> {
     let portfolios = portfolios(random);
-    let stored: Result<Vec<Vec<u8>>, String> = portfolios.iter().map(stored).collect();
+    let stored: Result<Vec<Vec<u8>>, String> = portfolios.iter().map(expected).collect();
     let (bytes, number) = (stored?.concat(), portfolios.len());
+    write(folder, "vektoren_portfolio/stdin", &bytes)?;
     let equal = format!("{number} portfolios, {number} equal\n");
-    let done = fs::create_dir_all(folder)
-        .and_then(|()| fs::write(folder.join("stdin"), &bytes))
-        .and_then(|()| fs::write(folder.join("stdout"), equal));
-    done.map_err(|error| format!("{}: {error}", folder.display()))?;
+    write(folder, "vektoren_portfolio/stdout", equal.as_bytes())?;
     Ok(format!("{number} portfolios of {} bytes", bytes.len()))
 }
 
 /// A portfolio with what is expected of it: 4 bytes each, how many entries the lists have and how
 /// many bytes the answer; two lists; the number; the third list; the answer.
-fn stored(portfolio: &Portfolio) -> Result<Vec<u8>, String> {
+fn expected(portfolio: &Portfolio) -> Result<Vec<u8>, String> {
     let left = original::expected_of_portfolio(portfolio, walked);
     let Left { number, counts, answer } = left.map_err(|panic| panic.to_string())?;
     let lens = portfolio.lens().map(|len| len as u32);
