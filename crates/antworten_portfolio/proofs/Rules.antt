@@ -7,7 +7,9 @@ use mathlib.Core.Bool.{Bool, true, false, not}
 use mathlib.Core.List.{List}
 use mathlib.Core.Path.{_≡_, refl, sym, ap, _∙_}
 use borrow.Author.Tests.{not-true, not-false}
+use lib.Dec.{eqb}
 use lib.ListN.{length}
+use Rattle.zaehlung.proofs.Every.{split}
 use Rattle.portfolio.specs.Portfolio.{isPortfolio, countsOf}
 use Rattle.portfolio.specs.Runs.{runs}
 use Rattle.antwortsatz.specs.declared.Answer.{Answer}
@@ -27,14 +29,21 @@ module _ (w : ℕ → Bool) (xs ys zs l : List ℕ) where
       let e = p ∙ reply-whole l a h in
       (ap (λ (z : ℕ × List ℕ). z .0) e, ap (λ (z : ℕ × List ℕ). z .1) e)
 
+  -- whatever its length, the slice gets no 0
+  not-answered : eqb (reply l (refused 10) .0) 0 ≡ false
+  unfolding reply refused
+  not-answered = split (eqb (length l) 32) (λ t. rw t) (λ t. rw t)
+
   module _ (b : Bool) (e : b ≡ isPortfolio (length xs) (length ys) (length zs)) where
     pub no-portfolio :
         (l′ : List ℕ) (a : Answer) (r : ℕ) →
-        length l ≡ 32 → not b ≡ true → a ≡ refused 10 → (r, l′) ≡ reply l a → (r, zs, l′) ≡ portfolioReply w xs ys zs l
-    unfolding portfolioReply portfolioAnswer countsLeft refused
-    no-portfolio l′ a r h t g p =
-        let v = whole l′ a r h p in
-        rw (sym e ∙ not-true b t, reply-whole l (refused 10) h, v .0, v .1, g)
+        not b ≡ true → a ≡ refused 10 → (r, l′) ≡ reply l a → (r, zs, l′) ≡ portfolioReply w xs ys zs l
+    unfolding portfolioReply portfolioAnswer countsLeft
+    no-portfolio l′ a r t g p =
+        let q : (r, l′) ≡ reply l (refused 10) = rw g at p in
+        let f = ap (λ (z : ℕ × List ℕ). z .0) q in
+        let h = ap (λ (z : ℕ × List ℕ). z .1) q in
+        rw (sym e ∙ not-true b t, f, h, not-answered)
 
     pub are-portfolio : not b ≡ false → isPortfolio (length xs) (length ys) (length zs) ≡ true
     are-portfolio t = sym e ∙ not-false b t

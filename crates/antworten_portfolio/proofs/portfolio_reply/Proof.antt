@@ -1,12 +1,12 @@
 -- `antworten_portfolio::portfolio_reply` meets its contract: 1, 10 and the lists that are counted, in this order.
 -- Assumes nothing.
 use borrow.Author.Needs.{needs}
-use Rattle.antworten_portfolio.proofs.Rules.{portfolio-reply-rules}
+use Rattle.antworten_portfolio.proofs.Rules.{other-length, portfolio-reply-rules}
 use Rattle.antworten_portfolio.proofs.portfolio_reply.Statement.{statement}
 use Rattle.antworten_portfolio.proofs.portfolio_reply.Tie as tie
 
 returns : tie.Need-returns
-returns c = search (needs, portfolio-reply-rules)
+returns c = other-length _ _ _ _ _ (λ e. search (needs, c .if1 .taken))
 
 is-portfolio-requires : tie.Need-is-portfolio-requires
 is-portfolio-requires c κs = search needs
