@@ -1,6 +1,7 @@
 // The 13:00 announcement: whether the grid operator's Ankündigung der Zuordnung des E/G kept its Frist.
 //
 // Document 01, vorlauf.rs: `eog_ankuendigung_fristgerecht`. A crate of its own, so that the lead times know no clock.
+#![tactic(auto)]
 ghost use Rattle.std.specs.Prelude.{◌≡◌, ◌≤◌};
 ghost use Rattle.zaehlung.specs.Walk.{last};
 ghost use Rattle.datum.specs.Tage.{tag_at};
@@ -13,7 +14,7 @@ use datum::tage::{Tag, TagStep};
 use werktag::HolidayCalendar;
 
 /// Whether the Frist was kept; neither, from the beginning on; or that the last Werktag before it leaves the calendar.
-#[derive(Drop)]
+#[derive(Clone, Copy)]
 pub enum Fristgerecht {
     Nein,
     Ja,

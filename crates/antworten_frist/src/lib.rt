@@ -1,4 +1,5 @@
 // What the calls for due instants answer: document 01, refusals 2, 4, 5, 6 and 8.
+#![tactic(auto)]
 ghost use Rattle.std.specs.Prelude.{◌≡◌, ◌<◌, length, get_or};
 ghost use Rattle.werktag.specs.Werktag.{is_werktag};
 ghost use Rattle.fristen.specs.Inside.{ProperDue};
@@ -53,7 +54,7 @@ fn due_answer(kind: u8, due: Due) -> Answer
 
 /// A shape with its count and clock, or that its clock is none. A count or clock that the shape does not use is not
 /// looked at.
-#[derive(Drop)]
+#[derive(Clone, Copy)]
 pub enum ShapeReading {
     Known(FristShape),
     NoClock,

@@ -1,4 +1,5 @@
 // The answer of a host call: its fields, its 32 bytes, and the one function that writes them. It knows no calendar.
+#![tactic(auto)]
 ghost use Rattle.std.specs.Prelude.{◌≡◌};
 ghost use Rattle.antwortsatz.specs.Bytes.{bytes_of, reply};
 ghost use Rattle.antwortsatz.specs.Answers.{zero_date, date_word, filled, refused, of_kind, counted, dated};
@@ -35,7 +36,7 @@ pub const ANSWER_BYTES: usize = 32;
 /// The fields of an answer, in the order of their bytes. A field that a call does not use is 0. Bytes 20 to 31 are
 /// three words, named by their first byte: a date is one, and a number, a signed one's bits or an instant have room
 /// there too.
-#[derive(Drop)]
+#[derive(Clone, Copy)]
 pub struct Answer {
     pub refusal: u8,
     pub kind: u8,

@@ -4,6 +4,8 @@
 // an instant is its UTC day, counted from 1 January 1970 as its seconds are, and the second of that day. A day of the
 // calendar is its index from 1 January 1996: the two differ by `CALENDAR_START`, which stands where the clock meets the
 // calendar.
+#![tactic(auto)]
+
 ghost use Rattle.std.specs.Prelude.{◌≡◌, ◌+◌, ◌-◌, ◌*◌, ◌%◌, ◌≤◌, ◌<◌, ltb, pos};
 ghost use Rattle.zaehlung.specs.Walk.{last};
 ghost use Rattle.datum.specs.Calendar.{weekday};
@@ -20,7 +22,7 @@ use zaehlung::LAST;
 /// An instant: its UTC day, counted from 1 January 1970, the second of that day and the nanoseconds.
 ///
 /// 1 January 2026 00:00 in Berlin, 31 December 23:00 UTC, is day 20,453 and second 82,800.
-#[derive(Drop)]
+#[derive(Clone, Copy)]
 pub struct Moment {
     pub utcday: u32,
     pub second: u32,
@@ -28,49 +30,49 @@ pub struct Moment {
 }
 
 /// What an instant reads as: 'seconds from 820,450,800 to 29,348,002,799', else refusal 4.
-#[derive(Drop)]
+#[derive(Clone, Copy)]
 pub enum Reading {
     At(Moment),
     NoInstant,
 }
 
 /// A local time: the second of the day and the nanoseconds. 13:00 is second 46,800.
-#[derive(Drop)]
+#[derive(Clone, Copy)]
 pub struct Clock {
     pub second: u32,
     pub nanos: u32,
 }
 
 /// What a clock reads as: hour to 23, minute and second to 59, else refusal 5.
-#[derive(Drop)]
+#[derive(Clone, Copy)]
 pub enum ClockReading {
     At(Clock),
     NoClock,
 }
 
 /// The instant of a local time on a day; refusal 6 where the clock never shows it.
-#[derive(Drop)]
+#[derive(Clone, Copy)]
 pub enum Resolved {
     At(Moment),
     Absent,
 }
 
 /// What the Berlin clock shows: the day, counted from 1 January 1970 too, and the second of that day.
-#[derive(Drop)]
+#[derive(Clone, Copy)]
 pub struct Local {
     pub berlinday: u32,
     pub second: u32,
 }
 
 /// It decides where the day begins: 'Strom begins at 00:00, Gas at 06:00 Berlin'.
-#[derive(Drop)]
+#[derive(Clone, Copy)]
 pub enum Sparte {
     Strom,
     Gas,
 }
 
 /// The day that an instant begins, by its index, or none: refusal 7.
-#[derive(Drop)]
+#[derive(Clone, Copy)]
 pub enum Beginn {
     Day(u32),
     NoBeginning,
@@ -150,7 +152,7 @@ pub fn is_before(a: Moment, b: Moment) -> bool
 }
 
 /// Days since 1970, below zero too, and the second of the day.
-#[derive(Drop)]
+#[derive(Clone, Copy)]
 pub struct Split {
     pub utcday: i64,
     pub second: i64,
@@ -298,7 +300,7 @@ fn sunday_by(day: u32) -> u32
 }
 
 /// The days on which the clock changes.
-#[derive(Drop)]
+#[derive(Clone, Copy)]
 struct Switches {
     march: u32,
     october: u32,

@@ -1,6 +1,8 @@
 // Dates from 1 January 1996 to 31 December 2899, their indexes 0 to 330,179, and shifts by months.
 //
 // Document 01, lib.rs (calendar). Inside, a day is its index; a date stands at the edge.
+#![tactic(auto)]
+
 ghost use Rattle.std.specs.Prelude.{true, ◌≡◌, ◌+◌, ◌-◌, ◌*◌, ◌/◌, ◌≤◌, ◌<◌, pos};
 ghost use Rattle.zaehlung.specs.Walk.{last, bit};
 ghost use Rattle.datum.specs.Calendar.{is_leap, year_start, year_of, days_in_month, month_start, month_of};
@@ -43,7 +45,7 @@ const LEAP_FEBRUARY: u8 = SHORTEST_MONTH + 1;
 const WEEK: u32 = 7;
 
 /// A date by value. Any three numbers may stand in it; `index_of` says which are a date of the range.
-#[derive(Drop)]
+#[derive(Clone, Copy)]
 pub struct Date {
     pub year: u16,
     pub month: u8,
@@ -51,14 +53,14 @@ pub struct Date {
 }
 
 /// The index of a date, or that it is no date of the range.
-#[derive(Drop)]
+#[derive(Clone, Copy)]
 pub enum Index {
     Day(u32),
     NoDate,
 }
 
 /// A date shifted by months, or that it leaves the calendar.
-#[derive(Drop)]
+#[derive(Clone, Copy)]
 pub enum Shifted {
     On(Date),
     Outside,
@@ -133,7 +135,7 @@ pub fn year_start(k: u32) -> u32
 }
 
 /// A year, counted from 1996, and a day of it, counted from 0.
-#[derive(Drop)]
+#[derive(Clone, Copy)]
 pub struct YearDay {
     pub year: u32,
     pub day: u32,
@@ -303,7 +305,7 @@ pub fn weekday(index: u32) -> u32
 }
 
 /// A month of a year: the month is counted from 0, and either may lie before year 0.
-#[derive(Drop)]
+#[derive(Clone, Copy)]
 struct YearMonth {
     year: i64,
     month: i64,

@@ -11,14 +11,14 @@ use super::{Date, YearDay};
 const NEAR: u32 = super::SHORTEST_MONTH as u32;
 
 /// A day of the calendar: its index and its date.
-#[derive(Drop)]
+#[derive(Clone, Copy)]
 pub struct Tag {
     pub index: u32,
     pub date: Date,
 }
 
 /// What a step reaches: a day, taken apart, or none, because the step leaves the calendar.
-#[derive(Drop)]
+#[derive(Clone, Copy)]
 pub enum TagStep {
     At(Tag),
     Outside,

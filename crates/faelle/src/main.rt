@@ -1,5 +1,6 @@
 // The cases A to M of document 01, worked out by calling the library: a line for each, the letter, a space, `ok` or
 // `no`.
+#![tactic(auto)]
 use antwortsatz::{Answer, LOCAL_TIME_ABSENT};
 use datum::Date;
 use libc::STDOUT_FILENO;

@@ -1,5 +1,6 @@
 // The question record of a file: its fields, the one function that reads them from its 32 bytes, and the lengths that a
 // file has. It knows no calendar: what a field means is for the answer to say.
+#![tactic(auto)]
 ghost use Rattle.std.specs.Prelude.{◌≡◌, ◌+◌, ◌≤◌, length};
 ghost use Rattle.fragesatz.specs.Record.{date_at, question_of};
 ghost use Rattle.fragesatz.specs.File.{is_file};
@@ -13,7 +14,7 @@ pub const QUESTION_BYTES: usize = 32;
 const MOST_BYTES: usize = 65536;
 
 /// The fields of a question, in the order of their bytes. Bytes 2 and 3 are named by their place, and have to be zero.
-#[derive(Drop)]
+#[derive(Clone, Copy)]
 pub struct Question {
     pub operation: u8,
     pub code: u8,

@@ -4,6 +4,7 @@
 // A due instant is counted in seconds from the receipt, or is a local time on a day that is counted in Werktage from
 // the Berlin day of the receipt. Each promise is one equation with a definition of specs/, and that the instant is
 // proper.
+#![tactic(auto)]
 ghost use Rattle.std.specs.Prelude.{◌≡◌, ◌+◌, ◌*◌, ◌≤◌, ◌<◌};
 ghost use Rattle.zaehlung.specs.Walk.{last};
 ghost use Rattle.werktag.specs.Werktag.{is_werktag};
@@ -27,7 +28,7 @@ use zaehlung::{LAST, Step};
 
 /// A due instant; that no clock shows its time (refusal 6, `SameDayAt` only); or that its day leaves the calendar
 /// (refusal 8).
-#[derive(Drop)]
+#[derive(Clone, Copy)]
 pub enum Due {
     At(Moment),
     Absent,
@@ -113,7 +114,7 @@ const WINDOW_OPENS: u32 = 18;
 
 /// What the CONTRL answers, which decides its window: any interchange or APERAK not named by a shorter one; a Strom
 /// UTILMD or ORDERS; a GABi-Gas ALOCAT from the NB to the MGV.
-#[derive(Drop)]
+#[derive(Clone, Copy)]
 pub enum ContrlAnlass {
     Regelfall,
     StromUtilmdOderOrders,
@@ -285,7 +286,7 @@ fn is_initial(pid: u32) -> bool
 }
 
 /// A Gas due instant, and whether it is an initial process's, which decides the kind of the answer.
-#[derive(Drop)]
+#[derive(Clone, Copy)]
 pub struct GasDue {
     pub initial: bool,
     pub due: Due,
@@ -394,7 +395,7 @@ pub fn deadline_at_werktage(from: Moment, werktage: u32, cal: HolidayCalendar) -
 
 /// The shape of an answer's Frist: 'spätester ÜZ ist .. Uhr des n. WT nach dem ÜT'; 'bis zum Ablauf des n. Werktags
 /// nach Eingang'; 'spätester ÜZ ist .. Uhr am ÜT'; 'am selben Tag wie ..'.
-#[derive(Drop)]
+#[derive(Clone, Copy)]
 pub enum FristShape {
     WerktagAt { werktage: u32, at: Clock },
     EndOfWerktag(u32),

@@ -1,6 +1,7 @@
 // Steps over Werktage and counts of Werktage from day to day. A walk takes its first day apart and from then on knows
 // the next by the last: the date's parts, the weekday, the days of the month, the year's Easter. A weekend is passed
 // over; the list is asked from Monday to Friday alone.
+#![tactic(auto)]
 ghost use Rattle.std.specs.Prelude.{◌≡◌, ◌+◌, ◌-◌, ◌%◌, ◌≤◌, ◌<◌};
 ghost use Rattle.zaehlung.specs.Walk.{last, bit, add, sub, between};
 ghost use Rattle.datum.specs.Tage.{tag_at, tag_step};
@@ -22,7 +23,7 @@ const SUNDAY: u32 = 6;
 
 /// What a walk knows of the day at which it stands: the day taken apart, its weekday, the days of its month, and Easter
 /// Sunday's index where the month needs it.
-#[derive(Drop)]
+#[derive(Clone, Copy)]
 pub struct Stand {
     pub tag: Tag,
     pub wday: u32,

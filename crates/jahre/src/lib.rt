@@ -1,5 +1,6 @@
 // The Werktage of a year's first days, without a test of any: its weekdays less its holidays on weekdays. A year is
 // counted from 1996, a day of it from 0.
+#![tactic(auto)]
 ghost use Rattle.std.specs.Prelude.{◌≡◌, ◌+◌, ◌%◌, ◌≤◌, ◌<◌, ltb, length};
 ghost use Rattle.zaehlung.specs.Walk.{bit, among};
 ghost use Rattle.zaehlung.specs.Lists.{below};
@@ -10,7 +11,7 @@ ghost use Rattle.jahre.specs.Year.{year_numbers, weekdays, or_no_day, himmelfahr
 use werktag::HolidayCalendar;
 
 /// A year's own numbers: the weekday of its 1 January, its leap days, and Easter Sunday as a day of the year.
-#[derive(Drop)]
+#[derive(Clone, Copy)]
 pub struct Year {
     pub first: u32,
     pub leaps: u32,
@@ -19,7 +20,7 @@ pub struct Year {
 
 /// A year as a count inside it needs it: which one, the weekday of its 1 January, and its holidays on weekdays, in
 /// document 01's order; in the place of one that is a Saturday or Sunday stands `NO_DAY`.
-#[derive(Drop)]
+#[derive(Clone, Copy)]
 pub struct HolidayYear {
     pub year: u32,
     pub first: u32,

@@ -2,6 +2,7 @@
 // counted from 1996.
 //
 // Document 02, F-3. The table's rule is computed once, over all its entries.
+#![tactic(auto)]
 ghost use Rattle.std.specs.Prelude.{◌≡◌, suc, ◌+◌, ◌≤◌, ◌<◌};
 ghost use Rattle.zaehlung.specs.Walk.{last, count};
 ghost use Rattle.datum.specs.Calendar.{year_start};
@@ -20,7 +21,7 @@ pub const WERKTAGE: u32 = 222031;
 const YEARS: u32 = 904;
 
 /// A year, and the Werktage before it.
-#[derive(Drop)]
+#[derive(Clone, Copy)]
 pub struct Entry {
     pub year: u32,
     pub before: u32,

@@ -3,6 +3,7 @@
 // A pair takes two counts from the calendar's first day on: up to its first day and up to its second. Each is the
 // entry of a year in the year index and the Werktage of the year's first days. What a run of pairs that begin in one
 // year shares, the entry and the year's holidays, is worked out once for it.
+#![tactic(auto)]
 ghost use Rattle.std.specs.Prelude.{true, ◌&&◌, ◌≡◌, suc, ◌+◌, ◌≤◌, ◌<◌, leb, ltb, length};
 ghost use Rattle.zaehlung.specs.Walk.{last, bit, count, between};
 ghost use Rattle.datum.specs.Calendar.{first_year, year_of};
@@ -36,7 +37,7 @@ const NO_YEAR: u32 = 0;
 /// The run that a pair belongs to: the year in which its pairs begin, the indexes of that year's first day and of the
 /// next year's, the Werktage before the year, and the year as a count inside it needs it; and how many entries were
 /// read for first days so far. Of a pair out of range the year is `NO_YEAR`, and no day lies in it.
-#[derive(Drop)]
+#[derive(Clone, Copy)]
 pub struct Run {
     pub year: u32,
     pub first: u32,

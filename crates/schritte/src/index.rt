@@ -13,7 +13,7 @@ use werktag::HolidayCalendar;
 use zaehlung::Step;
 
 /// The two steps: the n-th Werktag after a day, and the n-th before it.
-#[derive(Drop)]
+#[derive(Clone, Copy)]
 pub enum StepKind {
     Add,
     Sub,

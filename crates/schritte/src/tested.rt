@@ -11,7 +11,7 @@ use datum::tage::Tag;
 use werktag::HolidayCalendar;
 
 /// Werktage, and the days that were tested to count them.
-#[derive(Drop)]
+#[derive(Clone, Copy)]
 pub struct Count {
     pub werktage: u32,
     pub tested: u32,

@@ -6,6 +6,7 @@
 // to 11 a second date, or a clock's nanoseconds; 12 to 15 a count; 16 to 23 seconds, signed; 24 to 27 nanoseconds; 28
 // to 30 hour, minute and second of a clock; 31 zero; 32 to 35 a second count; 36 to 43 and 44 to 47 a second instant;
 // 48 a second code; 49 the length of a reason and 50 to 63 its bytes. A line of another form counts as different.
+#![tactic(auto)]
 ghost use Rattle.std.specs.Prelude.{true, ◌≡◌, ◌≤◌, length, get_or};
 ghost use Rattle.vektoren.specs.Hex.{digit, bytes_at};
 
@@ -35,7 +36,7 @@ const NO_CALL: u8 = 255;
 const UNWRITTEN: u8 = 170;
 
 // Where the reading stands.
-#[derive(Drop)]
+#[derive(Clone, Copy)]
 struct Replay {
     // Whether the input has ended.
     ended: bool,
@@ -98,7 +99,7 @@ fn is_spare_zero(q: &[u8; HALF_BYTES]) -> bool {
 }
 
 // A question's numbers.
-#[derive(Drop)]
+#[derive(Clone, Copy)]
 struct Question {
     call: u8,
     code: u8,

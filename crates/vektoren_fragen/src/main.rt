@@ -5,6 +5,7 @@
 // both little-endian; then the questions; then the number that the call returns; then the answers as it leaves them. An
 // input that ends within a file, or has one longer than any here, counts as one that differs, and nothing behind it is
 // read.
+#![tactic(auto)]
 use libc::{STDIN_FILENO, STDOUT_FILENO};
 
 // The bytes of the two lengths before a file.
@@ -17,7 +18,7 @@ const MOST_BYTES: usize = 65600;
 const UNWRITTEN: u8 = 170;
 
 // What the next stored file comes to.
-#[derive(Drop)]
+#[derive(Clone, Copy)]
 enum Replayed {
     Equal,
     Different,
@@ -95,7 +96,7 @@ fn print_number(n: u64, after: &[u8]) {
 }
 
 // How far the replay has come.
-#[derive(Drop)]
+#[derive(Clone, Copy)]
 struct Replay {
     ended: bool,
     files: u64,

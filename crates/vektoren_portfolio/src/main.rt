@@ -5,6 +5,7 @@
 // the third list have, and how many bytes the answer; then the first list and the second, 4 bytes an entry; then the
 // number that the call returns; then the third list and the answer as it leaves them. An input that ends within a
 // portfolio, or has one longer than any here, counts as one that differs, and nothing behind it is read.
+#![tactic(auto)]
 use libc::{STDIN_FILENO, STDOUT_FILENO};
 
 // The bytes of the four lengths before a portfolio.
@@ -23,7 +24,7 @@ const UNWRITTEN_ENTRY: u32 = 2863311530;
 const UNWRITTEN: u8 = 170;
 
 // What the next stored portfolio comes to.
-#[derive(Drop)]
+#[derive(Clone, Copy)]
 enum Replayed {
     Equal,
     Different,
@@ -175,7 +176,7 @@ fn print_number(n: u64, after: &[u8]) {
 }
 
 // How far the replay has come.
-#[derive(Drop)]
+#[derive(Clone, Copy)]
 struct Replay {
     ended: bool,
     portfolios: u64,

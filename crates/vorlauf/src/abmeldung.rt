@@ -14,7 +14,7 @@ use datum::tage::Tag;
 use werktag::HolidayCalendar;
 
 /// Whether the object is an EEG-Marktlokation or a Tranche of one.
-#[derive(Drop)]
+#[derive(Clone, Copy)]
 pub enum Eeg {
     Nein,
     Ja,
@@ -22,7 +22,7 @@ pub enum Eeg {
 }
 
 /// Which window applies.
-#[derive(Drop)]
+#[derive(Clone, Copy)]
 pub enum AbmeldungVorlauf {
     /// 'Spätester ÜT ist der Tag vor dem letzten WT vor dem Zuordnungsende.'
     TagVorDemLetztenWerktag,
@@ -35,14 +35,14 @@ pub enum AbmeldungVorlauf {
 }
 
 /// A shape, or none.
-#[derive(Drop)]
+#[derive(Clone, Copy)]
 pub enum AbmeldungShape {
     Some(VorlaufShape),
     None,
 }
 
 /// The verdict, or that there is no shape to give one.
-#[derive(Drop)]
+#[derive(Clone, Copy)]
 pub enum AbmeldungVerdict {
     Verdict(VorlaufVerdict),
     NoShape,

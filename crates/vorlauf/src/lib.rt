@@ -3,6 +3,7 @@
 // Document 01, vorlauf.rs and 'The span of anchors'. A day comes taken apart, its index beside its
 // date; what is named in a verdict or a span is an index. t is the transmission day (Übertragungstag, ÜT), a the
 // anchor, the date that the message carries.
+#![tactic(auto)]
 ghost use Rattle.std.specs.Prelude.{◌≡◌, ◌≤◌, ◌<◌};
 ghost use Rattle.zaehlung.specs.Walk.{last, on_step, day_after, add, W, between};
 ghost use Rattle.datum.specs.Monate.{M};
@@ -20,7 +21,7 @@ use zaehlung::Step;
 pub mod abmeldung;
 
 /// The shape of a Vorlauffrist, in Werktagen or months relative to its anchor date.
-#[derive(Drop)]
+#[derive(Clone, Copy)]
 pub enum VorlaufShape {
     /// 'Spätester ÜT ist der n. WT vor dem ..': a minimum lead time.
     LatestWerktageBefore(u32),
@@ -41,7 +42,7 @@ pub enum VorlaufShape {
 }
 
 /// The verdict on a transmission day and an anchor.
-#[derive(Drop)]
+#[derive(Clone, Copy)]
 pub enum VorlaufVerdict {
     /// The date respects the window.
     Ok,
@@ -59,7 +60,7 @@ pub enum VorlaufVerdict {
 }
 
 /// The anchors that a transmission day may ask for.
-#[derive(Drop)]
+#[derive(Clone, Copy)]
 pub enum Span {
     /// From this day on.
     From(u32),

@@ -1,6 +1,8 @@
 // Werktage: every day that is no Saturday, no Sunday and no holiday (GPKE Teil 1).
 //
 // Document 01, lib.rs (calendar); the reason of a closed day: document 02, F-2. The list is the same in every year.
+#![tactic(auto)]
+
 ghost use Rattle.std.specs.Prelude.{◌≡◌, map, ◌+◌, ◌≤◌, ◌<◌, pos, ◌-ℤ◌};
 ghost use Rattle.zaehlung.specs.Lists.{any};
 ghost use Rattle.werktag.specs.declared.HolidayCalendar.TheVariants.{BdewMaKo};
@@ -31,7 +33,7 @@ const NOVEMBER: u8 = 11;
 const NO_EASTER: u32 = LAST + 3;
 
 /// Whose holidays count. A holiday of any one Land counts everywhere.
-#[derive(Drop)]
+#[derive(Clone, Copy)]
 pub enum HolidayCalendar {
     BdewMaKo,
 }

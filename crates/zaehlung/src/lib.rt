@@ -1,5 +1,6 @@
 // Steps and counts over the days of the calendar, for any test of a day, and years and months as blocks of days: specs/
 // has the definitions, proofs/ the theorems. The code is what they speak of, the outcome of a step.
+#![tactic(auto)]
 
 /// The calendar's first day, 1 January 1996, and its last, 31 December 2899, as indexes from the first.
 pub const FIRST: u32 = 0;
@@ -7,7 +8,7 @@ pub const FIRST: u32 = 0;
 pub const LAST: u32 = 330179;
 
 /// What a step reaches: a day, given by its index from 1 January 1996, or none, because the step leaves the calendar.
-#[derive(Drop)]
+#[derive(Clone, Copy)]
 pub enum Step {
     Day(u32),
     Outside,

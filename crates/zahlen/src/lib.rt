@@ -1,4 +1,6 @@
 // Numbers as bytes, lowest byte first: read from bytes, and a signed number as the bits that its bytes are made of.
+#![tactic(auto)]
+
 ghost use Rattle.std.specs.Prelude.{◌≡◌, ◌+◌, ◌≤◌, length};
 ghost use Rattle.zahlen.specs.LittleEndian.{u16_from, u32_from, u64_from};
 ghost use Rattle.zahlen.specs.TwosComplement.{bits_of, signed_of};

@@ -1,0 +1,15 @@
+-- `datum::monate::months_later` meets its contract: its calls are those of the definition. The date of a day of the
+-- calendar is one of the range, and so is what a shift of it reaches.
+-- Assumes nothing.
+use borrow.Author.Rules.{rules}
+use Rattle.datum.proofs.MonthStepRules.{month_rules}
+use Rattle.datum.proofs.monate.months_later.Goals as goal
+
+pub add_months-requires : goal.add_months-requires
+add_months-requires c = search (rules, month_rules)
+
+pub to_step-requires : goal.to_step-requires
+to_step-requires c = search (rules, month_rules)
+
+pub returns : goal.returns
+returns c = search (rules, month_rules)
