@@ -1,5 +1,6 @@
 // The answer of a host call: its fields, its 32 bytes, and the one function that writes them. It knows no calendar.
 #![tactic(auto)]
+
 ghost use Rattle.std.specs.Prelude.{◌≡◌};
 ghost use Rattle.antwortsatz.specs.Bytes.{bytes_of, reply};
 ghost use Rattle.antwortsatz.specs.Answers.{zero_date, date_word, filled, refused, of_kind, counted, dated};

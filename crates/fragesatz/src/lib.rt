@@ -1,6 +1,7 @@
 // The question record of a file: its fields, the one function that reads them from its 32 bytes, and the lengths that a
 // file has. It knows no calendar: what a field means is for the answer to say.
 #![tactic(auto)]
+
 ghost use Rattle.std.specs.Prelude.{◌≡◌, ◌+◌, ◌≤◌, length};
 ghost use Rattle.fragesatz.specs.Record.{date_at, question_of};
 ghost use Rattle.fragesatz.specs.File.{is_file};

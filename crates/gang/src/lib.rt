@@ -2,6 +2,7 @@
 // the next by the last: the date's parts, the weekday, the days of the month, the year's Easter. A weekend is passed
 // over; the list is asked from Monday to Friday alone.
 #![tactic(auto)]
+
 ghost use Rattle.std.specs.Prelude.{◌≡◌, ◌+◌, ◌-◌, ◌%◌, ◌≤◌, ◌<◌};
 ghost use Rattle.zaehlung.specs.Walk.{last, bit, add, sub, between};
 ghost use Rattle.datum.specs.Tage.{tag_at, tag_step};

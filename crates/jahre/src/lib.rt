@@ -1,6 +1,7 @@
 // The Werktage of a year's first days, without a test of any: its weekdays less its holidays on weekdays. A year is
 // counted from 1996, a day of it from 0.
 #![tactic(auto)]
+
 ghost use Rattle.std.specs.Prelude.{◌≡◌, ◌+◌, ◌%◌, ◌≤◌, ◌<◌, ltb, length};
 ghost use Rattle.zaehlung.specs.Walk.{bit, among};
 ghost use Rattle.zaehlung.specs.Lists.{below};

@@ -3,6 +3,7 @@
 //
 // Document 02, F-3. The table's rule is computed once, over all its entries.
 #![tactic(auto)]
+
 ghost use Rattle.std.specs.Prelude.{◌≡◌, suc, ◌+◌, ◌≤◌, ◌<◌};
 ghost use Rattle.zaehlung.specs.Walk.{last, count};
 ghost use Rattle.datum.specs.Calendar.{year_start};
