@@ -5,6 +5,7 @@
 // the Berlin day of the receipt. Each promise is one equation with a definition of specs/, and that the instant is
 // proper.
 #![tactic(auto)]
+
 ghost use Rattle.std.specs.Prelude.{◌≡◌, ◌+◌, ◌*◌, ◌≤◌, ◌<◌};
 ghost use Rattle.zaehlung.specs.Walk.{last};
 ghost use Rattle.werktag.specs.Werktag.{is_werktag};

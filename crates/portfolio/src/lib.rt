@@ -4,6 +4,7 @@
 // entry of a year in the year index and the Werktage of the year's first days. What a run of pairs that begin in one
 // year shares, the entry and the year's holidays, is worked out once for it.
 #![tactic(auto)]
+
 ghost use Rattle.std.specs.Prelude.{true, ◌&&◌, ◌≡◌, suc, ◌+◌, ◌≤◌, ◌<◌, leb, ltb, length};
 ghost use Rattle.zaehlung.specs.Walk.{last, bit, count, between};
 ghost use Rattle.datum.specs.Calendar.{first_year, year_of};

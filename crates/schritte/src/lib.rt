@@ -2,6 +2,7 @@
 // and so is the day that a step reaches. What a step or a count is, is defined in zaehlung for any test of a day, day
 // by day; here the test is the holiday list's. Few Werktage are walked, many are counted through the year index.
 #![tactic(auto)]
+
 ghost use Rattle.std.specs.Prelude.{◌≡◌, ◌-◌, ◌≤◌};
 ghost use Rattle.zaehlung.specs.Walk.{last, bit, day_after, day_before, add, sub, next, W, between};
 ghost use Rattle.datum.specs.Tage.{tag_at, tag_step};

@@ -1,0 +1,23 @@
+-- `fristen::is_initial` meets its contract. The invariant: the rest of the table decides.
+-- Assumes nothing.
+use Prim.Native.Nat.{◌≤◌, ◌-◌}
+use mathlib.Core.Path.{◌≡◌}
+use lib.Dec.{eqb}
+use lib.ListN.{drop}
+use Rattle.zaehlung.specs.Lists.{any}
+use Rattle.fristen.specs.Fristen.{gas_initialprozess_pids, is_initial}
+use Rattle.fristen.proofs.Rules.{pid_start, pid_hit, pid_miss, pid_none}
+use borrow.Author.Rules.{rules}
+use Rattle.fristen.proofs.is_initial.Goals as goal
+
+pub loop-i-init : goal.loop-i-init
+loop-i-init c = search (rules, pid_start)
+
+pub returns-then-pid-initial : goal.returns-then-pid-initial
+returns-then-pid-initial c = search (rules, pid_hit)
+
+pub loop-i-preserved : goal.loop-i-preserved
+loop-i-preserved c = search (rules, pid_miss, c.if-pid-initial.false)
+
+pub returns : goal.returns
+returns c = search (rules, pid_none)

@@ -1,0 +1,41 @@
+-- `schritte::tested::test_days` meets its contract. The invariant: the Werktage so far are those among the days tested
+-- so far, and the walk stands at the last of them.
+-- Assumes nothing.
+use Rattle.schritte.proofs.TestedRules.{test_rules}
+use borrow.Author.Rules.{rules}
+use Prim.Native.Nat.{◌+◌, ◌-◌, ◌≤◌}
+use mathlib.Core.Path.{◌≡◌}
+use Rattle.zaehlung.specs.Walk.{among}
+use Rattle.werktag.specs.Werktag.{is_werktag}
+use Rattle.gang.specs.Stand.{Stands}
+use Rattle.schritte.proofs.tested.test_days.Goals as goal
+
+pub stand_at-at-requires : goal.stand_at-at-requires
+stand_at-at-requires c = search (rules, test_rules)
+
+pub werktage_at-werktage-requires : goal.werktage_at-werktage-requires
+werktage_at-werktage-requires c = search (rules, test_rules)
+
+pub loop-at-init : goal.loop-at-init
+loop-at-init c = search (rules, test_rules)
+
+pub on-at-requires : goal.on-at-requires
+on-at-requires c = search (rules, test_rules)
+
+pub overflow_add-tested : goal.overflow_add-tested
+overflow_add-tested c = search (rules, test_rules)
+
+pub werktage_at-werktage-requires-in-loop-at : goal.werktage_at-werktage-requires-in-loop-at
+werktage_at-werktage-requires-in-loop-at c = search (rules, test_rules)
+
+pub overflow_add-werktage : goal.overflow_add-werktage
+overflow_add-werktage c = search (rules, test_rules)
+
+pub loop-at-smaller : goal.loop-at-smaller
+loop-at-smaller c = search (rules, test_rules)
+
+pub loop-at-preserved : goal.loop-at-preserved
+loop-at-preserved c = search (rules, test_rules)
+
+pub returns : goal.returns
+returns c = search (rules, test_rules)
