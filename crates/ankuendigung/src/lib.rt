@@ -2,6 +2,7 @@
 //
 // Document 01, vorlauf.rs: `eog_ankuendigung_fristgerecht`. A crate of its own, so that the lead times know no clock.
 #![tactic(auto)]
+
 ghost use Rattle.std.specs.Prelude.{◌≡◌, ◌≤◌};
 ghost use Rattle.zaehlung.specs.Walk.{last};
 ghost use Rattle.datum.specs.Tage.{tag_at};

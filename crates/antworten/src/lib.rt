@@ -1,5 +1,6 @@
 // What the calls of calendar and clock answer: the parameters read, refusals in document 01's order, and the layer
 // below asked.
 #![tactic(auto)]
+
 pub mod kalender;
 pub mod uhrzeit;

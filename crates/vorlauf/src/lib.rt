@@ -4,6 +4,7 @@
 // date; what is named in a verdict or a span is an index. t is the transmission day (Übertragungstag, ÜT), a the
 // anchor, the date that the message carries.
 #![tactic(auto)]
+
 ghost use Rattle.std.specs.Prelude.{◌≡◌, ◌≤◌, ◌<◌};
 ghost use Rattle.zaehlung.specs.Walk.{last, on_step, day_after, add, W, between};
 ghost use Rattle.datum.specs.Monate.{M};

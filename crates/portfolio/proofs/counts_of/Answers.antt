@@ -66,15 +66,14 @@ pub loop-i-smaller : goal.loop-i-smaller
 loop-i-smaller c = search (rules, counts_rules)
 
 pub loop-i-preserved : goal.loop-i-preserved
-loop-i-preserved c =
-    let l = c.before.before.before.before.before.before.before.before.before in (
-      refl,
-      search rules,
-      one_more _ _ _ _ _ _ _ l.loop.invariant.2 _ _ _
-          (search rules) (search rules) (search rules) (search rules),
-      search (rules, length-set),
-      search rules,
-    )
+loop-i-preserved c = (
+  refl,
+  search rules,
+  one_more _ _ _ _ _ _ _ c.loop-i.invariant.2 _ _ _
+      (search rules) (search rules) (search rules) (search rules),
+  search (rules, length-set),
+  search rules,
+)
 
 pub shape_of-counts : goal.shape_of-counts
 shape_of-counts c = search (rules, counts_rules)

@@ -1,0 +1,11 @@
+-- `antworten::kalender::shift_answer` meets its contract: a lemma for each case.
+-- Assumes nothing.
+use Rattle.antworten.proofs.Rules.{step_rules}
+use borrow.Author.Rules.{rules}
+use Rattle.antworten.proofs.kalender.shift_answer.Goals as goal
+
+pub returns-in-On : goal.returns-in-On
+returns-in-On c = search (rules, step_rules)
+
+pub returns-in-Outside : goal.returns-in-Outside
+returns-in-Outside c = search (rules, step_rules)
