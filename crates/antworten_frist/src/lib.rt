@@ -1,5 +1,6 @@
 // What the calls for due instants answer: document 01, refusals 2, 4, 5, 6 and 8.
 #![tactic(auto)]
+
 ghost use Rattle.std.specs.Prelude.{◌≡◌, ◌<◌, length, get_or};
 ghost use Rattle.werktag.specs.Werktag.{is_werktag};
 ghost use Rattle.fristen.specs.Inside.{ProperDue};

@@ -1,6 +1,7 @@
 // What the calls answer that give verdicts, spans, deregistrations and the 13:00 announcement: document 01, refusals 2,
 // 3, 4, 7 and 8.
 #![tactic(auto)]
+
 ghost use Rattle.std.specs.Prelude.{true, ◌≡◌, ◌≤◌, ◌<◌, length, get_or};
 ghost use Rattle.zaehlung.specs.Walk.{last};
 ghost use Rattle.datum.specs.Calendar.{is_date, days_before};

@@ -1,0 +1,23 @@
+-- `antworten_frist::contrl_due_at_answer` meets its contract: what is refused is refused in order, and the rest goes to
+-- the layer below.
+-- Assumes nothing.
+use Rattle.antworten_frist.proofs.Rules.{frist_rules}
+use Rattle.antworten_frist.specs.Frist.{contrl_due_at_answer}
+use Rattle.antworten.proofs.Codes.{code_known}
+use borrow.Author.Rules.{rules}
+use Rattle.antworten_frist.proofs.contrl_due_at_answer.Goals as goal
+
+pub returns-then-code-ge-ANLAESSE : goal.returns-then-code-ge-ANLAESSE
+unfolding contrl_due_at_answer
+returns-then-code-ge-ANLAESSE c = search (rules, frist_rules)
+
+pub returns-in_default : goal.returns-in_default
+unfolding contrl_due_at_answer
+returns-in_default c = code_known _ _ _ _ (search rules) (λ a. search (rules, frist_rules))
+
+pub contrl_due_at-requires : goal.contrl_due_at-requires
+contrl_due_at-requires c = search (rules, frist_rules)
+
+pub returns : goal.returns
+unfolding contrl_due_at_answer
+returns c = search (rules, frist_rules)
