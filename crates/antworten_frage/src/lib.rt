@@ -1,6 +1,7 @@
 // What a question of a file answers, and a whole file: document 02, F-1. A question is asked as the single call that it
 // stands for: its fields are the call's parameters, and its answer is the call's.
 #![tactic(auto)]
+
 ghost use Rattle.std.specs.Prelude.{◌≡◌};
 ghost use Rattle.werktag.specs.Werktag.{is_werktag};
 ghost use Rattle.antwortsatz.specs.Refusals.{unknown_code};

@@ -1,6 +1,7 @@
 // What a portfolio answers: document 02, F-5. The lists are looked at once their lengths are known to be right; the
 // answer reports how many entries of the year index were read for first days.
 #![tactic(auto)]
+
 ghost use Rattle.std.specs.Prelude.{◌≡◌};
 ghost use Rattle.werktag.specs.Werktag.{is_werktag};
 ghost use Rattle.antworten_portfolio.specs.Portfolio.{portfolio_reply};

@@ -10,8 +10,7 @@ use werktag::HolidayCalendar;
 /// single call's." Returns 0, or 9, "if the question bytes are no multiple of 32 or exceed 65,536, or the answers
 /// differ in length; then the answers stay untouched". Of 64 bytes, two CONTRL of the Regelfall received 31 March 2026
 /// 11:59:59 and 12:00:00 Berlin, the answers are 17:59:59 and 2 April 00:00. A file of no questions is answered with 0.
-#[unsafe(no_mangle)]
-pub extern "C" fn mf_questions(questions: &[u8], answers: &mut [u8]) -> u8
+pub fn mf_questions(questions: &[u8], answers: &mut [u8]) -> u8
     ensures { (result, answers.new) ≡ questions_reply (is_werktag BdewMaKo) questions.now
         answers.old }
 {

@@ -16,8 +16,7 @@ use werktag::HolidayCalendar;
 /// hours if received on Saturday. "Due at 31 March or 30 September 18:00:00 Berlin or later and before 2 April or 2
 /// October 00:00 becomes that midnight": Regelfall received 31 March 2026 12:00:00 is due 2 April 00:00, a second
 /// earlier 17:59:59.
-#[unsafe(no_mangle)]
-pub extern "C" fn mf_contrl_due_at(seconds: i64, nanos: u32, anlass: u8, answer: &mut [u8]) -> u8
+pub fn mf_contrl_due_at(seconds: i64, nanos: u32, anlass: u8, answer: &mut [u8]) -> u8
     ensures { (result, answer.new) ≡ reply answer.old
         (contrl_due_at_answer (read_instant seconds nanos) anlass) }
 {
@@ -27,8 +26,7 @@ pub extern "C" fn mf_contrl_due_at(seconds: i64, nanos: u32, anlass: u8, answer:
 /// When the Strom APERAK on a UTILMD or ORDERS is due: 45 minutes after its receipt; "Saturday gives Sunday 12:00".
 /// "Only Saturday is special": received Saturday, 10 January 2026, it is due on the 11th at 12:00 Berlin, received that
 /// Sunday, 45 minutes later.
-#[unsafe(no_mangle)]
-pub extern "C" fn mf_aperak_strom_due_at(seconds: i64, nanos: u32, answer: &mut [u8]) -> u8
+pub fn mf_aperak_strom_due_at(seconds: i64, nanos: u32, answer: &mut [u8]) -> u8
     ensures { (result, answer.new) ≡ reply answer.old
         (aperak_strom_due_at_answer (read_instant seconds nanos)) }
 {
@@ -42,12 +40,7 @@ pub extern "C" fn mf_aperak_strom_due_at(seconds: i64, nanos: u32, answer: &mut 
 
 /// When any other Strom APERAK is due: "12:00 of the first Werktag after the receipt day". Received 2 April 2026, it is
 /// due on 7 April at 12:00 Berlin. The receipt day is never that Werktag; refusal 8 where none follows in the calendar.
-#[unsafe(no_mangle)]
-pub extern "C" fn mf_aperak_strom_allgemein_due_at(
-    seconds: i64,
-    nanos: u32,
-    answer: &mut [u8],
-) -> u8
+pub fn mf_aperak_strom_allgemein_due_at(seconds: i64, nanos: u32, answer: &mut [u8]) -> u8
     ensures { (result, answer.new) ≡ reply answer.old
         (aperak_strom_allgemein_due_at_answer (is_werktag BdewMaKo) (read_instant seconds nanos)) }
 {
@@ -64,12 +57,7 @@ pub extern "C" fn mf_aperak_strom_allgemein_due_at(
 
 /// When the Gas APERAK of a follow-up process is due, kind 0: 12:00 of the first Werktag after the receipt day, as
 /// received 2 April 2026 on 7 April. The receipt day is never that Werktag.
-#[unsafe(no_mangle)]
-pub extern "C" fn mf_aperak_gas_folgeprozess_due_at(
-    seconds: i64,
-    nanos: u32,
-    answer: &mut [u8],
-) -> u8
+pub fn mf_aperak_gas_folgeprozess_due_at(seconds: i64, nanos: u32, answer: &mut [u8]) -> u8
     ensures { (result, answer.new) ≡ reply answer.old
         (aperak_gas_folgeprozess_due_at_answer (is_werktag BdewMaKo) (read_instant seconds nanos)) }
 {
@@ -86,12 +74,7 @@ pub extern "C" fn mf_aperak_gas_folgeprozess_due_at(
 
 /// When the Gas APERAK of an initial process is due, kind 1: "end of the third Werktag after the receipt day". Received
 /// 2 April 2026, it is due at the end of 9 April. The receipt day does not count, Werktag or not.
-#[unsafe(no_mangle)]
-pub extern "C" fn mf_aperak_gas_initialprozess_due_at(
-    seconds: i64,
-    nanos: u32,
-    answer: &mut [u8],
-) -> u8
+pub fn mf_aperak_gas_initialprozess_due_at(seconds: i64, nanos: u32, answer: &mut [u8]) -> u8
     ensures { (result, answer.new) ≡ reply answer.old
         (aperak_gas_initialprozess_due_at_answer (is_werktag BdewMaKo) (read_instant seconds nanos)) }
 {
@@ -108,8 +91,7 @@ pub extern "C" fn mf_aperak_gas_initialprozess_due_at(
 
 /// When the Gas APERAK of a Prüfidentifikator is due, "kind 1 for the initial process, else 0": 44001, 44016, 44039 and
 /// 44042 are initial, any other number is a follow-up. 44001 received 2 April 2026 is due at the end of 9 April.
-#[unsafe(no_mangle)]
-pub extern "C" fn mf_aperak_gas_due_at(pid: u32, seconds: i64, nanos: u32, answer: &mut [u8]) -> u8
+pub fn mf_aperak_gas_due_at(pid: u32, seconds: i64, nanos: u32, answer: &mut [u8]) -> u8
     ensures { (result, answer.new) ≡ reply answer.old
         (aperak_gas_due_at_answer (is_werktag BdewMaKo) pid (read_instant seconds nanos)) }
 {
@@ -123,8 +105,7 @@ pub extern "C" fn mf_aperak_gas_due_at(pid: u32, seconds: i64, nanos: u32, answe
 
 /// Some hours later, on the time line and not on the clock: 28 March 2026 12:00 Berlin and 24 hours is 29 March 13:00.
 /// Refusal 8 past the last day.
-#[unsafe(no_mangle)]
-pub extern "C" fn mf_add_hours(seconds: i64, nanos: u32, hours: u32, answer: &mut [u8]) -> u8
+pub fn mf_add_hours(seconds: i64, nanos: u32, hours: u32, answer: &mut [u8]) -> u8
     ensures { (result, answer.new) ≡ reply answer.old
         (add_hours_answer (read_instant seconds nanos) hours) }
 {
@@ -138,13 +119,7 @@ pub extern "C" fn mf_add_hours(seconds: i64, nanos: u32, hours: u32, answer: &mu
 
 /// The end of the n-th Werktag after the Berlin day of an instant; with 0 that day's own end, Werktag or not. From 2
 /// April 2026 with 1: 7 April 23:59:59.999999999.
-#[unsafe(no_mangle)]
-pub extern "C" fn mf_deadline_at_werktage(
-    seconds: i64,
-    nanos: u32,
-    werktage: u32,
-    answer: &mut [u8],
-) -> u8
+pub fn mf_deadline_at_werktage(seconds: i64, nanos: u32, werktage: u32, answer: &mut [u8]) -> u8
     ensures { (result, answer.new) ≡ reply answer.old
         (deadline_at_werktage_answer (is_werktag BdewMaKo) (read_instant seconds nanos) werktage) }
 {
@@ -162,13 +137,7 @@ pub extern "C" fn mf_deadline_at_werktage(
 
 /// The end of the n-th Werktag after the receipt day; with 0 that day's own end. Received 2 April 2026, with 3: the end
 /// of 9 April.
-#[unsafe(no_mangle)]
-pub extern "C" fn mf_end_of_werktag_after(
-    seconds: i64,
-    nanos: u32,
-    werktage: u32,
-    answer: &mut [u8],
-) -> u8
+pub fn mf_end_of_werktag_after(seconds: i64, nanos: u32, werktage: u32, answer: &mut [u8]) -> u8
     ensures { (result, answer.new) ≡ reply answer.old
         (end_of_werktag_after_answer (is_werktag BdewMaKo) (read_instant seconds nanos) werktage) }
 {
@@ -186,8 +155,7 @@ pub extern "C" fn mf_end_of_werktag_after(
 
 /// A clock time on the first Werktag after the receipt day: received 2 April 2026, 12:00 of 7 April. 24:00 is no clock:
 /// refusal 5, after the instant's limits.
-#[unsafe(no_mangle)]
-pub extern "C" fn mf_next_werktag_at(
+pub fn mf_next_werktag_at(
     seconds: i64,
     nanos: u32,
     hour: u8,
@@ -210,8 +178,7 @@ pub extern "C" fn mf_next_werktag_at(
 }
 
 /// A clock time on the n-th Werktag after the receipt day; "with 0 equals 1". Received 2 April 2026, with 2: 8 April.
-#[unsafe(no_mangle)]
-pub extern "C" fn mf_nth_werktag_at(
+pub fn mf_nth_werktag_at(
     seconds: i64,
     nanos: u32,
     n: u32,
@@ -236,8 +203,7 @@ pub extern "C" fn mf_nth_werktag_at(
 
 /// When an answer of a shape is due. "`SameDayAt` received exactly at the clock time goes to the next Werktag": 12:00,
 /// received 9 January 2026 12:00, is 12 January 12:00. A count or clock that the shape does not use is not looked at.
-#[unsafe(no_mangle)]
-pub extern "C" fn mf_frist_due_at(
+pub fn mf_frist_due_at(
     shape: u8,
     werktage: u32,
     hour: u8,

@@ -5,6 +5,7 @@
 // `antworten_portfolio`. Refusal 1 is found first, by the call or by what it shares with a file of questions; every
 // other is decided in the answer, but 9, which is a file's.
 #![tactic(auto)]
+
 mod fragen;
 mod frist;
 mod kalender;

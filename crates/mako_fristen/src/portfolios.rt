@@ -12,13 +12,7 @@ use werktag::HolidayCalendar;
 /// differ in length or have over 4,096 entries"; "A refused call leaves the third list untouched."
 ///
 /// From 2 and from 6 April 2026, 20,545 and 20,549, to 7 April, 20,550, there is 1 Werktag each, and the count is 1.
-#[unsafe(no_mangle)]
-pub extern "C" fn mf_portfolio(
-    from: &[u32],
-    to: &[u32],
-    counts: &mut [u32],
-    answer: &mut [u8],
-) -> u8
+pub fn mf_portfolio(from: &[u32], to: &[u32], counts: &mut [u32], answer: &mut [u8]) -> u8
     ensures { (result, counts.new, answer.new)
         ≡ portfolio_reply (is_werktag BdewMaKo) from.now to.now counts.old
         answer.old }

@@ -10,8 +10,7 @@ use datum::Date;
 
 /// The instant at which the Berlin clock shows a time on a date. "A repeated local time means its earlier instant": 25
 /// October 2026 02:30 is 00:30 UTC. 29 March 02:30 is absent: refusal 6.
-#[unsafe(no_mangle)]
-pub extern "C" fn mf_berlin_at(
+pub fn mf_berlin_at(
     year: u16,
     month: u8,
     day: u8,
@@ -35,8 +34,7 @@ pub extern "C" fn mf_berlin_at(
 
 /// The first instant of a Berlin day: 9 January 2026 begins on the 8th at 23:00 UTC, 9 July on the 8th at 22:00.
 /// Midnight is never absent or repeated.
-#[unsafe(no_mangle)]
-pub extern "C" fn mf_berlin_midnight(year: u16, month: u8, day: u8, answer: &mut [u8]) -> u8
+pub fn mf_berlin_midnight(year: u16, month: u8, day: u8, answer: &mut [u8]) -> u8
     ensures { (result, answer.new) ≡ reply answer.old
         (berlin_midnight_answer (date_from year month day)) }
 {
@@ -50,8 +48,7 @@ pub extern "C" fn mf_berlin_midnight(year: u16, month: u8, day: u8, answer: &mut
 
 /// The last instant of a Berlin day, 23:59:59.999999999: that of 9 January 2026 is 22:59:59.999999999 UTC. It is never
 /// absent or repeated.
-#[unsafe(no_mangle)]
-pub extern "C" fn mf_end_of_day_berlin(year: u16, month: u8, day: u8, answer: &mut [u8]) -> u8
+pub fn mf_end_of_day_berlin(year: u16, month: u8, day: u8, answer: &mut [u8]) -> u8
     ensures { (result, answer.new) ≡ reply answer.old
         (end_of_day_berlin_answer (date_from year month day)) }
 {
@@ -65,14 +62,7 @@ pub extern "C" fn mf_end_of_day_berlin(year: u16, month: u8, day: u8, answer: &m
 
 /// The instant at which a day begins in a Sparte: "Strom begins at 00:00, Gas at 06:00 Berlin." The Gas day 29 March
 /// 2026 begins at 04:00 UTC. Code 2 is no Sparte: refusal 2, before the date is looked at.
-#[unsafe(no_mangle)]
-pub extern "C" fn mf_tagesbeginn_utc(
-    year: u16,
-    month: u8,
-    day: u8,
-    sparte: u8,
-    answer: &mut [u8],
-) -> u8
+pub fn mf_tagesbeginn_utc(year: u16, month: u8, day: u8, sparte: u8, answer: &mut [u8]) -> u8
     ensures { (result, answer.new) ≡ reply answer.old
         (tagesbeginn_utc_answer (date_from year month day) sparte) }
 {
@@ -86,8 +76,7 @@ pub extern "C" fn mf_tagesbeginn_utc(
 
 /// The Berlin date of an instant, not the UTC date: 8 January 2026 23:30 UTC is 9 January. Seconds before 820,450,800
 /// or after 29,348,002,799 are refused with 4.
-#[unsafe(no_mangle)]
-pub extern "C" fn mf_berlin_date(seconds: i64, nanos: u32, answer: &mut [u8]) -> u8
+pub fn mf_berlin_date(seconds: i64, nanos: u32, answer: &mut [u8]) -> u8
     ensures { (result, answer.new) ≡ reply answer.old
         (berlin_date_answer (read_instant seconds nanos)) }
 {
@@ -101,8 +90,7 @@ pub extern "C" fn mf_berlin_date(seconds: i64, nanos: u32, answer: &mut [u8]) ->
 
 /// The date of the day that begins at an instant in a Sparte: 29 March 2026 04:00 UTC begins the Gas day 29 March, and
 /// no Strom day: refusal 7.
-#[unsafe(no_mangle)]
-pub extern "C" fn mf_tag_des_beginns(seconds: i64, nanos: u32, sparte: u8, answer: &mut [u8]) -> u8
+pub fn mf_tag_des_beginns(seconds: i64, nanos: u32, sparte: u8, answer: &mut [u8]) -> u8
     ensures { (result, answer.new) ≡ reply answer.old
         (tag_des_beginns_answer (read_instant seconds nanos) sparte) }
 {

@@ -16,8 +16,7 @@ use werktag::HolidayCalendar;
 /// `LatestWerktageBefore(1)` for 10 January 2026, a Saturday, against Monday, the 12th, is TooLate, 0, and names that
 /// Monday. "The two month shapes compute their earliest date even when the verdict is Ok": refusal 8 where it leaves
 /// the calendar.
-#[unsafe(no_mangle)]
-pub extern "C" fn mf_vorlauf_check(
+pub fn mf_vorlauf_check(
     shape: u8,
     count: u32,
     count2: u32,
@@ -53,8 +52,7 @@ pub extern "C" fn mf_vorlauf_check(
 /// The same for a transmission instant and an anchor given as a day's beginning: "4 for either, 7 for the anchor, 8".
 /// Only the anchor goes by the Sparte: in Gas, 12 January 2026 05:00 UTC is the anchor 12 January, in Strom it begins
 /// no day.
-#[unsafe(no_mangle)]
-pub extern "C" fn mf_vorlauf_check_at(
+pub fn mf_vorlauf_check_at(
     shape: u8,
     count: u32,
     count2: u32,
@@ -89,8 +87,7 @@ pub extern "C" fn mf_vorlauf_check_at(
 /// The anchors that a shape takes for a transmission date: "Kind 0 no last day, 1 both, 2 empty with both dates zero".
 /// `LatestWerktageBefore(1)` for 10 January 2026: from 13 January on. Refusal 8 where an end leaves the calendar, also
 /// of a window that would be empty.
-#[unsafe(no_mangle)]
-pub extern "C" fn mf_vorlauf_span(
+pub fn mf_vorlauf_span(
     shape: u8,
     count: u32,
     count2: u32,
@@ -116,8 +113,7 @@ pub extern "C" fn mf_vorlauf_span(
 /// The case of a deregistration: "only the three bytes "ZQ7" are the deactivation reason; "zq7", "ZQ7 " and an empty
 /// reason are ordinary". "ZQ7" has kind 3 with any of the three EEG marks. Any other reason with the mark 1, yes, has
 /// kind 1.
-#[unsafe(no_mangle)]
-pub extern "C" fn mf_abmeldung_fuer(reason: &[u8], eeg: u8, answer: &mut [u8]) -> u8
+pub fn mf_abmeldung_fuer(reason: &[u8], eeg: u8, answer: &mut [u8]) -> u8
     ensures { (result, answer.new) ≡ reply answer.old
         (abmeldung_fuer_answer reason.now eeg) }
 {
@@ -130,8 +126,7 @@ pub extern "C" fn mf_abmeldung_fuer(reason: &[u8], eeg: u8, answer: &mut [u8]) -
 
 /// The verdict of a deregistration, kind 3 where it has no shape: "ZQ7, or an unknown EEG mark". Its two dates are
 /// checked even then. An ordinary one on 8 January 2026 for the 9th: TooLate, 1, 10 January.
-#[unsafe(no_mangle)]
-pub extern "C" fn mf_abmeldung_check(
+pub fn mf_abmeldung_check(
     reason: &[u8],
     eeg: u8,
     year: u16,
@@ -167,8 +162,7 @@ pub extern "C" fn mf_abmeldung_check(
 
 /// Whether an announcement keeps its Frist, 13:00 of the last Werktag before the beginning: for 12 January 2026, 9
 /// January 13:00 has kind 1, a nanosecond later kind 0, and from 12 January 00:00 on kind 2, neither.
-#[unsafe(no_mangle)]
-pub extern "C" fn mf_eog_ankuendigung_fristgerecht(
+pub fn mf_eog_ankuendigung_fristgerecht(
     seconds: i64,
     nanos: u32,
     year: u16,
