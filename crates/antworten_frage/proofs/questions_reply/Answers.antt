@@ -2,7 +2,8 @@
 -- questions that are left, are those of the whole file.
 -- Assumes nothing.
 use Prim.Native.Nat.{◌-◌, ◌%◌, ◌≤◌}
-use mathlib.Core.Path.{◌≡◌, ◌∙◌}
+use mathlib.Core.Path.{◌≡◌, ◌∙◌, ap}
+use mathlib.Core.Bool.{not}
 use borrow.Author.Rules.{rules}
 use lib.ListN.{length}
 use Rattle.werktag.specs.Werktag.{is_werktag}
@@ -24,12 +25,6 @@ overflow_add-at c = search (rules, file_rules)
 pub slice_bounds-question_of-count : goal.slice_bounds-question_of-count
 slice_bounds-question_of-count c = search (rules, file_rules)
 
--- UNMATCHED part-question-of-start : tie.Need-slice-bounds-question-of-start invariant-loop decreases-loop
--- part-question-of-start c = search (rules, file_rules)
-
--- UNMATCHED part-question-of-end : tie.Need-slice-bounds-question-of-end invariant-loop decreases-loop
--- part-question-of-end c = search (rules, file_rules)
-
 pub question_of-question-requires : goal.question_of-question-requires
 question_of-question-requires c = search (rules, file_rules)
 
@@ -38,12 +33,6 @@ overflow_add-at-in-loop-at c = search (rules, file_rules)
 
 pub slice_bounds-question_reply-count : goal.slice_bounds-question_reply-count
 slice_bounds-question_reply-count c = search (rules, file_rules)
-
--- UNMATCHED part-question-reply-start : tie.Need-slice-bounds-question-reply-start invariant-loop decreases-loop
--- part-question-reply-start c = search (rules, file_rules)
-
--- UNMATCHED part-question-reply-end : tie.Need-slice-bounds-question-reply-end invariant-loop decreases-loop
--- part-question-reply-end c = search (rules, file_rules)
 
 pub question_reply-requires : goal.question_reply-requires
 question_reply-requires c = search (rules, file_rules)
@@ -56,13 +45,10 @@ loop-at-smaller c = search (rules, file_rules)
 
 pub loop-at-preserved : goal.loop-at-preserved
 loop-at-preserved c =
-    let r = c.before.before in
-    let q = r.before.before in
-    let t = q.before.before in
-    let i = t.before.loop.invariant in (
+    let i = c.loop-at.invariant in (
       one_more _ _ _ _ _ _ _
-          (i.1 ∙ i.2) i.3 i.4 t.loop-test.true q.question-of.ensures
-          r.question-reply.ensures i.0,
+          (i.1 ∙ i.2) i.3 i.4 c.loop-at-test.true c.question_of-question.ensures
+          c.question_reply.ensures i.0,
       search rules,
       search rules,
       search rules,
@@ -75,6 +61,5 @@ shape_of-answers c = search (rules, file_rules)
 
 pub returns : goal.returns
 returns c =
-    let e = c.before.before in
     let i = c.loop-at.invariant in
-    file_answered _ _ _ _ e.before.is-file.ensures _ _ e.if1.false i.0 (i.1 ∙ i.2) c.loop-at-test.false
+    file_answered _ _ _ _ c.is_file.ensures _ _ (ap not c.if-not-is_file.false) i.0 (i.1 ∙ i.2) c.loop-at-test.false

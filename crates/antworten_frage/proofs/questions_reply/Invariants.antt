@@ -10,7 +10,7 @@ use Rattle.antworten_frage.proofs.Rules.{Answered, one_more, file_answered, file
 use Rattle.antworten_frage.proofs.questions_reply.Given as goal
 
 abbrev pub invariant-loop-at : goal.invariant-loop-at
-invariant-loop-at l =     Answered (is_werktag l.cal) l.questions l.answers l.at
+invariant-loop-at l = Answered (is_werktag l.cal) l.questions l.answers l.at
     × (length l.answers ≡ length l.initial.answers)
     × (length l.initial.answers ≡ length l.questions)
     × (length l.questions % 32 ≡ 0)
