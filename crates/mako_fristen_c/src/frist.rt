@@ -128,7 +128,15 @@ pub extern "C" fn mf_next_werktag_at(
         (next_werktag_at_answer (is_werktag BdewMaKo) (read_instant seconds nanos)
         (read_clock hour minute second nanos_of_second)) }
 {
-    mako_fristen::mf_next_werktag_at(seconds, nanos, hour, minute, second, nanos_of_second, answer)
+    mako_fristen::mf_next_werktag_at(
+        seconds,
+        nanos,
+        hour,
+        minute,
+        second,
+        nanos_of_second,
+        answer,
+    )
 }
 
 /// [`mako_fristen::mf_nth_werktag_at`] for C.
@@ -147,7 +155,16 @@ pub extern "C" fn mf_nth_werktag_at(
         (nth_werktag_at_answer (is_werktag BdewMaKo) (read_instant seconds nanos) n
         (read_clock hour minute second nanos_of_second)) }
 {
-    mako_fristen::mf_nth_werktag_at(seconds, nanos, n, hour, minute, second, nanos_of_second, answer)
+    mako_fristen::mf_nth_werktag_at(
+        seconds,
+        nanos,
+        n,
+        hour,
+        minute,
+        second,
+        nanos_of_second,
+        answer,
+    )
 }
 
 /// [`mako_fristen::mf_frist_due_at`] for C.
@@ -167,5 +184,15 @@ pub extern "C" fn mf_frist_due_at(
         (frist_due_at_answer (is_werktag BdewMaKo) shape werktage (read_clock hour minute second nanos_of_second)
         (read_instant seconds nanos)) }
 {
-    mako_fristen::mf_frist_due_at(shape, werktage, hour, minute, second, nanos_of_second, seconds, nanos, answer)
+    mako_fristen::mf_frist_due_at(
+        shape,
+        werktage,
+        hour,
+        minute,
+        second,
+        nanos_of_second,
+        seconds,
+        nanos,
+        answer,
+    )
 }

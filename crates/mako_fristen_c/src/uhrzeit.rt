@@ -21,7 +21,16 @@ pub extern "C" fn mf_berlin_at(
     ensures { (result, answer.new) ≡ reply answer.old
         (berlin_at_answer (date_from year month day) (read_clock hour minute second nanos_of_second)) }
 {
-    mako_fristen::mf_berlin_at(year, month, day, hour, minute, second, nanos_of_second, answer)
+    mako_fristen::mf_berlin_at(
+        year,
+        month,
+        day,
+        hour,
+        minute,
+        second,
+        nanos_of_second,
+        answer,
+    )
 }
 
 /// [`mako_fristen::mf_berlin_midnight`] for C.

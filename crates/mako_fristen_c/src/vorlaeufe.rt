@@ -27,7 +27,9 @@ pub extern "C" fn mf_vorlauf_check(
         (vorlauf_check_answer (is_werktag BdewMaKo) shape count count2 (date_from year month day)
         (date_from year2 month2 day2)) }
 {
-    mako_fristen::mf_vorlauf_check(shape, count, count2, year, month, day, year2, month2, day2, answer)
+    mako_fristen::mf_vorlauf_check(
+        shape, count, count2, year, month, day, year2, month2, day2, answer,
+    )
 }
 
 /// [`mako_fristen::mf_vorlauf_check_at`] for C.
@@ -47,7 +49,9 @@ pub extern "C" fn mf_vorlauf_check_at(
         (vorlauf_check_at_answer (is_werktag BdewMaKo) shape count count2 sparte (read_instant seconds nanos)
         (read_instant seconds2 nanos2)) }
 {
-    mako_fristen::mf_vorlauf_check_at(shape, count, count2, seconds, nanos, seconds2, nanos2, sparte, answer)
+    mako_fristen::mf_vorlauf_check_at(
+        shape, count, count2, seconds, nanos, seconds2, nanos2, sparte, answer,
+    )
 }
 
 /// [`mako_fristen::mf_vorlauf_span`] for C.
