@@ -49,7 +49,8 @@ module _ (w : ℕ → Bool) (m n : Moment) (i : ℕ) (b : Bool) (g : n ≡ berli
   neither t = rw (at_midnight false (not-true b t))
 
   pub no_werktag :
-      (s : TagStep) → not b ≡ false → s ≡ tag_step (sub w i 1) → s ≡ Gone → Outside ≡ eog_ankuendigung_fristgerecht w m i
+      (s : TagStep) → not b ≡ false → s ≡ tag_step (sub w i 1) → s ≡ Gone →
+          Outside ≡ eog_ankuendigung_fristgerecht w m i
   unfolding eog_ankuendigung_fristgerecht
   no_werktag s t p q = rw (at_midnight true (not-false b t), gone s (sub w i 1) p q)
 
@@ -70,7 +71,8 @@ module _ (w : ℕ → Bool) (m n : Moment) (i : ℕ) (b : Bool) (g : n ≡ berli
     unfolding eog_ankuendigung_fristgerecht
     later h = rw (at_midnight true (not-false b t), reached, ← o, ne_eqb d e (λ z. omega arith))
 
-    pub in_time : (r : Bool) → e ≤ d → d ≤ e → r ≡ is_by_thirteen e m → r ≡ true → Ja ≡ eog_ankuendigung_fristgerecht w m i
+    pub in_time : (r : Bool) → e ≤ d → d ≤ e → r ≡ is_by_thirteen e m → r ≡ true →
+        Ja ≡ eog_ankuendigung_fristgerecht w m i
     unfolding eog_ankuendigung_fristgerecht
     in_time r h g u v = rw (at_midnight true (not-false b t), reached, ← o, eq-eqb d e (omega arith), sym u ∙ v)
 

@@ -48,7 +48,8 @@ pub fn eog_ankuendigung_fristgerecht(
     cal: HolidayCalendar,
 ) -> Fristgerecht
     requires proper { Proper uez }
-    requires zuordnungsbeginn_value { (zuordnungsbeginn ≡ tag_at zuordnungsbeginn.index) × (zuordnungsbeginn.index ≤ last) }
+    requires zuordnungsbeginn_value { (zuordnungsbeginn ≡ tag_at zuordnungsbeginn.index)
+        × (zuordnungsbeginn.index ≤ last) }
     ensures { result ≡ eog_ankuendigung_fristgerecht (is_werktag cal) uez zuordnungsbeginn.index }
 {
     if !berlin::is_before(uez, berlin::berlin_midnight(zuordnungsbeginn.index)) {

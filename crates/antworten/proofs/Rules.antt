@@ -43,7 +43,8 @@ use Rattle.berlin.proofs.Proper.{read_proper, clock_proper as read-clock-proper,
 use Rattle.berlin.proofs.Proper.{begin_proper, beginn_le}
 use Rattle.datum.proofs.Signed.{back, back_pos}
 use Rattle.antwortsatz.specs.declared.Answer.{Answer}
-use Rattle.antwortsatz.specs.Refusals.{no_date, instant_outside, no_clock, local_time_absent, no_beginning, leaves_calendar}
+use Rattle.antwortsatz.specs.Refusals.{no_date, instant_outside, no_clock, local_time_absent, no_beginning}
+use Rattle.antwortsatz.specs.Refusals.{leaves_calendar}
 use Rattle.antwortsatz.specs.Answers.{refused, of_kind, counted, dated, at_instant}
 use Rattle.antworten.specs.Inside.{InsideBeginn, ProperReading, ProperClockReading, ProperResolved}
 use Rattle.antworten.specs.Reading.{on_date, step_answer, shift_answer, on_instant, on_clock}
@@ -56,7 +57,8 @@ module _ (d : Date) (x : Index) where
       (f : ℕ → Answer) (r : Answer) → x ≡ index_of d → x ≡ NoDate → r ≡ refused no_date → r ≡ on_date (index_of d) f
   date_refused f r e q p = rw (sym e ∙ q) p
 
-  pub date_taken : (f : ℕ → Answer) (r : Answer) (i : ℕ) → x ≡ index_of d → x ≡ At i → r ≡ f i → r ≡ on_date (index_of d) f
+  pub date_taken : (f : ℕ → Answer) (r : Answer) (i : ℕ) → x ≡ index_of d → x ≡ At i → r ≡ f i →
+      r ≡ on_date (index_of d) f
   date_taken f r i e q p = rw (sym e ∙ q) p
 
   pub day_inside : (i : ℕ) → x ≡ index_of d → x ≡ At i → i ≤ last
@@ -92,7 +94,8 @@ date_tag d x i e q = ap (λ (y : Date). record { index = i; date = y }) (sym (in
 pub step_own : (s : TagStep) (t : Step) → s ≡ tag_step t → s ≡ tag_step (step_index s)
 step_own s t e = e ∙ ap tag_step (sym (index_of_step s t e))
 
-pub step_made : (s : TagStep) (t : Step) (r : Answer) → s ≡ tag_step t → r ≡ step_answer (step_index s) → r ≡ step_answer t
+pub step_made : (s : TagStep) (t : Step) (r : Answer) → s ≡ tag_step t → r ≡ step_answer (step_index s) →
+    r ≡ step_answer t
 step_made s t r e p = p ∙ ap step_answer (index_of_step s t e)
 
 pub shift_made : (s t : Shifted) (r : Answer) → s ≡ t → r ≡ shift_answer s → r ≡ shift_answer t

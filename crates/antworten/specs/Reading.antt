@@ -1,7 +1,7 @@
 -- What every group of host calls shares: the parameters read, and a refusal where they read as nothing.
 --   date_from y m d   = the date in a call's three parameters
 --   on_code l x f     = f of the entry numbered x of the list l, counted from 0, or refusal 2 where the list has none
---   sparten          = the Sparten in the order of their codes
+--   sparten           = the Sparten in the order of their codes
 --   on_date i f       = f of the index that a given date has, or refusal 3
 --   on_instant k f    = f of the instant that was read, or refusal 4
 --   on_clock k f      = f of the clock that was read, or refusal 5
@@ -35,7 +35,8 @@ use Rattle.berlin.specs.declared.Sparte.{Sparte}
 use Rattle.berlin.specs.declared.Sparte.TheVariants.{Strom, Gas}
 use Rattle.berlin.specs.Berlin.{seconds_of, on_resolved}
 use Rattle.antwortsatz.specs.declared.Answer.{Answer}
-use Rattle.antwortsatz.specs.Refusals.{unknown_code, no_date, instant_outside, no_clock, local_time_absent, no_beginning}
+use Rattle.antwortsatz.specs.Refusals.{unknown_code, no_date, instant_outside, no_clock, local_time_absent}
+use Rattle.antwortsatz.specs.Refusals.{no_beginning}
 use Rattle.antwortsatz.specs.Refusals.{leaves_calendar}
 use Rattle.antwortsatz.specs.Answers.{refused, dated, at_instant}
 

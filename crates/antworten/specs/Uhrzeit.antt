@@ -1,10 +1,10 @@
 -- What the calls answer that put a clock on a date, or ask for the day of an instant.
---   berlin_at_answer d c         = the instant at which the Berlin clock shows c on d
---   berlin_midnight_answer d     = the first instant of d
---   end_of_day_berlin_answer d     = the last instant of d
---   tagesbeginn_utc_answer d x   = the instant at which d begins in the Sparte with code x
---   berlin_date_answer i         = the Berlin date of the instant i
---   tag_des_beginns_answer i x    = the date of the day that begins at i in the Sparte with code x
+--   berlin_at_answer d c       = the instant at which the Berlin clock shows c on d
+--   berlin_midnight_answer d   = the first instant of d
+--   end_of_day_berlin_answer d = the last instant of d
+--   tagesbeginn_utc_answer d x = the instant at which d begins in the Sparte with code x
+--   berlin_date_answer i       = the Berlin date of the instant i
+--   tag_des_beginns_answer i x = the date of the day that begins at i in the Sparte with code x
 -- Source: document 01, 'Clock on a date: 3; 5, hour over 23, minute or second over 59, nanoseconds over 999,999,999; 6,
 -- local time absent'; 'Day of an instant: 4, instant outside its limits; 7, not the beginning of a day in that Sparte
 -- (beginnings only)'; 'Any call: .. 2, a code is unknown'.
@@ -14,7 +14,8 @@ use Rattle.datum.specs.declared.Date.{Date}
 use Rattle.datum.specs.Calendar.{index_of, date_of}
 use Rattle.berlin.specs.declared.Reading.{Reading}
 use Rattle.berlin.specs.declared.ClockReading.{ClockReading}
-use Rattle.berlin.specs.Berlin.{berlin_date, berlin_at, berlin_midnight, end_of_day_berlin, tagesbeginn_utc, tag_des_beginns}
+use Rattle.berlin.specs.Berlin.{berlin_date, berlin_at, berlin_midnight, end_of_day_berlin, tagesbeginn_utc}
+use Rattle.berlin.specs.Berlin.{tag_des_beginns}
 use Rattle.antwortsatz.specs.declared.Answer.{Answer}
 use Rattle.antwortsatz.specs.Answers.{dated}
 use Rattle.antworten.specs.Reading.{on_code, sparten, on_date, on_instant, on_clock, moment_answer, resolved_answer}

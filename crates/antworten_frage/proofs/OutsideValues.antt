@@ -80,6 +80,7 @@ unfolding start at is_leap days_in_month year_len is_date index_of date_in date_
     same_day_at due_at_of closes reaches check_of span_of bits_in signed_in
     refused of_kind at_instant judged spanned bytes_of question_of is_file records on_code
     contrl_due_at_answer frist_due_at_answer vorlauf_check_answer vorlauf_span_answer
-    clock_of_seconds contrl_question_answer frist_question_answer check_question_answer span_question_answer question_answer
+    clock_of_seconds contrl_question_answer frist_question_answer check_question_answer span_question_answer
+    question_answer
     answers_to questions_reply
 cases = refl

@@ -1,14 +1,14 @@
 -- What a question of a file answers: the single call's definition on the question's fields. w is the test of a day: a
 -- Werktag by some list.
 --   clock_of_seconds n        = the time of day n seconds after 00:00 on the clock, or NoClock
---   clock_seconds h m s      = the count that a record has for the clock of a call: its seconds after 00:00, and one
---       that is no clock for numbers that are none
+--   clock_seconds h m s       = the count that a record has for the clock of a call: its seconds after 00:00, and one
+--                               that is no clock for numbers that are none
 --   contrl_question_answer q  = the question as a CONTRL: the occasion is its code
 --   frist_question_answer w q = as a due shape: its second count is the clock
 --   check_question_answer w q = as a verdict
 --   span_question_answer w q  = as a span
---   operations w q          = the question as each of the four, in the order of their codes
---   question_answer w q      = the answer of the question, by its operation, or refusal 2
+--   operations w q            = the question as each of the four, in the order of their codes
+--   question_answer w q       = the answer of the question, by its operation, or refusal 2
 -- Source: document 02, F-1: 'Byte 0 is the operation (0 CONTRL, 1 due shape, 2 verdict, 3 span)'; 'For a due shape the
 -- second count is the clock in whole seconds'; 'An answer equals the single call's. Checks: 2 also if byte 2 or 3 is
 -- not zero; 5 also for a clock over 86,399'.

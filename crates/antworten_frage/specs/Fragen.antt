@@ -1,7 +1,7 @@
 -- What a file of questions answers. w is the test of a day: a Werktag by some list.
---   answers_to w l         = the 32 bytes of each question's answer, one behind the other
---   questions_reply w l m  = the number returned and the answers at exit, for the questions l and answers that held m at
---       entry
+--   answers_to w l        = the 32 bytes of each question's answer, one behind the other
+--   questions_reply w l m = the number returned and the answers at exit, for the questions l and answers that held m at
+--                           entry
 -- Source: document 02, F-1: 'One answer of 32 bytes goes out per question, in the questions' order, refusals included';
 -- '9, before all others and for the whole call, if the question bytes are no multiple of 32 or exceed 65,536, or the
 -- answers differ in length; then the answers stay untouched'.

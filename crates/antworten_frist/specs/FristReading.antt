@@ -1,9 +1,9 @@
 -- What the calls for due instants share: their codes in order, and a due instant as an answer.
---   anlaesse           = the occasions of a CONTRL in the order of their codes
---   frist_shapes n k    = the shapes in the order of their codes, with the count n and the clock that was read
---   with_clock k f      = the shape f of that clock
---   on_shape s f        = f of the shape that was read, or refusal 5 where it uses a clock and that is none
---   due_answer k r      = a due instant beside kind k, or refusal 6 or 8
+--   anlaesse         = the occasions of a CONTRL in the order of their codes
+--   frist_shapes n k = the shapes in the order of their codes, with the count n and the clock that was read
+--   with_clock k f   = the shape f of that clock
+--   on_shape s f     = f of the shape that was read, or refusal 5 where it uses a clock and that is none
+--   due_answer k r   = a due instant beside kind k, or refusal 6 or 8
 -- Source: document 01, 'Host calls and their refusals': 'Codes count from 0 in the Rust's order of its cases'; 'A
 -- count, clock, date or instant that the operation or its shape doesn't use is not checked.'
 -- Assumes nothing.

@@ -14,7 +14,8 @@ ghost use Rattle.antworten_frist.specs.Frist.{aperak_strom_allgemein_due_at_answ
 ghost use Rattle.antworten_frist.specs.Frist.{aperak_gas_folgeprozess_due_at_answer};
 ghost use Rattle.antworten_frist.specs.Frist.{aperak_gas_initialprozess_due_at_answer};
 ghost use Rattle.antworten_frist.specs.Frist.{aperak_gas_due_at_answer, add_hours_answer, deadline_at_werktage_answer};
-ghost use Rattle.antworten_frist.specs.Frist.{end_of_werktag_after_answer, next_werktag_at_answer, nth_werktag_at_answer};
+ghost use Rattle.antworten_frist.specs.Frist.{end_of_werktag_after_answer, next_werktag_at_answer};
+ghost use Rattle.antworten_frist.specs.Frist.{nth_werktag_at_answer};
 ghost use Rattle.antworten_frist.specs.Frist.{frist_due_at_answer};
 
 use antwortsatz::{

@@ -1,8 +1,8 @@
 -- What a portfolio answers. w is the test of a day: a Werktag by some list.
---   portfolio_answer xs ys zs     = the answer for the days xs and ys and a third list zs, with every refusal but 1
---   counts_left n w xs ys zs      = what the third list holds at exit, n being the number returned
---   portfolio_reply w xs ys zs l  = the number returned, and the third list and the answer's slice at exit, for the days
---       xs and ys, a third list that held zs and a slice that held l at entry
+--   portfolio_answer xs ys zs    = the answer for the days xs and ys and a third list zs, with every refusal but 1
+--   counts_left n w xs ys zs     = what the third list holds at exit, n being the number returned
+--   portfolio_reply w xs ys zs l = the number returned, and the third list and the answer's slice at exit, for the days
+--                                  xs and ys, a third list that held zs and a slice that held l at entry
 -- Source: document 02, F-5: 'The number of entries read for first dates is reported in the count of the usual 32-byte
 -- answer and equals the number of such runs'; 'Checks: 10, after 1, if the three lists differ in length or have over
 -- 4,096 entries. A refused call leaves the third list untouched.'

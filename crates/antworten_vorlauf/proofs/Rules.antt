@@ -58,7 +58,8 @@ module _ (v : VorlaufVerdict) (d : Date) (r : Answer) where
   pub verdict_early : (b : ℕ) → v ≡ TooEarly b → d ≡ zero_date → r ≡ judged 2 b d → r ≡ verdict_answer v
   verdict_early b q e p = rw (q, ← e) p
 
-pub verdict_refused : (v : VorlaufVerdict) (r : Answer) → v ≡ Refused → r ≡ refused leaves_calendar → r ≡ verdict_answer v
+pub verdict_refused : (v : VorlaufVerdict) (r : Answer) → v ≡ Refused → r ≡ refused leaves_calendar →
+    r ≡ verdict_answer v
 verdict_refused v r q p = rw q p
 
 pub named_inside : (v : VorlaufVerdict) (b y : ℕ) → InsideVerdict v → v ≡ TooLate b y → y ≤ last
@@ -102,7 +103,8 @@ module _ (d : Date) (n : ℕ) (s : Shifted) (p : to_step s ≡ M n (days_before 
       let u : f ≡ date_of (days_before f) = sym (date_index f (valid_is f (rw q at h))) in
       rw (← p, q, ← u, ← g) k
 
-  pub month_gone : (r : Answer) → s ≡ Gone → r ≡ refused leaves_calendar → r ≡ span_answer (span_from (M n (days_before d)))
+  pub month_gone : (r : Answer) → s ≡ Gone → r ≡ refused leaves_calendar →
+      r ≡ span_answer (span_from (M n (days_before d)))
   month_gone r q k = rw (← p, q) k
 
 pub ruleset month_span_rules = (month_first, month_gone)
@@ -121,7 +123,8 @@ pub given_tag :
 given_tag d b t g f e = tag_is d t (valid_is d (date_valid d b g f)) (sym e)
 
 pub days_same :
-    (w : ℕ → Bool) (u : VorlaufShape) (d : Date) (t : ℕ) (s : Span) (r : Answer) → t ≡ days_before d → s ≡ span_of w u t →
+    (w : ℕ → Bool) (u : VorlaufShape) (d : Date) (t : ℕ) (s : Span) (r : Answer) → t ≡ days_before d →
+        s ≡ span_of w u t →
     r ≡ span_answer s → r ≡ span_answer (span_of w u (days_before d))
 days_same w u d t s r e q p = p ∙ ap span_answer (q ∙ ap (span_of w u) e)
 
@@ -160,7 +163,8 @@ module _ (m : Moment) (s : Sparte) (b : Beginn) (k : b ≡ tag_des_beginns m s) 
       (f : ℕ → Answer) (r : Answer) → b ≡ NoBeginning → r ≡ refused no_beginning → r ≡ on_beginn (tag_des_beginns m s) f
   beginn_refused f r q p = rw (sym k ∙ q) p
 
-  pub beginn_taken : (f : ℕ → Answer) (r : Answer) (i : ℕ) → b ≡ Begins i → r ≡ f i → r ≡ on_beginn (tag_des_beginns m s) f
+  pub beginn_taken : (f : ℕ → Answer) (r : Answer) (i : ℕ) → b ≡ Begins i → r ≡ f i →
+      r ≡ on_beginn (tag_des_beginns m s) f
   beginn_taken f r i q p = rw (sym k ∙ q) p
 
 -- answers made of what a layer below returned

@@ -1,11 +1,11 @@
 -- What the calls for verdicts, spans and deregistrations share: their codes in order, and what was found as an answer.
---   vorlauf_shapes n m   = the lead-time shapes with the counts n and m, in the order of their codes
---   eeg_marks            = the EEG marks in the order of their codes
---   verdict_answer v     = a verdict, or refusal 8
---   abmeldung_answer v   = a deregistration's verdict, or kind 3
---   span_answer p        = a span, or refusal 8
---   case_code v          = the code of a deregistration's case
---   announced_answer x   = yes, no or neither, or refusal 8
+--   vorlauf_shapes n m = the lead-time shapes with the counts n and m, in the order of their codes
+--   eeg_marks          = the EEG marks in the order of their codes
+--   verdict_answer v   = a verdict, or refusal 8
+--   abmeldung_answer v = a deregistration's verdict, or kind 3
+--   span_answer p      = a span, or refusal 8
+--   case_code v        = the code of a deregistration's case
+--   announced_answer x = yes, no or neither, or refusal 8
 -- Source: document 01, 'Host calls and their refusals': 'Codes count from 0 in the Rust's order of its cases; an EEG
 -- mark is 0 no, 1 yes, 2 unknown'.
 -- Assumes nothing.

@@ -1,18 +1,18 @@
 -- The answers of the host calls by name: those that fill one field, an instant, a verdict or a span, and those that
 -- refuse.
 --   filled r k n s x u v w = the answer of all its fields, in the order of their bytes
---   zero_date          = the date of a field that is not used
---   date_word d        = the date d as a word: year, month, day from the lowest byte up
---   refused x         = refusal x, all else zero: 'A refusal leaves bytes 1 to 31 zero'
---   of_kind k          = kind k alone: 'a deregistration reason [has] the code of its case'
---   counted n t = count n and the days tested, t: 'a count [fills] the count'; document 02, F-3: 'how many days it
---       tested, in bytes 24 to 27'
---   dated d           = date d alone: 'A step fills the date'
---   at_instant k s x = seconds s and nanoseconds x beside kind k: 'a Gas due instant [has] kind 1 for the initial
---       process, else 0'
---   judged k n d = kind k, count n and date d: 'A verdict has its Werktage in the count and its earliest date in the
---       date'
---   spanned k d e     = kind k, date d and last date e: '24 to 27 the span's last date'
+--   zero_date              = the date of a field that is not used
+--   date_word d            = the date d as a word: year, month, day from the lowest byte up
+--   refused x              = refusal x, all else zero: 'A refusal leaves bytes 1 to 31 zero'
+--   of_kind k              = kind k alone: 'a deregistration reason [has] the code of its case'
+--   counted n t            = count n and the days tested, t: 'a count [fills] the count'; document 02, F-3: 'how many
+--                            days it tested, in bytes 24 to 27'
+--   dated d                = date d alone: 'A step fills the date'
+--   at_instant k s x       = seconds s and nanoseconds x beside kind k: 'a Gas due instant [has] kind 1 for the initial
+--                            process, else 0'
+--   judged k n d           = kind k, count n and date d: 'A verdict has its Werktage in the count and its earliest date
+--                            in the date'
+--   spanned k d e          = kind k, date d and last date e: '24 to 27 the span's last date'
 -- Source: document 01, 'Host calls and their refusals'; 'Unused fields are zero'.
 -- Assumes nothing.
 use Rattle.std.specs.Prelude.{ℕ, ◌+◌, ◌*◌, ℤ, pos}

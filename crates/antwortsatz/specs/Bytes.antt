@@ -1,6 +1,6 @@
 -- The 32 bytes of an answer, and what a host call with that answer returns and leaves in the slice.
---   laid a s       = the 32 bytes of the answer a, with s for the bits of its seconds
---   bytes_of a      = the 32 bytes of the answer a
+--   laid a s   = the 32 bytes of the answer a, with s for the bits of its seconds
+--   bytes_of a = the 32 bytes of the answer a
 --   reply l a  = the number returned and the slice at exit, for a slice that held l at entry and the answer a
 -- Source: document 01, 'Host calls and their refusals': 'an answer of 32 bytes, little-endian, no header: byte 0
 -- refusal number or 0; 1 kind; 2 and 3 zero; 4 to 7 count; 8 to 15 seconds, signed; 16 to 19 nanoseconds; 20 to 23 a

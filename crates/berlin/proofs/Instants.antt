@@ -89,7 +89,8 @@ module _ (d t : ℕ) (h : t < 86400) where
         | no l ↦ rw (lt-leb 82800 t (omega arith), lt-leb first_second (d * 86400 + t) (omega arith))
       ]
 
-  pub after_first : (r : Bool) → 9495 ≤ d → (d ≡ 9495 → ⊥) → r ≡ is_by_last (d * 86400 + t) → r ≡ in_limits (d * 86400 + t)
+  pub after_first : (r : Bool) → 9495 ≤ d → (d ≡ 9495 → ⊥) → r ≡ is_by_last (d * 86400 + t) →
+      r ≡ in_limits (d * 86400 + t)
   unfolding in_limits
   after_first r g n p =
       elim (dec_le d 9495) [

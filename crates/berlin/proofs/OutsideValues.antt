@@ -9,7 +9,8 @@ use Rattle.datum.specs.Calendar.{is_leap, year_len, days_in_month, date_in, date
 use Rattle.berlin.specs.declared.Resolved.TheVariants.{At, Absent}
 use Rattle.berlin.specs.declared.Sparte.TheVariants.{Strom, Gas}
 use Rattle.berlin.specs.declared.Beginn.TheVariants.{Day, NoBeginning}
-use Rattle.berlin.specs.Berlin.{moment_of, last_sunday, summer_from, summer_to, year_at, offset_at, berlin_day, berlin_at}
+use Rattle.berlin.specs.Berlin.{moment_of, last_sunday, summer_from, summer_to, year_at, offset_at, berlin_day}
+use Rattle.berlin.specs.Berlin.{berlin_at}
 use Rattle.berlin.specs.Berlin.{berlin_midnight, end_of_day_berlin, tagesbeginn_utc, tag_des_beginns}
 
 -- 1996, 2000, 2026 (29 March and 25 October, 01:00 UTC) and 2037
@@ -24,7 +25,8 @@ switches = refl
 pub clocks :
     berlin_at 11045 (record { second = 9000; nanos = 0 }) ∷ berlin_at 11045 (record { second = 12600; nanos = 7 }) ∷
     berlin_at 11045 (record { second = 5400; nanos = 0 })
-    ∷ berlin_at 11255 (record { second = 9000; nanos = 0 }) ∷ berlin_at 11255 (record { second = 12600; nanos = 0 }) ∷ []
+    ∷ berlin_at 11255 (record { second = 9000; nanos = 0 }) ∷ berlin_at 11255 (record { second = 12600; nanos = 0 })
+        ∷ []
     ≡ Absent ∷ At (moment_of 1774747800 7) ∷ At (moment_of 1774744200 0)
     ∷ At (moment_of 1792888200 0) ∷ At (moment_of 1792895400 0) ∷ []
 unfolding berlin_at offset_at year_at last_sunday date_of date_in at start year_len days_in_month is_leap
@@ -37,7 +39,8 @@ pub beginnings :
     end_of_day_berlin 11322 ∷ []
     ≡ moment_of 1774756800 0 ∷ moment_of 1798758000 0 ∷ moment_of 1814392800 0 ∷ moment_of 1822363200 0 ∷
     moment_of 1798757999 999999999 ∷ []
-unfolding tagesbeginn_utc berlin_midnight end_of_day_berlin berlin_at offset_at year_at last_sunday date_of date_in at start
+unfolding tagesbeginn_utc berlin_midnight end_of_day_berlin berlin_at offset_at year_at last_sunday date_of date_in at
+    start
     year_len days_in_month is_leap
 beginnings = refl
 
@@ -49,7 +52,8 @@ pub days :
     ∷ tag_des_beginns (moment_of 1798675200 0) Gas ∷ tag_des_beginns (moment_of 1822363200 0) Gas ∷ []
     ≡ Day 11323 ∷ NoBeginning ∷ NoBeginning
     ∷ NoBeginning ∷ Day 11596 ∷ []
-unfolding tag_des_beginns tagesbeginn_utc berlin_midnight berlin_at offset_at year_at last_sunday date_of date_in at start year_len
+unfolding tag_des_beginns tagesbeginn_utc berlin_midnight berlin_at offset_at year_at last_sunday date_of date_in at
+    start year_len
     days_in_month is_leap
 days = refl
 

@@ -137,8 +137,8 @@ resolved_proper i c r m h u n e p =
 abbrev midnight : Clock
 midnight = o_clock 0
 
-abbrev last_second_lem : Clock
-last_second_lem = record { second = 86399; nanos = 999999999 }
+abbrev second_before_midnight : Clock
+second_before_midnight = record { second = 86399; nanos = 999999999 }
 
 abbrev six : Clock
 six = o_clock 6
@@ -148,9 +148,10 @@ module _ (i : ℕ) (h : i ≤ last) where
   unfolding berlin_midnight
   midnight_earliest = resolved_is i midnight h (proper_clock _ (omega arith) (omega arith)) (λ a b. omega arith)
 
-  pub end_earliest : Earliest i last_second_lem (end_of_day_berlin i)
+  pub end_earliest : Earliest i second_before_midnight (end_of_day_berlin i)
   unfolding end_of_day_berlin
-  end_earliest = resolved_is i last_second_lem h (proper_clock _ (omega arith) (omega arith)) (λ a b. omega arith)
+  end_earliest = resolved_is i second_before_midnight h (proper_clock _ (omega arith) (omega arith))
+      (λ a b. omega arith)
 
   pub gas_earliest : Earliest i six (tagesbeginn_utc i Gas)
   unfolding tagesbeginn_utc
@@ -158,14 +159,16 @@ module _ (i : ℕ) (h : i ≤ last) where
 
   pub midnight_proper : (m : Moment) → m ≡ berlin_midnight i → Proper m
   midnight_proper m e =
-      rw e (shown_proper i midnight (berlin_midnight i) h (proper_clock _ (omega arith) (omega arith)) midnight_earliest)
+      rw e (shown_proper i midnight (berlin_midnight i) h (proper_clock _ (omega arith) (omega arith))
+          midnight_earliest)
 
   pub midnight_second : (m : Moment) → m ≡ berlin_midnight i → m.second < 86400
   midnight_second m e = (midnight_proper m e).second_lt
 
   pub end_proper : (m : Moment) → m ≡ end_of_day_berlin i → Proper m
   end_proper m e =
-      rw e (shown_proper i last_second_lem (end_of_day_berlin i) h (proper_clock _ (omega arith) (omega arith)) end_earliest)
+      rw e (shown_proper i second_before_midnight (end_of_day_berlin i) h (proper_clock _ (omega arith) (omega arith))
+          end_earliest)
 
   begin_proper_at : (sp : Sparte) → Proper (tagesbeginn_utc i sp)
   unfolding tagesbeginn_utc

@@ -98,7 +98,8 @@ pub ruleset switch_rules = (guess_valid, march_is, october_is)
 pub before_is : (i t j u : ℕ) → ltb (i * 86400 + t) (j * 86400 + u) ≡ ltb (day_start i + t) (day_start j + u)
 before_is i t j u =
     elim (dec_lt (i * 86400 + t) (j * 86400 + u)) [
-      | yes l ↦ lt-ltb (i * 86400 + t) (j * 86400 + u) l ∙ sym (lt-ltb (day_start i + t) (day_start j + u) (omega arith))
+      | yes l ↦ lt-ltb (i * 86400 + t) (j * 86400 + u) l
+          ∙ sym (lt-ltb (day_start i + t) (day_start j + u) (omega arith))
       | no l ↦ le-ltb (i * 86400 + t) (j * 86400 + u) (omega arith) ∙
           sym (le-ltb (day_start i + t) (day_start j + u) (omega arith))
     ]
@@ -106,7 +107,8 @@ before_is i t j u =
 -- offset_at: a and b are what `switches_by` returned, f and g what `is_shown_before` returned
 module _ (i t : ℕ) (h : i ≤ last) (v : t < 86400) where
   pub offset_early :
-      (a : ℕ) (f : Bool) → a ≡ last_sunday (guessed_year i) 3 → f ≡ ltb (day_start i + t) (day_start a + 7200) → f ≡ true →
+      (a : ℕ) (f : Bool) → a ≡ last_sunday (guessed_year i) 3 → f ≡ ltb (day_start i + t) (day_start a + 7200) →
+          f ≡ true →
       3600 ≡ offset_at (day_start i + t - 3600)
   offset_early a f p q y =
       let l = ltb-true (day_start i + t) (day_start a + 7200) (sym q ∙ y) in
@@ -193,7 +195,8 @@ module _ (i : ℕ) (c : Clock) (h : i ≤ last) (u : ProperClock c) where
       rw e (sym (at_one i c v.0 v.1))
 
   pub at_gap :
-      (a : ℕ) (f g : Bool) → a ≡ last_sunday (guessed_year i) 3 → f ≡ ltb (day_start i + c.second) (day_start a + 7200) →
+      (a : ℕ) (f g : Bool) → a ≡ last_sunday (guessed_year i) 3 →
+          f ≡ ltb (day_start i + c.second) (day_start a + 7200) →
       f ≡ false → g ≡ ltb (day_start i + c.second) (day_start a + 10800) → g ≡ true → Absent ≡ berlin_at i c
   at_gap a f g p q y s z =
       let k = ltb-false (day_start i + c.second) (day_start a + 7200) (sym q ∙ y) in

@@ -16,7 +16,8 @@ use Rattle.zaehlung.specs.Walk.{bit, last}
 use Rattle.zaehlung.specs.Blocks.{start}
 use Rattle.zaehlung.proofs.BlockLaws.{start_suc, at_is, at_sum, at_below}
 use Rattle.datum.proofs.Dates.{year_len_at}
-use Rattle.datum.specs.Calendar.{is_leap, year_len, year_start, year_of, days_in_month, month_start, days_before, date_in}
+use Rattle.datum.specs.Calendar.{is_leap, year_len, year_start, year_of, days_in_month, month_start, days_before}
+use Rattle.datum.specs.Calendar.{date_in}
 use Rattle.datum.specs.Calendar.{date_of}
 use Rattle.datum.proofs.Years.{closed, year_len_bounds, start_all, start_none}
 use Rattle.berlin.specs.Berlin.{day_start, last_sunday, summer_from, summer_to, year_at, offset_at}

@@ -1,29 +1,31 @@
 -- Instants, gesetzliche deutsche Zeit and the beginnings of days. An instant is its whole seconds s since
 -- 1970-01-01T00:00Z and nanoseconds; a day is its index i in the calendar, counted from 1 January 1996; y is a year.
---   calendar_start          = days from 1 January 1970, from which instants count, to 1 January 1996, from which days do
---   day_seconds             = the seconds of a day; hours n, minutes n = theirs
---   most_nanos              = the most nanoseconds that an instant or a clock has
---   o_clock h               = the full hour h of the clock
---   day_start i             = 00:00 UTC of the day with index i
---   moment_of s x           = second s and nanoseconds x as a Moment; seconds_of m = the seconds of a Moment
---   is_before a b           = whether the instant a is earlier than b; same_instant a b = whether they are one
---   first_second last_second = the limits of an instant's seconds; in_limits s = whether s lies inside them, is_by_last s =
---                            whether it is not after the last
---   read_instant s x        = the instant of a host's numbers, or NoInstant
---   read_clock h m s x      = the time of day of a host's numbers, or NoClock
---   last_sunday y m         = the last Sunday of March (m = 3) or October (m = 10)
---   summer_from y           = the instant at which summer time begins in the year y; summer_to y = that at which it ends
---   year_at s               = the year in which s lies
---   offset_at s             = how many seconds Berlin is ahead of UTC at s
---   berlin_clock s          = what the Berlin clock shows at s, in seconds since 1970-01-01 00:00 on that clock
---   local_of s              = the same as day and second
---   berlin_day s            = the day in Berlin at s, by its index; berlin_date m = that of a Moment
---   shows s l              = whether the Berlin clock shows l at s
---   berlin_at i c           = the earliest instant at which the Berlin clock shows the time c of day i, or Absent
---   on_resolved z r f       = f of the instant that a local time means; z where no clock shows it
---   resolved_or r           = the instant of a time that is never absent
---   berlin_midnight i       = the instant at which day i begins; end_of_day_berlin i = its last
---   tagesbeginn_utc i sp    = the instant at which day i begins in the Sparte sp
+--   calendar_start           = days from 1 January 1970, from which instants count, to 1 January 1996, from which days
+--                              do
+--   day_seconds              = the seconds of a day; hours n, minutes n = theirs
+--   most_nanos               = the most nanoseconds that an instant or a clock has
+--   o_clock h                = the full hour h of the clock
+--   day_start i              = 00:00 UTC of the day with index i
+--   moment_of s x            = second s and nanoseconds x as a Moment; seconds_of m = the seconds of a Moment
+--   is_before a b            = whether the instant a is earlier than b; same_instant a b = whether they are one
+--   first_second last_second = the limits of an instant's seconds; in_limits s = whether s lies inside them, is_by_last
+--                              s = whether it is not after the last
+--   read_instant s x         = the instant of a host's numbers, or NoInstant
+--   read_clock h m s x       = the time of day of a host's numbers, or NoClock
+--   last_sunday y m          = the last Sunday of March (m = 3) or October (m = 10)
+--   summer_from y            = the instant at which summer time begins in the year y; summer_to y = that at which it
+--                              ends
+--   year_at s                = the year in which s lies
+--   offset_at s              = how many seconds Berlin is ahead of UTC at s
+--   berlin_clock s           = what the Berlin clock shows at s, in seconds since 1970-01-01 00:00 on that clock
+--   local_of s               = the same as day and second
+--   berlin_day s             = the day in Berlin at s, by its index; berlin_date m = that of a Moment
+--   shows s l                = whether the Berlin clock shows l at s
+--   berlin_at i c            = the earliest instant at which the Berlin clock shows the time c of day i, or Absent
+--   on_resolved z r f        = f of the instant that a local time means; z where no clock shows it
+--   resolved_or r            = the instant of a time that is never absent
+--   berlin_midnight i        = the instant at which day i begins; end_of_day_berlin i = its last
+--   tagesbeginn_utc i sp     = the instant at which day i begins in the Sparte sp
 --   tag_des_beginns m sp     = the day that m begins in the Sparte sp, or NoBeginning
 -- Source: document 01, first paragraph, 'lib.rs, Berlin', 'tagesbeginn.rs' and 'Host calls and their refusals';
 -- Directive 2000/84/EC, articles 1 to 3.

@@ -1,8 +1,8 @@
 -- What functions ask and promise of ranges; no reader need believe it.
 --   Proper m        m is an instant inside its limits
 --   ProperClock c   c is a time of day
---   is_inner_day d    = whether the UTC day d lies after the first that has an instant, 9,495, and before the last
---   guessed_year i   = the year of day i by the average length of a year: its own, or one at most two days away
+--   is_inner_day d = whether the UTC day d lies after the first that has an instant, 9,495, and before the last
+--   guessed_year i = the year of day i by the average length of a year: its own, or one at most two days away
 use Rattle.std.specs.Prelude.{ℕ, ◌+◌, ◌*◌, ◌/◌, ◌≤◌, ◌<◌, Bool, ◌&&◌, ltb}
 use Rattle.datum.specs.Calendar.{first_year}
 use Rattle.berlin.specs.declared.Moment.{Moment}

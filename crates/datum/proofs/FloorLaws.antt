@@ -118,15 +118,19 @@ module _ (d : ℕ) (D : Steps d) where
     split_second_fits h = rw (to_z-of_z f, to_z-of_z rem_fits, (floor_down s (test true h)).1) mod_fits
 
     pub split_day_down :
-        lt_z (back (rem_z (back s) (pos d))) (pos 0) ≡ true → back (back (quot_z (back s) (pos d)) -ℤ pos 1) ≡ floor_div s d
+        lt_z (back (rem_z (back s) (pos d))) (pos 0) ≡ true →
+        back (back (quot_z (back s) (pos d)) -ℤ pos 1) ≡ floor_div s d
     split_day_down h = rw (to_z-of_z f, to_z-of_z quot_fits, (floor_down s (test true h)).0, to_z-of_z floor_fits)
 
     pub split_second_down :
-        lt_z (back (rem_z (back s) (pos d))) (pos 0) ≡ true → back (back (rem_z (back s) (pos d)) +ℤ pos d) ≡ floor_mod s d
+        lt_z (back (rem_z (back s) (pos d))) (pos 0) ≡ true →
+        back (back (rem_z (back s) (pos d)) +ℤ pos d) ≡ floor_mod s d
     split_second_down h = rw (to_z-of_z f, to_z-of_z rem_fits, (floor_down s (test true h)).1, to_z-of_z mod_fits)
 
-    pub split_day : lt_z (back (rem_z (back s) (pos d))) (pos 0) ≡ false → back (quot_z (back s) (pos d)) ≡ floor_div s d
+    pub split_day : lt_z (back (rem_z (back s) (pos d))) (pos 0) ≡ false →
+        back (quot_z (back s) (pos d)) ≡ floor_div s d
     split_day h = rw (to_z-of_z f, to_z-of_z quot_fits) (floor_same s (test false h)).0
 
-    pub split_second : lt_z (back (rem_z (back s) (pos d))) (pos 0) ≡ false → back (rem_z (back s) (pos d)) ≡ floor_mod s d
+    pub split_second : lt_z (back (rem_z (back s) (pos d))) (pos 0) ≡ false →
+        back (rem_z (back s) (pos d)) ≡ floor_mod s d
     split_second h = rw (to_z-of_z f, to_z-of_z rem_fits) (floor_same s (test false h)).1

@@ -22,7 +22,8 @@ use Rattle.datum.proofs.Dates.{len_ge}
 use Rattle.datum.proofs.Signed.{back, clash, pos_fits, neg_fits, back_pos, sub_fits}
 
 -- in_month: n is what `days_in_month` returned
-module _ (y m x : ℕ) (l : Bool) (n : ℕ) (a : 1996 ≤ y) (b : y ≤ 2899) (g : l ≡ is_leap y) (e : n ≡ days_in_month l m) where
+module _ (y m x : ℕ) (l : Bool) (n : ℕ) (a : 1996 ≤ y) (b : y ≤ 2899) (g : l ≡ is_leap y)
+        (e : n ≡ days_in_month l m) where
   pub cut : n < x → ◌≡◌ {A = Shifted} (On (record { year = y; month = m; day = n })) (in_month y m x)
   unfolding in_month
   cut h =

@@ -1,13 +1,13 @@
 -- What the proofs of the shifts by months ask, with the premises in the form in which a proof has them: t is the
 -- day, taken apart, s and v are what shifts returned, r and u steps.
 --   month_some date_month tag_valid  the month of a date is one, and it is a date of the range: what a shift asks
---   *-dated first_dated        a shift reaches a date of the range: what `to_step` asks
+--   *_dated first_dated        a shift reaches a date of the range: what `to_step` asks
 --   date_valid                 so that date is one of the range: what `days_before` asks
---   toStep-* later_is earlier_is   the returns of `to_step`, `months_later`, `months_earlier`
+--   to_step_* later_is earlier_is   the returns of `to_step`, `months_later`, `months_earlier`
 --   date_gone date_kept date_first   the three returns of `months_or_first_date`; date_reached is what the second
 --                                    promises
 --   m_dated                    the return of `months_or_first`
---   month_rules                = these, for `search (needs, ..)`
+--   month_rules = these, for `search (rules, ..)`
 -- Source: the definitions of Monate.
 -- Assumes nothing.
 use Prim.Native.Nat.{ℕ, ◌≤◌, ◌<◌}

@@ -226,7 +226,8 @@ pub year_is : (i k s : ℕ) → i ≤ last → year_start k ≤ i → s ≡ year
 year_is i k s h a e b = sym (ap (λ (p : ℕ × ℕ). p.0) (year_found i k h a (omega arith)))
 
 pub year_day :
-    (i k s t : ℕ) → i ≤ last → year_start k ≤ i → s ≡ year_start (k + 1) → i < s → t ≡ year_start k → i - t ≡ (year_of i).1
+    (i k s t : ℕ) → i ≤ last → year_start k ≤ i → s ≡ year_start (k + 1) → i < s → t ≡ year_start k →
+    i - t ≡ (year_of i).1
 year_day i k s t h a e b f = let q = ap (λ (p : ℕ × ℕ). p.1) (year_found i k h a (omega arith)) in omega arith
 
 pub ruleset year_rules = (not_first, falls, again, year_is, year_day)
@@ -407,7 +408,8 @@ module _ (d : Date) (b : Bool) (g : b ≡ is_date d) where
 pub ruleset index_rules = (is_asked, has_day, no_date_lem)
 
 -- date_of: y and x are the year and the day in it that `year_of` returned
-module _ (i y x : ℕ) (h : i ≤ last) (e : y ≡ (year_of i).0) (f : x ≡ (year_of i).1) (l : Bool) (g : l ≡ is_leap (1996 + y))
+module _ (i y x : ℕ) (h : i ≤ last) (e : y ≡ (year_of i).0) (f : x ≡ (year_of i).1) (l : Bool)
+        (g : l ≡ is_leap (1996 + y))
   where
     pub day_in_year : x < 365 + bit l
     day_in_year = rw (g, e, f) (year_below i h)
@@ -436,7 +438,8 @@ module _ (i y x : ℕ) (h : i ≤ last) (e : y ≡ (year_of i).0) (f : x ≡ (ye
       unfolding date_of date_in
       date_is =
           let d : x - s ≡ (month_of l x).1 = omega (arith, parts) in
-          let b : ◌≡◌ {A = Date} (record { year = 1996 + y; month = m; day = x - s + 1 }) (date_in y x) = rw (d, p, g) in
+          let b : ◌≡◌ {A = Date} (record { year = 1996 + y; month = m; day = x - s + 1 }) (date_in y x) = rw (d, p,
+              g) in
           b ∙ ap₂ date_in e f
 
 pub ruleset date_rules = (day_in_year, month_by, day_fits, day_fits_32, date_is)

@@ -20,7 +20,8 @@ use Rattle.zaehlung.specs.Walk.{last}
 use Rattle.zaehlung.proofs.BlockLaws.{start_suc, start_mono, at_sum}
 use Rattle.datum.specs.declared.Date.{Date}
 use Rattle.datum.specs.declared.tage.Tag.{Tag}
-use Rattle.datum.specs.Calendar.{is_leap, year_len, year_start, year_of, days_in_month, month_start, days_before, date_in}
+use Rattle.datum.specs.Calendar.{is_leap, year_len, year_start, year_of, days_in_month, month_start, days_before}
+use Rattle.datum.specs.Calendar.{date_in}
 use Rattle.datum.specs.Calendar.{date_of}
 use Rattle.datum.specs.Tage.{tag_at}
 use Rattle.datum.proofs.Years.{start_all, start_none}

@@ -1,19 +1,19 @@
 -- The Gregorian calendar from 1 January 1996 to 31 December 2899.
 --   first_year, last_year = 1996 and 2899
---   is_leap y         = whether y is a leap year
---   days_in_month l m  = days of month m, counted from 1, in a leap (l) or a common year; 0 for no month
---   month_start l m   = days of the year before month m
---   year_len k        = days of the year 1996 + k
---   year_start k      = days from 1 January 1996 to 1 January of the year 1996 + k
---   is_date d         = whether d is a date of the range
---   days_before d     = the days from 1 January 1996 to a date of the range: its index
---   index_of d        = the index of a date, or NoDate
---   year_of i         = the year of the day with index i, counted from 1996, and the day in it, counted from 0
---   day_of_year i      = the days from 1 January of its year up to and including it
---   month_of l r      = the month of day r of a year, and the day in it, counted from 0
---   date_in k r       = the date of day r of the year 1996 + k
---   date_of i         = the date of the day with index i
---   weekday i        = the weekday of that day, Monday 0 to Sunday 6
+--   is_leap y             = whether y is a leap year
+--   days_in_month l m     = days of month m, counted from 1, in a leap (l) or a common year; 0 for no month
+--   month_start l m       = days of the year before month m
+--   year_len k            = days of the year 1996 + k
+--   year_start k          = days from 1 January 1996 to 1 January of the year 1996 + k
+--   is_date d             = whether d is a date of the range
+--   days_before d         = the days from 1 January 1996 to a date of the range: its index
+--   index_of d            = the index of a date, or NoDate
+--   year_of i             = the year of the day with index i, counted from 1996, and the day in it, counted from 0
+--   day_of_year i         = the days from 1 January of its year up to and including it
+--   month_of l r          = the month of day r of a year, and the day in it, counted from 0
+--   date_in k r           = the date of day r of the year 1996 + k
+--   date_of i             = the date of the day with index i
+--   weekday i             = the weekday of that day, Monday 0 to Sunday 6
 -- Source: document 01, first paragraph; the Gregorian calendar.
 use Rattle.std.specs.Prelude.{ℕ, ◌+◌, ◌-◌, ◌%◌, Bool, not, ◌&&◌, ◌||◌, cond, List, [], ◌∷◌, eqb, leb, get_or}
 use Rattle.zaehlung.specs.Walk.{bit}

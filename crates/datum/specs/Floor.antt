@@ -1,6 +1,6 @@
 -- Division that rounds down, of a number of any sign by a positive one.
---   floor_div z d  = the quotient
---   floor_mod z d  = the remainder, from 0 to d - 1
+--   floor_div z d = the quotient
+--   floor_mod z d = the remainder, from 0 to d - 1
 -- Source: document 01, 'Forms to use in the code' (instants, month shifts downward).
 use Rattle.std.specs.Prelude.{ℕ, ◌-◌, ◌/◌, ◌%◌, ℤ, pos, negsuc}
 

@@ -1,5 +1,5 @@
 -- What functions ask and promise of ranges; no reader need believe it.
---   InsideShift s  = the date that a shift by months reached is one of the range
+--   InsideShift s = the date that a shift by months reached is one of the range
 use Rattle.std.specs.Prelude.{true, ◌≡◌}
 use Rattle.datum.specs.declared.Shifted.{Shifted}
 use Rattle.datum.specs.declared.Shifted.TheVariants.{On, Outside}

@@ -1,7 +1,7 @@
 -- Months before and after a day given by its index, BGB §188.
---   to_step s           = the index of the date that a shift by months reached, or Outside
---   months_later i n    = day i and n months: `add_months`
---   months_earlier i n  = day i less n months: `subtract_months`
+--   to_step s          = the index of the date that a shift by months reached, or Outside
+--   months_later i n   = day i and n months: `add_months`
+--   months_earlier i n = day i less n months: `subtract_months`
 --   M n i              = day i and n months, or, where the day was cut to the month's last, the first of the next
 --                        month: `months_or_first`
 -- Source: BGB §188 Abs. 2 and 3; document 01, lib.rs and 'The span of anchors'.

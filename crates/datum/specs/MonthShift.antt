@@ -1,8 +1,8 @@
 -- A date shifted by months, BGB §188: the day of the same number, or the month's last day where the month lacks it.
---   ordinal_of d         = the number of a date's month, counted from January of year 0
---   on_month t x         = day x of the month numbered t, as above, or Outside where the calendar lacks that month
---   add_months d n       = n months later
---   subtract_months d n  = n months earlier
+--   ordinal_of d        = the number of a date's month, counted from January of year 0
+--   on_month t x        = day x of the month numbered t, as above, or Outside where the calendar lacks that month
+--   add_months d n      = n months later
+--   subtract_months d n = n months earlier
 -- Source: BGB §188 Abs. 2 and 3; document 01, lib.rs: 'a day the target month lacks becomes its last', and refusal 8.
 use Rattle.std.specs.Prelude.{ℕ, ◌+◌, ◌-◌, ◌*◌, ◌/◌, ◌%◌, min, ◌&&◌, cond, leb, ℤ, pos, negsuc, ◌+ℤ◌, ◌-ℤ◌}
 use Rattle.datum.specs.declared.Date.{Date}

@@ -1,6 +1,6 @@
 -- A date as one number, between two functions of this crate; no reader need believe it.
---   number_of d  = the number of a date
---   parts_of n   = the date of a number
+--   number_of d = the number of a date
+--   parts_of n  = the date of a number
 use Rattle.std.specs.Prelude.{ℕ, ◌+◌, ◌*◌, ◌/◌, ◌%◌}
 use Rattle.datum.specs.declared.Date.{Date}
 

@@ -1,6 +1,6 @@
 -- A day taken apart.
---   tag_at i    = the day with index i: its index and its date
---   tag_step x  = the day that a step reached, taken apart, or Outside
+--   tag_at i     = the day with index i: its index and its date
+--   tag_step x   = the day that a step reached, taken apart, or Outside
 --   step_index s = the index of the day that such a step reached
 -- Source: document 02, F-4: 'take the date apart once'.
 use Rattle.std.specs.Prelude.{ℕ}

@@ -18,7 +18,8 @@ use Rattle.werktag.specs.Easter.{easter_sunday, easter_index}
 use Rattle.zaehlung.specs.Lists.{any}
 use Rattle.werktag.specs.Werktag.{is_fixed, is_buss_und_bettag, is_easter_feast, is_werktag}
 use Rattle.werktag.specs.Reason.{place_from, reason}
-use Rattle.berlin.specs.Berlin.{is_before, in_limits, read_instant, read_clock, last_sunday, year_at, offset_at, berlin_at}
+use Rattle.berlin.specs.Berlin.{is_before, in_limits, read_instant, read_clock, last_sunday, year_at, offset_at}
+use Rattle.berlin.specs.Berlin.{berlin_at}
 use Rattle.berlin.specs.Berlin.{berlin_midnight, end_of_day_berlin, tagesbeginn_utc}
 use Rattle.fristen.specs.Fristen.{instant_later, contrl_seconds, in_window, toleranz_in, formatumstellung_toleranz}
 use Rattle.fristen.specs.Fristen.{contrl_due_at, nth_werktag_at}

@@ -1,7 +1,7 @@
 -- A file of questions: which lengths it may have, and its records.
---   is_file n m       = whether n bytes of questions and m bytes of answers may be a file
---   records k l      = the first k records of the bytes l, in order
---   questions_of l    = the questions of the file l, in order
+--   is_file n m    = whether n bytes of questions and m bytes of answers may be a file
+--   records k l    = the first k records of the bytes l, in order
+--   questions_of l = the questions of the file l, in order
 -- Source: document 02, F-1: '9 .. if the question bytes are no multiple of 32 or exceed 65,536, or the answers differ
 -- in length'; 'Each record is read from its own stretch of the lent bytes.'
 -- Assumes nothing.

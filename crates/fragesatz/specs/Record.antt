@@ -1,8 +1,8 @@
 -- The 32 bytes of a question, read and written.
---   date_at l i       = the date in the four bytes of l that start at i
---   question_of l     = the question that the 32 bytes l are
---   date_bytes d      = the four bytes of the date d
---   question_bytes q  = the 32 bytes of the question q
+--   date_at l i           = the date in the four bytes of l that start at i
+--   question_of l         = the question that the 32 bytes l are
+--   date_bytes d          = the four bytes of the date d
+--   question_bytes q      = the 32 bytes of the question q
 --   asked o c n m d e s x = the question of all its fields, in the order of their bytes, with zero in bytes 2 and 3
 -- Reading and writing undo each other (proofs/RoundTrip.antt).
 -- Source: document 02, F-1: 'question records of 32 bytes, little-endian, without a header. Byte 0 is the operation ..;

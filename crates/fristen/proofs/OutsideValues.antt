@@ -21,7 +21,8 @@ use Rattle.fristen.specs.declared.ContrlAnlass.TheVariants.{Regelfall, StromUtil
 use Rattle.fristen.specs.declared.FristShape.TheVariants.{SameDayAt, SameDay}
 use Rattle.fristen.specs.Fristen.{noon, instant_later, contrl_seconds, in_window, toleranz_in}
 use Rattle.fristen.specs.Fristen.{formatumstellung_toleranz}
-use Rattle.fristen.specs.Fristen.{contrl_due_at, nth_werktag_at, next_werktag_at, end_of_werktag_after, deadline_at_werktage}
+use Rattle.fristen.specs.Fristen.{contrl_due_at, nth_werktag_at, next_werktag_at, end_of_werktag_after}
+use Rattle.fristen.specs.Fristen.{deadline_at_werktage}
 use Rattle.fristen.specs.Fristen.{add_hours, aperak_strom_due_at, aperak_strom_allgemein_due_at, is_initial}
 use Rattle.fristen.specs.Fristen.{aperak_gas_due_at}
 use Rattle.fristen.specs.FristShape.{same_day_at, due_at_of}
@@ -66,7 +67,8 @@ pub strom :
     aperak_strom_due_at (m 1736157600) ∷ aperak_strom_due_at (m 1736586000) ∷ aperak_strom_due_at (m 1736672400) ∷
     aperak_strom_due_at (m 29348002799) ∷ []
     ≡ due 1736160300 ∷ due 1736679600 ∷ due 1736675100 ∷ Outside ∷ []
-unfolding aperak_strom_due_at day_after instant_later in_limits berlin_at offset_at year_at last_sunday date_of date_in at start
+unfolding aperak_strom_due_at day_after instant_later in_limits berlin_at offset_at year_at last_sunday date_of date_in
+    at start
     year_len days_in_month is_leap
 strom = refl
 
@@ -80,7 +82,8 @@ pub werktage :
     ≡ due 1736247600 ∷ due 1736762400 ∷ due 1736762400
     ∷ At (moment_of 1736809199 999999999) ∷ At (moment_of 1736204399 999999999) ∷ []
 unfolding nth_werktag_at end_of_werktag_after add up is_werktag is_fixed is_buss_und_bettag is_easter_feast any
-    easter_index easter_sunday end_of_day_berlin berlin_at offset_at year_at last_sunday date_of date_in at start year_len
+    easter_index easter_sunday end_of_day_berlin berlin_at offset_at year_at last_sunday date_of date_in at start
+    year_len
     days_in_month is_leap
 werktage = refl
 
@@ -91,7 +94,8 @@ pub gas :
     ≡ record { initial = true; due = At (moment_of 1736463599 999999999) } ∷
     record { initial = false; due = due 1736247600 } ∷ []
 unfolding aperak_gas_due_at is_initial nth_werktag_at end_of_werktag_after add up is_werktag is_fixed
-    is_buss_und_bettag is_easter_feast any easter_index easter_sunday end_of_day_berlin berlin_at offset_at year_at last_sunday date_of
+    is_buss_und_bettag is_easter_feast any easter_index easter_sunday end_of_day_berlin berlin_at offset_at year_at
+    last_sunday date_of
     date_in at start year_len days_in_month is_leap
 gas = refl
 
@@ -112,6 +116,7 @@ pub shapes :
     ≡ due 1768215600 ∷ due 1767956400
     ∷ Absent ∷ At (moment_of 1767999599 999999999) ∷ []
 unfolding due_at_of same_day_at is_before nth_werktag_at add up is_werktag is_fixed is_buss_und_bettag
-    is_easter_feast any easter_index easter_sunday end_of_day_berlin berlin_at offset_at year_at last_sunday date_of date_in at start
+    is_easter_feast any easter_index easter_sunday end_of_day_berlin berlin_at offset_at year_at last_sunday date_of
+    date_in at start
     year_len days_in_month is_leap
 shapes = refl

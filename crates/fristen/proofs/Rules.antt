@@ -134,7 +134,8 @@ module _ (a b : ℕ) (m : Moment) (c : Clock) (x : Resolved) (u : c ≡ window_o
     unfolding in_window
     before_window y = rw (opens (Shown o) q, sym k ∙ y)
 
-    pub from_window : (z : Moment) (g : Bool) → f ≡ false → z ≡ berlin_midnight b → g ≡ is_before m z → g ≡ in_window a b m
+    pub from_window : (z : Moment) (g : Bool) → f ≡ false → z ≡ berlin_midnight b → g ≡ is_before m z →
+        g ≡ in_window a b m
     unfolding in_window
     from_window z g y l n = rw (opens (Shown o) q, sym k ∙ y, ← l) n
 
@@ -159,12 +160,14 @@ module _ (y : ℕ) (h : 1996 ≤ y) (k : y ≤ 2899) where
   october_2 = rw (le-leb 1996 y h, le-leb y 2899 k)
 
 -- a and b, v and w are the days of the windows, f and g what `in_window` returned
-module _ (m : Moment) (y a b : ℕ) (k : a ≡ day_on y 3 31) (l : b ≡ day_on y 4 2) (f : Bool) (u : f ≡ in_window a b m) where
+module _ (m : Moment) (y a b : ℕ) (k : a ≡ day_on y 3 31) (l : b ≡ day_on y 4 2) (f : Bool)
+        (u : f ≡ in_window a b m) where
   pub spring : (r : Moment) → f ≡ true → r ≡ berlin_midnight b → r ≡ toleranz_in y m
   unfolding toleranz_in
   spring r t q = rw (← k, ← l, sym u ∙ t) q
 
-  module _ (v w : ℕ) (n : f ≡ false) (i : v ≡ day_on y 9 30) (j : w ≡ day_on y 10 2) (g : Bool) (o : g ≡ in_window v w m)
+  module _ (v w : ℕ) (n : f ≡ false) (i : v ≡ day_on y 9 30) (j : w ≡ day_on y 10 2) (g : Bool)
+          (o : g ≡ in_window v w m)
     where
       pub autumn : (r : Moment) → g ≡ true → r ≡ berlin_midnight w → r ≡ toleranz_in y m
       unfolding toleranz_in
@@ -224,13 +227,15 @@ module _ (pid i : ℕ) (e : any (eqb pid) (drop i gas_initialprozess_pids) ≡ i
 
   pub pid_hit : i < 4 → pid ≡ get_or gas_initialprozess_pids i 0 → true ≡ is_initial pid
   unfolding is_initial
-  pid_hit h q = search_hit (eqb pid) gas_initialprozess_pids 0 i whole h (eq-eqb pid (get_or gas_initialprozess_pids i 0) q)
+  pid_hit h q = search_hit (eqb pid) gas_initialprozess_pids 0 i whole h
+      (eq-eqb pid (get_or gas_initialprozess_pids i 0) q)
 
   pub pid_miss :
       i < 4 → (pid ≡ get_or gas_initialprozess_pids i 0 → ⊥) →
       any (eqb pid) (drop (i + 1) gas_initialprozess_pids) ≡ is_initial pid
   unfolding is_initial
-  pid_miss h q = search_miss (eqb pid) gas_initialprozess_pids 0 i whole h (ne_eqb pid (get_or gas_initialprozess_pids i 0) q)
+  pid_miss h q = search_miss (eqb pid) gas_initialprozess_pids 0 i whole h
+      (ne_eqb pid (get_or gas_initialprozess_pids i 0) q)
 
   pub pid_none : 4 ≤ i → false ≡ is_initial pid
   unfolding is_initial
@@ -238,7 +243,8 @@ module _ (pid i : ℕ) (e : any (eqb pid) (drop i gas_initialprozess_pids) ≡ i
 
 -- aperak_strom_allgemein_due_at, aperak_gas_folgeprozess_due_at: c is what `o_clock` returned, r the due instant
 pub at_noon :
-    (w : ℕ → Bool) (m : Moment) (c : Clock) (r : Due) → c ≡ noon → r ≡ next_werktag_at w m c → r ≡ next_werktag_at w m noon
+    (w : ℕ → Bool) (m : Moment) (c : Clock) (r : Due) → c ≡ noon → r ≡ next_werktag_at w m c →
+        r ≡ next_werktag_at w m noon
 at_noon w m c r u q = rw u at q
 
 -- aperak_gas_due_at: b is what `is_initial` returned, r the due instant

@@ -1,10 +1,9 @@
 -- When an answer is due: the shapes of an answer's Frist. m is the instant at which the message was received, w any
 -- test of a day.
---   same_day_at w m c       = the clock c on the receipt day, if that is a Werktag and the clock is still to come; else
---                           on
---                           the first Werktag after it
---   same_day m             = the end of the receipt day
---   due_at_of w shape m     = when an answer of that shape is due
+--   same_day_at w m c   = the clock c on the receipt day, if that is a Werktag and the clock is still to come; else on
+--                         the first Werktag after it
+--   same_day m          = the end of the receipt day
+--   due_at_of w shape m = when an answer of that shape is due
 -- Source: document 01, antwort.rs; GPKE Teil 2, 'Spätester ÜZ ist .. Uhr am ÜT', and the second window that it gives,
 -- '.. Uhr des 1. WT nach dem ÜT'.
 use Rattle.std.specs.Prelude.{ℕ, Bool, ◌&&◌, cond}

@@ -16,7 +16,8 @@ ghost use Rattle.fristen.specs.Fristen.{receipt_day, instant_later, clock_on, is
 ghost use Rattle.fristen.specs.Fristen.{contrl_due_at, in_window};
 ghost use Rattle.fristen.specs.Fristen.{toleranz_in, formatumstellung_toleranz, aperak_strom_due_at};
 ghost use Rattle.fristen.specs.Fristen.{aperak_strom_allgemein_due_at, aperak_gas_folgeprozess_due_at};
-ghost use Rattle.fristen.specs.Fristen.{aperak_gas_initialprozess_due_at, is_initial, aperak_gas_due_at, next_werktag_at};
+ghost use Rattle.fristen.specs.Fristen.{aperak_gas_initialprozess_due_at, is_initial, aperak_gas_due_at};
+ghost use Rattle.fristen.specs.Fristen.{next_werktag_at};
 ghost use Rattle.fristen.specs.Fristen.{at_least_one, nth_werktag_on, nth_werktag_at, end_of_werktag_after, add_hours};
 ghost use Rattle.fristen.specs.Fristen.{deadline_at_werktage};
 ghost use Rattle.fristen.specs.FristShape.{same_day_at, same_day, due_at_of};

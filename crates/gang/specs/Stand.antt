@@ -1,7 +1,7 @@
 -- What a walk knows of the day at which it stands.
---   Stands s     = s has a day of the calendar, taken apart, its weekday, the days of its month, and Easter Sunday
---                where the month needs it
---   to_weekday w  = the days from a day with the weekday w to the next day from Monday to Friday
+--   Stands s       = s has a day of the calendar, taken apart, its weekday, the days of its month, and Easter Sunday
+--                    where the month needs it
+--   to_weekday w   = the days from a day with the weekday w to the next day from Monday to Friday
 --   from_weekday w = the days back to the last one before it
 -- Source: document 02, F-4: 'take the date apart once, and compare one distance from Easter'.
 use Rattle.std.specs.Prelude.{ℕ, ◌+◌, ◌-◌, ◌≤◌, cond, ◌≡◌, eqb, ltb}

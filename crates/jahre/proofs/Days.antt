@@ -246,7 +246,8 @@ open_for k r h g =
       fixed_same l r b,
       buss_same l f r b,
       feast_same (year_start k) r e (1996 + k) (omega arith) (easter_is k),
-      strikes_is (on_weekday f) (fixed_in (bit l) ++ (bettag_in f (bit l) ∷ feasts_with e (himmelfahrt_in (bit l) e))) r,
+      strikes_is (on_weekday f) (fixed_in (bit l)
+          ++ (bettag_in f (bit l) ∷ feasts_with e (himmelfahrt_in (bit l) e))) r,
       in_list f (bit l) e r,
     )
 
@@ -254,7 +255,8 @@ pub open_is : (k r : ℕ) → k < 904 → r < year_len k → is_werktag_in BdewM
 open_is k r h g = rw (year_is k) (open_for k r h g)
 
 pub index_is :
-    (cal : HolidayCalendar) (k r : ℕ) → k < 904 → r < year_len k → is_werktag cal (year_start k + r) ≡ is_werktag_in cal k r
+    (cal : HolidayCalendar) (k r : ℕ) → k < 904 → r < year_len k →
+        is_werktag cal (year_start k + r) ≡ is_werktag_in cal k r
 unfolding is_werktag
 index_is cal k r h g =
     let q : year_of (year_start k + r) ≡ (k, r) =

@@ -113,8 +113,10 @@ module _ (y : Year) where
       let e = y.easter in
       2 ≤ e → (f + e) % 7 ≡ 6 →
       a0 ≡ or_no_day f 0 → a1 ≡ or_no_day f 5 → a2 ≡ or_no_day f (66 + l) → a3 ≡ or_no_day f (120 + l) →
-      a4 ≡ or_no_day f (226 + l) → a5 ≡ or_no_day f (262 + l) → a6 ≡ or_no_day f (275 + l) → a7 ≡ or_no_day f (303 + l) →
-      a8 ≡ or_no_day f (304 + l) → a9 ≡ or_no_day f (357 + l) → a10 ≡ or_no_day f (358 + l) → a11 ≡ or_no_day f (359 + l) →
+      a4 ≡ or_no_day f (226 + l) → a5 ≡ or_no_day f (262 + l) → a6 ≡ or_no_day f (275 + l) →
+      a7 ≡ or_no_day f (303 + l) →
+      a8 ≡ or_no_day f (304 + l) → a9 ≡ or_no_day f (357 + l) → a10 ≡ or_no_day f (358 + l) →
+      a11 ≡ or_no_day f (359 + l) →
       a12 ≡ or_no_day f (364 + l) → h ≡ himmelfahrt_or l e →
       a0 ∷ a1 ∷ a2 ∷ a3 ∷ a4 ∷ a5 ∷ a6 ∷ a7 ∷ a8 ∷ a9 ∷ a10 ∷ a11 ∷ a12 ∷ bettag_in f l ∷ (e - 2) ∷ (e + 1) ∷ h ∷ no_day
       ∷ (e + 50) ∷ (e + 60) ∷ []
@@ -212,7 +214,8 @@ below_each f n (x ∷ hs) h = ap₂ (λ (a b : ℕ). a + b) (bit_each f n x h) (
 
 known_is :
     (cal : HolidayCalendar) (k : ℕ) →
-    ((holiday_year cal k).first ≡ (year_numbers k).first) × ((holiday_year cal k).holidays ≡ weekday_holidays (year_numbers k))
+    ((holiday_year cal k).first ≡ (year_numbers k).first)
+        × ((holiday_year cal k).holidays ≡ weekday_holidays (year_numbers k))
 unfolding holiday_year
 known_is BdewMaKo k = (refl, refl)
 

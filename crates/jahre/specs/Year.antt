@@ -1,18 +1,18 @@
 -- A year by three numbers, and its holidays by them. Days of a year are counted from 0.
 --   year_numbers k     = the year 1996 + k: the weekday of its 1 January, its leap days, the day of Easter Sunday
 --   on_weekday f r     = whether day r of a year that begins on weekday f is no Saturday or Sunday
---   weekdays m        = how many of m days from a Monday on are none
+--   weekdays m         = how many of m days from a Monday on are none
 --   fixed_in l         = the fixed days of a year with l leap days
 --   bettag_in f l      = its Buß- und Bettag
 --   himmelfahrt_in l e = its Christi Himmelfahrt, Easter Sunday being day e
 --   feasts_with e h    = the feasts that move with Easter, h being Christi Himmelfahrt
---   holidays y        = all 20; no weekday stands in them twice
+--   holidays y         = all 20; no weekday stands in them twice
 -- and what the code knows of a year; no reader need believe it:
 --   no_day             = 366, a day that no year has
---   or_no_day f r       = day r, if it is a weekday, else no_day
+--   or_no_day f r      = day r, if it is a weekday, else no_day
 --   himmelfahrt_or l e = Christi Himmelfahrt, unless it falls on 1 May
 --   weekday_holidays y = the holidays, with no day in the places of Saturdays and Sundays
---   holiday_year cal k      = the year 1996 + k as a count inside it needs it
+--   holiday_year cal k = the year 1996 + k as a count inside it needs it
 -- Source: document 01, 'lib.rs, calendar', with each date as a day of the year.
 -- Assumes nothing.
 use Rattle.std.specs.Prelude.{ℕ, ◌+◌, ◌-◌, ◌/◌, ◌%◌, Bool, not, cond, List, [], ◌∷◌, ◌++◌, map, eqb, leb}

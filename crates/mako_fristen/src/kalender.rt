@@ -5,7 +5,8 @@ ghost use Rattle.werktag.specs.Werktag.{is_werktag};
 ghost use Rattle.werktag.specs.Reason.{reason};
 ghost use Rattle.antwortsatz.specs.Bytes.{reply};
 ghost use Rattle.antworten.specs.Reading.{date_from};
-ghost use Rattle.antworten.specs.Kalender.{is_werktag_answer, next_werktag_answer, add_werktage_answer, sub_werktage_answer};
+ghost use Rattle.antworten.specs.Kalender.{is_werktag_answer, next_werktag_answer, add_werktage_answer};
+ghost use Rattle.antworten.specs.Kalender.{sub_werktage_answer};
 ghost use Rattle.antworten.specs.Kalender.{werktage_between_answer, add_months_answer, subtract_months_answer};
 
 use datum::Date;

@@ -5,9 +5,12 @@ ghost use Rattle.werktag.specs.Werktag.{is_werktag};
 ghost use Rattle.antwortsatz.specs.Bytes.{reply};
 ghost use Rattle.berlin.specs.Berlin.{read_instant, read_clock};
 ghost use Rattle.antworten_frist.specs.Frist.{contrl_due_at_answer, aperak_strom_due_at_answer};
-ghost use Rattle.antworten_frist.specs.Frist.{aperak_strom_allgemein_due_at_answer, aperak_gas_folgeprozess_due_at_answer};
-ghost use Rattle.antworten_frist.specs.Frist.{aperak_gas_initialprozess_due_at_answer, aperak_gas_due_at_answer, add_hours_answer};
-ghost use Rattle.antworten_frist.specs.Frist.{deadline_at_werktage_answer, end_of_werktag_after_answer, next_werktag_at_answer};
+ghost use Rattle.antworten_frist.specs.Frist.{aperak_strom_allgemein_due_at_answer};
+ghost use Rattle.antworten_frist.specs.Frist.{aperak_gas_folgeprozess_due_at_answer};
+ghost use Rattle.antworten_frist.specs.Frist.{aperak_gas_initialprozess_due_at_answer, aperak_gas_due_at_answer};
+ghost use Rattle.antworten_frist.specs.Frist.{add_hours_answer};
+ghost use Rattle.antworten_frist.specs.Frist.{deadline_at_werktage_answer, end_of_werktag_after_answer};
+ghost use Rattle.antworten_frist.specs.Frist.{next_werktag_at_answer};
 ghost use Rattle.antworten_frist.specs.Frist.{nth_werktag_at_answer, frist_due_at_answer};
 
 /// [`mako_fristen::mf_contrl_due_at`] for C.

@@ -83,7 +83,8 @@ module _ (w : ℕ → Bool) (xs ys cs : List ℕ) where
     -- one pair more: v is its count, z the year in which it begins, s the entries read with it
     pub one_more :
         (v z s : ℕ) → i < length xs → v ≡ pair_count w (get_or xs i 0) (get_or ys i 0) →
-        z ≡ beginning (get_or xs i 0) (get_or ys i 0) → s ≡ r + bit (opens y (beginning (get_or xs i 0) (get_or ys i 0))) →
+        z ≡ beginning (get_or xs i 0) (get_or ys i 0) →
+        s ≡ r + bit (opens y (beginning (get_or xs i 0) (get_or ys i 0))) →
         Counted w xs ys (set cs i v) (i + 1) s z
     one_more v z s h e f g =
         let l = c.lengths.days in

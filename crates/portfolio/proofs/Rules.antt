@@ -87,7 +87,8 @@ in_its_year d k h f g =
     ap (λ (x : ℕ × ℕ). x.0)
     (at_is year_len 903 0 k d (d - year_start k) (omega arith) (omega arith) (omega (arith, start_none)) (omega arith))
 
-year_is : (d : ℕ) → d ≤ last → (year_start (year_of d).0 ≤ d) × (d < year_start (suc (year_of d).0)) × ((year_of d).0 ≤ 903)
+year_is : (d : ℕ) → d ≤ last →
+    (year_start (year_of d).0 ≤ d) × (d < year_start (suc (year_of d).0)) × ((year_of d).0 ≤ 903)
 year_is d h =
     let y = year_at_lem d h in
     let s = start_suc year_len (year_of d).0 in

@@ -1,12 +1,12 @@
 -- The counts of a portfolio: two lists of days, pair by pair, and the Werktage between the two days of each pair. A day
 -- is a number of days from 1 January 1970 on. w is the test of a day: a Werktag by some list.
---   is_portfolio n m k = whether lists of n and m days and one of k counts may be a portfolio
+--   is_portfolio n m k  = whether lists of n and m days and one of k counts may be a portfolio
 --   first_day, last_day = 9,496 and 339,675: 1 January 1996 and 31 December 2899
---   in_calendar a      = whether the day a lies in the calendar
---   inRange a b       = whether both days of the pair a, b do
---   pair_count w a b   = the count of the pair a, b
---   pairwise f xs ys  = f of each pair of the two lists
---   counts_of w xs ys  = the counts of all pairs
+--   in_calendar a       = whether the day a lies in the calendar
+--   in_range a b         = whether both days of the pair a, b do
+--   pair_count w a b    = the count of the pair a, b
+--   pairwise f xs ys    = f of each pair of the two lists
+--   counts_of w xs ys   = the counts of all pairs
 -- Source: document 02, F-5: 'The contract team sends two lists of day numbers since 1970, 32 bits each, and wants
 -- `werktage_between` for each pair in a third list'; '10 .. if the three lists differ in length or have over 4,096
 -- entries'; 'A pair with an out-of-range day gives 4,294,967,295 at its place'.

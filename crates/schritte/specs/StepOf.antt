@@ -1,5 +1,5 @@
 -- The two steps by their kind.
---   step_of k w d n   = `add` or `sub` of the day d and the count n
+--   step_of k w d n = `add` or `sub` of the day d and the count n
 -- Assumes nothing.
 use Rattle.std.specs.Prelude.{ℕ, Bool}
 use Rattle.zaehlung.specs.declared.Step.{Step}

@@ -20,7 +20,8 @@ pub struct Count {
 /// The days from `first` up to and with `day`, each tested: the Werktage among as many days as are reported.
 fn test_days(first: Tag, day: u32, cal: HolidayCalendar) -> Count
     requires { (first ≡ tag_at first.index) × (first.index ≤ day) × (day ≤ last) }
-    ensures { (result.werktage ≡ among (is_werktag cal) first.index result.tested) × (result.tested ≡ day - first.index + 1) }
+    ensures { (result.werktage ≡ among (is_werktag cal) first.index result.tested)
+        × (result.tested ≡ day - first.index + 1) }
 {
     let mut at = gang::stand_at(first);
     let mut tested: u32 = 1;

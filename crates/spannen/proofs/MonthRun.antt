@@ -42,7 +42,8 @@ month_at_lem y j h =
     let r : (y * 12 + j) % 12 + 1 ≡ suc j = omega arith in
     rw (q, r)
 
-year_run : (y j : ℕ) → j ≤ 12 → start month_days (y * 12 + j) ≡ start month_days (y * 12) + month_start (is_leap y) (suc j)
+year_run : (y j : ℕ) → j ≤ 12 →
+    start month_days (y * 12 + j) ≡ start month_days (y * 12) + month_start (is_leap y) (suc j)
 year_run y zero h = rw add-zero (omega (arith, month_first (is_leap y)))
 year_run y (suc j) h =
     rw add-suc
@@ -97,7 +98,8 @@ day_run i h =
 
 -- day x of the month numbered t
 on_date_lem :
-    (t x e : ℕ) → to_step (on_month (pos t) x) ≡ Day e → (1996 ≤ t / 12) × (t / 12 ≤ 2899) × (e ≡ days_before (day_of t x))
+    (t x e : ℕ) → to_step (on_month (pos t) x) ≡ Day e →
+    (1996 ≤ t / 12) × (t / 12 ≤ 2899) × (e ≡ days_before (day_of t x))
 on_date_lem t x e p =
     elim (dec_le 1996 (t / 12)) [
       | yes h ↦

@@ -82,7 +82,8 @@ module _ (w : ℕ → Bool) (t : ℕ) (ht : t ≤ last) where
       (s : VorlaufShape) (a : ℕ) → a ≤ last → span_of w s t ≢ Outside → check_of w s t a ≡ Ok → LiesIn (span_of w s t) a
   accepted_lies s a ha h p = (shape_spans w t ht a ha s h (λ q. let z : ◌≡◌ {A = ℕ} 0 1 = cc in omega arith)).0 p
 
-  pub accepted_least : (s : VorlaufShape) (f a : ℕ) → a ≤ last → Begins (span_of w s t) f → check_of w s t a ≡ Ok → f ≤ a
+  pub accepted_least : (s : VorlaufShape) (f a : ℕ) → a ≤ last → Begins (span_of w s t) f → check_of w s t a ≡ Ok →
+      f ≤ a
   accepted_least s f a ha b p =
       first_least (span_of w s t) f a b (accepted_lies s a ha (begins_inside (span_of w s t) f b) p)
 

@@ -19,7 +19,8 @@ use Rattle.vorlauf.specs.declared.VorlaufShape.TheVariants.{LatestWerktageAfter,
 use Rattle.vorlauf.specs.declared.VorlaufShape.TheVariants.{TagVorDemLetztenWerktagVor, LatestMonateBefore}
 use Rattle.vorlauf.specs.declared.VorlaufShape.TheVariants.{LatestMonateUndWerktageBefore}
 use Rattle.vorlauf.specs.declared.VorlaufVerdict.TheVariants.{TooLate}
-use Rattle.vorlauf.specs.Verdict.{closes, reaches, fruehester_termin_nach_tag_vor_dem_letzten_werktag, verdict_on, check_of}
+use Rattle.vorlauf.specs.Verdict.{closes, reaches, fruehester_termin_nach_tag_vor_dem_letzten_werktag, verdict_on}
+use Rattle.vorlauf.specs.Verdict.{check_of}
 use Rattle.spannen.proofs.SpansCases.{late_day, late_upto, late_window}
 
 abbrev pub names : (ℕ → Bool) → VorlaufShape → ℕ → ℕ → Step
@@ -30,7 +31,8 @@ names w (EarliestWerktageAfter n) t a = add w t n
 names w (Korridor n) t a = sub w a n
 names w TagVorDemLetztenWerktagVor t a = fruehester_termin_nach_tag_vor_dem_letzten_werktag w t
 names w (LatestMonateBefore n) t a = months_later t n
-names w (LatestMonateUndWerktageBefore monate werktage) t a = on_step Left (add w t werktage) (λ d. months_later d monate)
+names w (LatestMonateUndWerktageBefore monate werktage) t a = on_step Left (add w t werktage)
+    (λ d. months_later d monate)
 
 pub record Late (w : ℕ → Bool) (s : VorlaufShape) (t a b y : ℕ) : Type 0 where
   pub last_day_lem : ℕ
@@ -63,7 +65,8 @@ module _ (w : ℕ → Bool) (t a b y : ℕ) where
       late_day b y (sub w a n) _ (λ o u.
       late_window b y w t r o c (between w t o) (Day o) (λ h e. is_late (Korridor n) c r p q h (u ∙ e)))
   verdict_says TagVorDemLetztenWerktagVor c r p q =
-      late_upto b y w r c (fruehester_termin_nach_tag_vor_dem_letzten_werktag w t) (is_late TagVorDemLetztenWerktagVor c r p q)
+      late_upto b y w r c (fruehester_termin_nach_tag_vor_dem_letzten_werktag w t)
+          (is_late TagVorDemLetztenWerktagVor c r p q)
   verdict_says (LatestMonateBefore n) c r p q =
       late_day b y (months_later t n) _ (λ f u.
       late_upto b y w r c (Day f) (λ h e. is_late (LatestMonateBefore n) c r p q h (u ∙ e)))

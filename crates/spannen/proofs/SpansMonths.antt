@@ -70,7 +70,8 @@ pub m_kept : (n i : ℕ) → KeepsDay n i → M n i ≡ months_later i n
 unfolding M
 m_kept n i h = rw (le-leb (date_of i).day (month_days (month_at i + n)) h) (sym (later_in i n))
 
-m_cut : (n i : ℕ) → month_days (month_at i + n) < (date_of i).day → M n i ≡ to_step (on_month (pos (suc (month_at i + n))) 1)
+m_cut : (n i : ℕ) → month_days (month_at i + n) < (date_of i).day →
+    M n i ≡ to_step (on_month (pos (suc (month_at i + n))) 1)
 unfolding M
 m_cut n i h = rw (lt-leb (date_of i).day (month_days (month_at i + n)) h)
 
@@ -110,7 +111,8 @@ m_later_iff t n f y p q =
     let v = cut_run n t f l p in
     (λ e. absurd (omega (arith, start_suc month_days o, month_has o)), λ k. absurd (omega arith)))
 
-pub later_day_iff : (t n y : ℕ) → t ≤ last → months_later t n ≡ Day y → ((date_of y).day ≡ (date_of t).day) ↔ KeepsDay n t
+pub later_day_iff : (t n y : ℕ) → t ≤ last → months_later t n ≡ Day y →
+    ((date_of y).day ≡ (date_of t).day) ↔ KeepsDay n t
 later_day_iff t n y h p =
     let e = on_day (month_at t + n) (date_of t).day y (day_run t h).1 (sym (later_in t n) ∙ p) in
     (λ q. omega arith, λ k. omega arith)

@@ -1,7 +1,7 @@
 -- Hexadecimal text.
---   digit b         = the value of the lower-case hexadecimal digit with the ASCII code b; 16 where b is none
---   byte_at l i      = the byte whose two digits stand at i of the text l
---   bytes_at l i k   = the k bytes whose digits start at i of the text l
+--   digit b        = the value of the lower-case hexadecimal digit with the ASCII code b; 16 where b is none
+--   byte_at l i    = the byte whose two digits stand at i of the text l
+--   bytes_at l i k = the k bytes whose digits start at i of the text l
 -- Assumes nothing.
 use Rattle.std.specs.Prelude.{ℕ, zero, suc, ◌+◌, ◌-◌, ◌*◌, cond, List, [], ◌∷◌, leb, ltb, get_or}
 

@@ -1,8 +1,8 @@
 -- What the proofs of the deregistrations ask, with the premises in the form in which a proof has them.
---   bytes-*          a turn and the returns of `same_bytes`: x is the answer for the whole strings, and the invariant
+--   bytes_*          a turn and the returns of `same_bytes`: x is the answer for the whole strings, and the invariant
 --                    says that the bytes from i on give it
---   fuer-* shape-*   the returns of `fuer`, `shape` and `check`
---   bytes_rules abmeldung_rules   = these, for `search (needs, ..)`
+--   fuer_* shape_*   the returns of `fuer`, `shape` and `check`
+--   bytes_rules abmeldung_rules = these, for `search (rules, ..)`
 -- Source: the definitions of Abmeldung.
 -- Assumes nothing.
 use Prim.Native.Nat.{ℕ, suc, ◌+◌, ◌≤◌, ◌<◌}
@@ -53,7 +53,8 @@ same_at a b i t e h q =
 
 pub bytes_differ :
     (x : Bool) (a b : List ℕ) (i : ℕ) →
-    x ≡ same_bytes (drop i a) (drop i b) → length a ≡ length b → i < length b → (get_or a i 0 ≡ get_or b i 0 → ⊥) → false ≡ x
+    x ≡ same_bytes (drop i a) (drop i b) → length a ≡ length b → i < length b → (get_or a i 0 ≡ get_or b i 0 → ⊥) →
+    false ≡ x
 bytes_differ x a b i p e h n = let q = same_at a b i false e h (ne_eqb (get_or a i 0) (get_or b i 0) n) in cc
 
 pub bytes_more :

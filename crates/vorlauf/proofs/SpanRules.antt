@@ -1,9 +1,9 @@
 -- What the proofs of the spans ask, with the premises in the form in which a proof has them: r and u are what the steps
 -- returned, v what a span's function did. For any test w of a day.
---   from-* both-*    the returns of `span_from` and `span_between`
---   span-*           those of `span`: the clause of a shape
+--   from_* both_*    the returns of `span_from` and `span_between`
+--   span_*           those of `span`: the clause of a shape
 --   span_whole       both parts of what `span` promises, from the first
---   end_rules span_rules   = these, for `search (needs, ..)`
+--   end_rules span_rules = these, for `search (rules, ..)`
 -- Source: the definitions of Span.
 -- Assumes nothing.
 use Prim.Native.Nat.{ℕ, ◌≤◌, ◌<◌}
@@ -93,7 +93,8 @@ module _ (w : ℕ → Bool) (t : ℕ) where
 
   pub span_tag :
       (s : VorlaufShape) (r : TagStep) (v : Span) →
-      s ≡ TagVorDemLetztenWerktagVor → r ≡ tag_step (on_step Left (add w t 1) day_after) → v ≡ span_from (step_index r) →
+      s ≡ TagVorDemLetztenWerktagVor → r ≡ tag_step (on_step Left (add w t 1) day_after) →
+      v ≡ span_from (step_index r) →
       v ≡ span_of w s t
   unfolding span_of
   span_tag s r v e p q = rw (e, ← index_of_step r (on_step Left (add w t 1) day_after) p) q
@@ -107,7 +108,8 @@ module _ (w : ℕ → Bool) (t : ℕ) where
 
   pub span_beides :
       (s : VorlaufShape) (n m : ℕ) (r : TagStep) (v : Span) →
-      s ≡ LatestMonateUndWerktageBefore n m → r ≡ tag_step (on_step Left (W w t m) (M n)) → v ≡ span_from (step_index r) →
+      s ≡ LatestMonateUndWerktageBefore n m → r ≡ tag_step (on_step Left (W w t m) (M n)) →
+      v ≡ span_from (step_index r) →
       v ≡ span_of w s t
   unfolding span_of
   span_beides s n m r v e p q = rw (e, ← index_of_step r (on_step Left (W w t m) (M n)) p) q

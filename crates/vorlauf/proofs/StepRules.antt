@@ -1,11 +1,11 @@
 -- What the proofs of the steps ask, with the premises in the form in which a proof has them: r, u and v are what calls
 -- returned, `r ≡ tag_step (add ..)` is what a callee promises, and `r ≡ At x` what the match on its result found. For
 -- any test w of a day.
---   next-*                   the returns of `fruehester_termin_nach_tag_vor_dem_letzten_werktag`
---   after-first-*            those of `after_first_werktag`
---   months-after-*           those of `months_after_werktage`
---   *-in                     a day that a callee returned is one of the calendar
---   step_rules inside_rules  = these, for `search (needs, ..)`
+--   next_*                   the returns of `fruehester_termin_nach_tag_vor_dem_letzten_werktag`
+--   after_first_*            those of `after_first_werktag`
+--   months_after_*           those of `months_after_werktage`
+--   *_in                     a day that a callee returned is one of the calendar
+--   step_rules inside_rules = these, for `search (rules, ..)`
 -- Source: the definitions of Verdict and Span.
 -- Assumes nothing.
 use Prim.Native.Nat.{ℕ, ◌≤◌}
@@ -14,7 +14,8 @@ use mathlib.Core.Path.{◌≡◌}
 use native.Mathlib.Omega.{arith}
 use Rattle.zaehlung.specs.declared.Step.TheVariants.{Outside as Left}
 use Rattle.zaehlung.specs.Walk.{last, on_step, day_after, day_before, add, sub, next, W}
-use Rattle.zaehlung.proofs.Laws.{day_after_is, day_before_is, on_step_day, add_inside, sub_inside, next_inside, w_inside}
+use Rattle.zaehlung.proofs.Laws.{day_after_is, day_before_is, on_step_day, add_inside, sub_inside, next_inside}
+use Rattle.zaehlung.proofs.Laws.{w_inside}
 use Rattle.datum.specs.declared.tage.Tag.{Tag}
 use Rattle.datum.specs.declared.tage.TagStep.{TagStep}
 use Rattle.datum.specs.declared.tage.TagStep.TheVariants.{At, Outside as Gone}
@@ -77,7 +78,8 @@ module _ (w : ℕ → Bool) where
 
   pub next_is :
       (t : ℕ) (d e : Tag) (r u v : TagStep) → r ≡ tag_step (day_after t) → r ≡ At d → u ≡ tag_step (next w d.index) →
-      u ≡ At e → v ≡ tag_step (day_after e.index) → v ≡ tag_step (fruehester_termin_nach_tag_vor_dem_letzten_werktag w t)
+      u ≡ At e → v ≡ tag_step (day_after e.index) →
+      v ≡ tag_step (fruehester_termin_nach_tag_vor_dem_letzten_werktag w t)
   unfolding fruehester_termin_nach_tag_vor_dem_letzten_werktag
   next_is t d e r u v p q k l m = rw (at_day r (day_after t) p d q, at_day u (next w d.index) k e l) m
 

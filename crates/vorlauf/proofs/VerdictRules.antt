@@ -1,11 +1,11 @@
 -- What the proofs of the verdicts ask, with the premises in the form in which a proof has them: r, s, u and z are what
 -- calls returned, `r ≡ tag_step (sub ..)` is what a callee promises, and `r ≡ At x` what the match on its result found.
 -- For any test w of a day, transmission day t and anchor a, one rule for each return:
---   before-* window-* after-* earliest-* korridor-* tag-* monate-* beides-*   of each shape's function, in the order of
+--   before_* window_* after_* earliest_* korridor_* tag_* monate_* beides_*   of each shape's function, in the order of
 --                                                                             the shapes
---   by-werktage-* not-after-*  of `not_after_by_werktage` and `not_after`
+--   by_werktage_* not_after_*  of `not_after_by_werktage` and `not_after`
 --   verdict_is verdict_in      of `check`: the clause of the shape, and a date that is named
---   verdict_rules check_rules  = these, for `search (needs, ..)`
+--   verdict_rules check_rules = these, for `search (rules, ..)`
 -- Source: the definition check_of.
 -- Assumes nothing.
 use Prim.Native.Nat.{ℕ, ◌≤◌, ◌<◌}
@@ -29,7 +29,8 @@ use Rattle.vorlauf.specs.declared.VorlaufShape.TheVariants.{TagVorDemLetztenWerk
 use Rattle.vorlauf.specs.declared.VorlaufShape.TheVariants.{LatestMonateUndWerktageBefore}
 use Rattle.vorlauf.specs.declared.VorlaufVerdict.{VorlaufVerdict}
 use Rattle.vorlauf.specs.declared.VorlaufVerdict.TheVariants.{Ok, TooLate, TooEarly, Outside}
-use Rattle.vorlauf.specs.Verdict.{closes, reaches, fruehester_termin_nach_tag_vor_dem_letzten_werktag, not_after, check_of}
+use Rattle.vorlauf.specs.Verdict.{closes, reaches, fruehester_termin_nach_tag_vor_dem_letzten_werktag, not_after}
+use Rattle.vorlauf.specs.Verdict.{check_of}
 use Rattle.vorlauf.specs.Inside.{InsideVerdict}
 use Rattle.vorlauf.proofs.Inside.{check_inside}
 
@@ -203,7 +204,8 @@ module _ (w : ℕ → Bool) (t a : ℕ) where
   monate_out n r p q = rw (gone r (months_earlier a n) p q)
 
   pub monate_out_2 :
-      (n : ℕ) (x : Tag) (r u : TagStep) → r ≡ tag_step (months_earlier a n) → r ≡ At x → u ≡ tag_step (months_later t n) →
+      (n : ℕ) (x : Tag) (r u : TagStep) → r ≡ tag_step (months_earlier a n) → r ≡ At x →
+          u ≡ tag_step (months_later t n) →
       u ≡ Gone → Outside ≡ check_of w (LatestMonateBefore n) t a
   unfolding check_of closes reaches
   monate_out_2 n x r u p q k l = rw (at_day r (months_earlier a n) p x q, gone u (months_later t n) k l)
@@ -284,7 +286,8 @@ module _ (w : ℕ → Bool) (t a : ℕ) where
   pub verdict_is : (s z : VorlaufShape) (r : VorlaufVerdict) → s ≡ z → r ≡ check_of w z t a → r ≡ check_of w s t a
   verdict_is s z r p q = rw p q
 
-  pub verdict_in : (s : VorlaufShape) (r : VorlaufVerdict) → r ≡ check_of w s t a → t ≤ last → a ≤ last → InsideVerdict r
+  pub verdict_in : (s : VorlaufShape) (r : VorlaufVerdict) → r ≡ check_of w s t a → t ≤ last → a ≤ last →
+      InsideVerdict r
   verdict_in s r p h g = rw p (check_inside w t a h g s)
 
 pub ruleset verdict_rules = (

@@ -1,11 +1,11 @@
 -- The lead time of a deregistration by the grid operator, and its verdict.
 --   same_bytes a b             = whether two byte strings are the same
---   zq7                       = the three bytes "ZQ7"
+--   zq7                        = the three bytes "ZQ7"
 --   by_mark eeg                = the window for an EEG mark, where the reason is an ordinary one
 --   fuer_of reason eeg         = the window for a reason and an EEG mark
 --   shape_of v                 = the shape of a window, where one applies
 --   with_shape s f             = what f gives for a shape, or NoShape
---   abmeldung_check_of w v t a  = the verdict of a window, or NoShape, for any test w of a day
+--   abmeldung_check_of w v t a = the verdict of a window, or NoShape, for any test w of a day
 -- Source: document 01, abmeldung.rs; GPKE Teil 2, Kap. 2.5.2, SD 'Lieferende von NB an LF' Nr. 1.
 use Rattle.std.specs.Prelude.{ℕ, Bool, true, false, ◌&&◌, cond, List, [], ◌∷◌, eqb}
 use Rattle.vorlauf.specs.declared.VorlaufShape.{VorlaufShape}

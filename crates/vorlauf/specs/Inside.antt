@@ -1,7 +1,7 @@
 -- What functions ask and promise of ranges; no reader need believe it.
---   InsideVerdict v    = a date that v names is one of the calendar
---   InsideSpan p       = the ends of p are days of the calendar
---   InsideAbmeldung r  = a date that r names is one of the calendar
+--   InsideVerdict v   = a date that v names is one of the calendar
+--   InsideSpan p      = the ends of p are days of the calendar
+--   InsideAbmeldung r = a date that r names is one of the calendar
 use Rattle.std.specs.Prelude.{◌≤◌}
 use Rattle.zaehlung.specs.Walk.{last}
 use Rattle.vorlauf.specs.declared.VorlaufVerdict.{VorlaufVerdict}

@@ -2,8 +2,8 @@
 --   span_from s      = the span from the day of a step on; Outside where the step leaves the calendar
 --   span_between s u = the span between the days of two steps, Empty if the first is later; Outside where either leaves
 --   span_of w s t    = the span of a shape
---   LiesIn p a      = a is neither before the first day of p nor, where there is a last day, after that
---   Begins p d      = d is the first day of p
+--   LiesIn p a       = a is neither before the first day of p nor, where there is a last day, after that
+--   Begins p d       = d is the first day of p
 -- Source: document 01, 'The span of anchors'.
 use Rattle.std.specs.Prelude.{ℕ, ◌≤◌, Bool, cond, ◌≡◌, leb}
 use Rattle.zaehlung.specs.declared.Step.{Step}

@@ -1,11 +1,11 @@
 -- The verdict of a shape on a transmission day t and an anchor a, for any test w of a day. Every date that the Rust
 -- computes is computed here too, and only where it does; where one leaves the calendar the verdict is Outside.
---   closes w s a    = the last permitted transmission day for the anchor a
---   reaches w s t   = the day that is held against it: t, but for `EarliestWerktageAfter`
---   fruehester_termin_nach_tag_vor_dem_letzten_werktag w t   = the day after the first open day after t
---   not_after w t c f   = Ok up to the day c, else TooLate with the date f, which is computed only then
---   verdict_on w s t a c r   = the verdict, where the window closes on c and r is held against it
---   check_of w s t a = the verdict
+--   closes w s a           = the last permitted transmission day for the anchor a
+--   reaches w s t          = the day that is held against it: t, but for `EarliestWerktageAfter`
+--   fruehester_termin_nach_tag_vor_dem_letzten_werktag w t = the day after the first open day after t
+--   not_after w t c f      = Ok up to the day c, else TooLate with the date f, which is computed only then
+--   verdict_on w s t a c r = the verdict, where the window closes on c and r is held against it
+--   check_of w s t a       = the verdict
 -- Source: document 01, vorlauf.rs: `VorlaufShape::check`, `fruehester_termin_nach_tag_vor_dem_letzten_werktag`,
 -- `not_after`; for closes and reaches document 02, F-6.
 use Rattle.std.specs.Prelude.{ℕ, Bool, cond, leb, ltb}
@@ -50,7 +50,8 @@ reaches w (LatestMonateUndWerktageBefore monate werktage) t = Day t
 
 -- 'the day after the first Werktag strictly after the ÜT': `next_werktag` of the day after t, and the day after that
 unfoldable pub fruehester_termin_nach_tag_vor_dem_letzten_werktag : (ℕ → Bool) → ℕ → Step
-fruehester_termin_nach_tag_vor_dem_letzten_werktag w t = on_step Left (day_after t) (λ d. on_step Left (next w d) day_after)
+fruehester_termin_nach_tag_vor_dem_letzten_werktag w t = on_step Left (day_after t)
+    (λ d. on_step Left (next w d) day_after)
 
 -- '`Ok` while `uebertragungstag` is at or before `latest_uet`, else `TooLate`'
 abbrev pub not_after : (ℕ → Bool) → ℕ → ℕ → Step → VorlaufVerdict
@@ -70,7 +71,8 @@ verdict_on w (Korridor n) t a c r =
     on_step Outside (sub w a n) (λ opens.
     cond (ltb t opens) (TooEarly (between w t opens))
     (not_after w r c (Day opens)))
-verdict_on w TagVorDemLetztenWerktagVor t a c r = not_after w r c (fruehester_termin_nach_tag_vor_dem_letzten_werktag w t)
+verdict_on w TagVorDemLetztenWerktagVor t a c r = not_after w r c
+    (fruehester_termin_nach_tag_vor_dem_letzten_werktag w t)
 verdict_on w (LatestMonateBefore n) t a c r =
     on_step Outside (months_later t n) (λ first.
     not_after w r c (Day first))

@@ -115,7 +115,8 @@ impl AbmeldungVorlauf {
         zuordnungsende: Tag,
         cal: HolidayCalendar,
     ) -> AbmeldungVerdict
-        requires uebertragungstag_value { (uebertragungstag ≡ tag_at uebertragungstag.index) × (uebertragungstag.index ≤ last) }
+        requires uebertragungstag_value { (uebertragungstag ≡ tag_at uebertragungstag.index)
+            × (uebertragungstag.index ≤ last) }
         requires zuordnungsende_value { (zuordnungsende ≡ tag_at zuordnungsende.index) × (zuordnungsende.index ≤ last) }
         ensures value { result ≡ abmeldung_check_of (is_werktag cal) self uebertragungstag.index zuordnungsende.index }
         ensures inside_abmeldung { InsideAbmeldung result }

@@ -10,7 +10,8 @@ ghost use Rattle.zaehlung.specs.Walk.{last, on_step, day_after, add, W, between}
 ghost use Rattle.datum.specs.Monate.{M};
 ghost use Rattle.datum.specs.Tage.{tag_at, tag_step, step_index};
 ghost use Rattle.werktag.specs.Werktag.{is_werktag};
-ghost use Rattle.vorlauf.specs.Verdict.{closes, fruehester_termin_nach_tag_vor_dem_letzten_werktag, not_after, check_of};
+ghost use Rattle.vorlauf.specs.Verdict.{closes, fruehester_termin_nach_tag_vor_dem_letzten_werktag, not_after};
+ghost use Rattle.vorlauf.specs.Verdict.{check_of};
 ghost use Rattle.vorlauf.specs.Span.{span_from, span_between, span_of};
 ghost use Rattle.vorlauf.specs.Inside.{InsideVerdict, InsideSpan};
 
@@ -254,7 +255,8 @@ fn latest_monate_before(n: u32, t: Tag, a: Tag, cal: HolidayCalendar) -> Vorlauf
 /// day on which they land.
 fn monate_und_werktage_before(monate: u32, werktage: u32, a: Tag, cal: HolidayCalendar) -> TagStep
     requires { (a ≡ tag_at a.index) × (a.index ≤ last) }
-    ensures { result ≡ tag_step (closes (is_werktag cal) (VorlaufShape.LatestMonateUndWerktageBefore monate werktage) a.index) }
+    ensures { result ≡ tag_step
+        (closes (is_werktag cal) (VorlaufShape.LatestMonateUndWerktageBefore monate werktage) a.index) }
 {
     let TagStep::At(back) = monate::months_earlier(a, monate) else {
         return TagStep::Outside;
@@ -272,7 +274,8 @@ fn latest_monate_und_werktage_before(
     cal: HolidayCalendar,
 ) -> VorlaufVerdict
     requires { (t ≡ tag_at t.index) × (t.index ≤ last) × (a ≡ tag_at a.index) × (a.index ≤ last) }
-    ensures { result ≡ check_of (is_werktag cal) (VorlaufShape.LatestMonateUndWerktageBefore monate werktage) t.index a.index }
+    ensures { result ≡ check_of (is_werktag cal) (VorlaufShape.LatestMonateUndWerktageBefore monate werktage) t.index
+        a.index }
 {
     let TagStep::At(closes) = monate_und_werktage_before(monate, werktage, a, cal) else {
         return VorlaufVerdict::Outside;
@@ -344,7 +347,8 @@ impl VorlaufShape {
     /// `LatestWerktageBefore(1)` from Saturday 10 January 2026 against Monday 12 January: TooLate by 0 Werktage, with
     /// that Monday.
     pub fn check(self, uebertragungstag: Tag, anchor: Tag, cal: HolidayCalendar) -> VorlaufVerdict
-        requires uebertragungstag_value { (uebertragungstag ≡ tag_at uebertragungstag.index) × (uebertragungstag.index ≤ last) }
+        requires uebertragungstag_value { (uebertragungstag ≡ tag_at uebertragungstag.index)
+            × (uebertragungstag.index ≤ last) }
         requires anchor_value { (anchor ≡ tag_at anchor.index) × (anchor.index ≤ last) }
         ensures { (result ≡ check_of (is_werktag cal) self uebertragungstag.index anchor.index) × InsideVerdict result }
     {

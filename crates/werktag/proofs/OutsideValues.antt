@@ -41,7 +41,8 @@ pub year_2026 :
     ∷ w (on 2026 4 7) ∷ w (on 2026 11 11) ∷ w (on 2026 11 25) ∷ w (on 2026 4 4) ∷ []
     ≡ false ∷ false ∷ false ∷ false ∷ false ∷ false
     ∷ true ∷ true ∷ true ∷ false ∷ []
-unfolding is_werktag is_fixed is_buss_und_bettag is_easter_feast any easter_index easter_sunday date_in at start year_len
+unfolding is_werktag is_fixed is_buss_und_bettag is_easter_feast any easter_index easter_sunday date_in at start
+    year_len
     days_in_month is_leap
 year_2026 = refl
 
@@ -50,7 +51,8 @@ pub edges :
     is_werktag_in BdewMaKo 0 0 ∷ is_werktag_in BdewMaKo 0 1
     ∷ is_werktag_in BdewMaKo 903 363 ∷ is_werktag_in BdewMaKo 903 364 ∷ []
     ≡ false ∷ true ∷ true ∷ false ∷ []
-unfolding is_fixed is_buss_und_bettag is_easter_feast any easter_index easter_sunday date_in at start year_len days_in_month is_leap
+unfolding is_fixed is_buss_und_bettag is_easter_feast any easter_index easter_sunday date_in at start year_len
+    days_in_month is_leap
 edges = refl
 
 abbrev why : Date → ℕ
@@ -66,7 +68,8 @@ pub holidays :
     ∷ 8 ∷ 9 ∷ 10 ∷ 11 ∷ 12
     ∷ 13 ∷ 14 ∷ 15 ∷ 16 ∷ 17
     ∷ 18 ∷ 19 ∷ 21 ∷ 22 ∷ []
-unfolding reason place_from is_buss_und_bettag easter_index easter_sunday date_in at start year_len days_in_month is_leap
+unfolding reason place_from is_buss_und_bettag easter_index easter_sunday date_in at start year_len days_in_month
+    is_leap
 holidays = refl
 
 -- the Tuesday after Easter 2026, a Saturday, a Sunday; then what goes first: 8 March 2026 is a Sunday and Frauentag,
@@ -77,7 +80,8 @@ pub precedence :
     ∷ why (on 2026 3 8) ∷ why (on 2026 5 24) ∷ why (on 2026 12 26) ∷ why (on 2008 5 1) ∷ []
     ≡ 0 ∷ 1 ∷ 2
     ∷ 2 ∷ 2 ∷ 1 ∷ 6 ∷ []
-unfolding reason place_from is_buss_und_bettag easter_index easter_sunday date_in at start year_len days_in_month is_leap
+unfolding reason place_from is_buss_und_bettag easter_index easter_sunday date_in at start year_len days_in_month
+    is_leap
 precedence = refl
 
 -- 2026: Karfreitag 3 April, Ostermontag 6 April, Christi Himmelfahrt 14 May, Pfingsten 24 and 25 May, Fronleichnam 4
@@ -104,7 +108,8 @@ pub reasons_built :
     ∷ reason_by_built (on 2026 6 4) ∷ reason_by_built (on 2008 5 1) ∷ []
     ≡ 17 ∷ 0 ∷ 2
     ∷ 22 ∷ 6 ∷ []
-unfolding reason_by_built place_from is_buss_und_bettag built_dates easter_sunday date_of date_in at start year_len days_in_month
+unfolding reason_by_built place_from is_buss_und_bettag built_dates easter_sunday date_of date_in at start year_len
+    days_in_month
     is_leap
 reasons_built = refl
 
@@ -113,5 +118,6 @@ pub reasons_distant :
     ∷ reason_by_distance (on 2026 6 4) ∷ reason_by_distance (on 2008 5 1) ∷ []
     ≡ 17 ∷ 0 ∷ 2
     ∷ 22 ∷ 6 ∷ []
-unfolding reason_by_distance place_from is_buss_und_bettag distance easter_index easter_sunday start year_len days_in_month is_leap
+unfolding reason_by_distance place_from is_buss_und_bettag distance easter_index easter_sunday start year_len
+    days_in_month is_leap
 reasons_distant = refl

@@ -22,14 +22,16 @@ use Rattle.zaehlung.specs.Lists.{any}
 use Rattle.werktag.specs.Reason.{place_from}
 
 module _ (bs : List Bool) (n i : ℕ) (e : place_from (n + i) (drop i bs) ≡ place_from n bs) where
-  by_next : (b : Bool) → i < length bs → get_or bs i false ≡ b → place_from (n + i) (b ∷ drop (i + 1) bs) ≡ place_from n bs
+  by_next : (b : Bool) → i < length bs → get_or bs i false ≡ b →
+      place_from (n + i) (b ∷ drop (i + 1) bs) ≡ place_from n bs
   by_next b h t = sym (ap (place_from (n + i)) (rw (add-one, ← t) (drop-cons bs i false h))) ∙ e
 
   pub place_hit : i < length bs → get_or bs i false ≡ true → n + i ≡ place_from n bs
   unfolding place_from
   place_hit h t = by_next true h t
 
-  pub place_miss : i < length bs → get_or bs i false ≡ false → place_from (n + (i + 1)) (drop (i + 1) bs) ≡ place_from n bs
+  pub place_miss : i < length bs → get_or bs i false ≡ false →
+      place_from (n + (i + 1)) (drop (i + 1) bs) ≡ place_from n bs
   unfolding place_from
   place_miss h t = ap (λ (m : ℕ). place_from m (drop (i + 1) bs)) (omega arith) ∙ by_next false h t
 

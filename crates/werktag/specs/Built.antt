@@ -2,10 +2,10 @@
 --   same_date d e        = whether two dates are the same
 --   days_from d o        = the date o days from the date d
 --   built_dates y        = the dates built from Easter Sunday of the year y, one for each offset
---   distance d          = the days from its own year's Easter Sunday to the date d, below 0 before it
+--   distance d           = the days from its own year's Easter Sunday to the date d, below 0 before it
 --   reason_with d bs     = the reason of the date d, bs being its tests for the feasts by Easter
---   reason_by_built d     = the reason, by comparing the date with each built date
---   reason_by_distance d  = the reason, by comparing its distance with each offset
+--   reason_by_built d    = the reason, by comparing the date with each built date
+--   reason_by_distance d = the reason, by comparing its distance with each offset
 -- Source: document 02, F-4: 'The Rust's test rebuilds the six Easter dates every time.' That test is
 -- `is_bdew_mako_holiday` of lib.rs: `let holiday = e_date + Duration::days(offset); if holiday == date`.
 use Rattle.std.specs.Prelude.{ℕ, Bool, ◌&&◌, List, ◌∷◌, ◌++◌, map, eqb, ℤ, pos, nat_abs, ◌+ℤ◌, ◌-ℤ◌}

@@ -1,7 +1,7 @@
 -- Easter Sunday.
---   easter_sunday y  = its date in the year y
---   easter_index y   = its index
---   easter_for y m   = the same for the months from March to June, in which the feasts lie that move with it; for any
+--   easter_sunday y = its date in the year y
+--   easter_index y  = its index
+--   easter_for y m  = the same for the months from March to June, in which the feasts lie that move with it; for any
 --                     other month a day past the calendar
 -- Source: the Anonymous Gregorian algorithm (Nature, 20 April 1876; Meeus, Astronomical Algorithms, chapter 8), in its
 -- own letters. No difference in it goes below 0 in a year of the calendar, so natural numbers serve.

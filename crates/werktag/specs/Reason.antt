@@ -1,12 +1,12 @@
 -- Why a day is closed: the first that holds of what closes a day, by its number.
---   place_from n bs    = the place of the first test in bs that holds, places being counted from n on; 0 if none holds
---   weekend_tests i    = whether the day with index i is a Saturday, a Sunday
---   fixed_tests m d    = whether day d of month m is the first of the fixed days, the second ..
---   fixed_bits m       = the fixed days of month m, 2 to the power of its day for each
---   feast_tests i y    = whether the day with index i is the first of the year y's feasts by Easter, the second ..
---   holiday_tests i d  = the whole list, for the day with index i and date d
---   day_tests i d      = all that closes it, in the order of the numbers
---   reason_in cal k r  = the reason of day r, from 0 on, of the year 1996 + k
+--   place_from n bs   = the place of the first test in bs that holds, places being counted from n on; 0 if none holds
+--   weekend_tests i   = whether the day with index i is a Saturday, a Sunday
+--   fixed_tests m d   = whether day d of month m is the first of the fixed days, the second ..
+--   fixed_bits m      = the fixed days of month m, 2 to the power of its day for each
+--   feast_tests i y   = whether the day with index i is the first of the year y's feasts by Easter, the second ..
+--   holiday_tests i d = the whole list, for the day with index i and date d
+--   day_tests i d     = all that closes it, in the order of the numbers
+--   reason_in cal k r = the reason of day r, from 0 on, of the year 1996 + k
 --   reason cal i      = the reason of the day with index i
 -- Source: document 02, F-2: '0 Werktag, 1 Saturday, 2 Sunday, 3 to 22 the holidays in document 01's order. Weekend goes
 -- before holiday. Two holidays on one date give the lower number, as on 1 May 2008.'

@@ -1,19 +1,20 @@
 -- Werktage by the list of document 01, the same in every year.
---   fixed_days             = the fixed days, day and month
---   is_day m d x           = whether day d of month m is the fixed day x
---   is_fixed m d           = whether it is one of them
+--   fixed_days               = the fixed days, day and month
+--   is_day m d x             = whether day d of month m is the fixed day x
+--   is_fixed m d             = whether it is one of them
 --   is_buss_und_bettag m d w = whether it is the Wednesday from 16 to 22 November, w being its weekday
---   easter_offsets         = the days from Easter Sunday to each feast that moves with it
---   is_feast i y o         = whether the day with index i lies o days from Easter Sunday of the year y
---   is_easter_feast i y     = whether it is one of the feasts of the year y that move with Easter
---   is_listed i d          = whether the day with index i and date d is in the list
---   is_werktag_in cal k r   = whether day r, from 0 on, of the year 1996 + k is a Werktag
---   is_werktag cal i       = whether the day with index i is a Werktag
+--   easter_offsets           = the days from Easter Sunday to each feast that moves with it
+--   is_feast i y o           = whether the day with index i lies o days from Easter Sunday of the year y
+--   is_easter_feast i y      = whether it is one of the feasts of the year y that move with Easter
+--   is_listed i d            = whether the day with index i and date d is in the list
+--   is_werktag_in cal k r    = whether day r, from 0 on, of the year 1996 + k is a Werktag
+--   is_werktag cal i         = whether the day with index i is a Werktag
 -- The day test is one of a year and a day in it, so that a fact about all days can be computed year by year;
 -- the crate jahre has a form of it for that.
 -- Source: GPKE Teil 1 (Werktag: 'alle Tage .., die kein Samstag, Sonntag oder gesetzlicher Feiertag sind'; a holiday of
 -- one Land counts everywhere; 24.12. and 31.12. count as holidays); document 01, 'lib.rs, calendar', for the list.
-use Rattle.std.specs.Prelude.{ℕ, ◌+◌, Bool, false, not, ◌&&◌, ◌||◌, List, [], ◌∷◌, eqb, leb, ℤ, pos, negsuc, neg_ℤ, ◌+ℤ◌}
+use Rattle.std.specs.Prelude.{ℕ, ◌+◌, Bool, false, not, ◌&&◌, ◌||◌, List, [], ◌∷◌, eqb, leb, ℤ, pos, negsuc, neg_ℤ}
+use Rattle.std.specs.Prelude.{◌+ℤ◌}
 use Rattle.zaehlung.specs.Lists.{any}
 use Rattle.datum.specs.declared.Date.{Date}
 use Rattle.datum.specs.Calendar.{year_start, year_of, date_in, weekday}

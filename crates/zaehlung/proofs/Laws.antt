@@ -192,6 +192,7 @@ pub day_before_is : (d e : ℕ) → day_before d ≡ Day e → d ≡ suc e
 day_before_is zero e p = let z : ◌≡◌ {A = ℕ} 0 1 = cc in absurd (omega arith)
 day_before_is (suc d) e p = cc
 
-pub on_step_day : (s : Step) (f : ℕ → Step) (e : ℕ) → on_step Outside s f ≡ Day e → (d : ℕ) × (s ≡ Day d) × (f d ≡ Day e)
+pub on_step_day : (s : Step) (f : ℕ → Step) (e : ℕ) → on_step Outside s f ≡ Day e →
+    (d : ℕ) × (s ≡ Day d) × (f d ≡ Day e)
 on_step_day (Day d) f e p = (d, refl, p)
 on_step_day Outside f e p = let z : ◌≡◌ {A = ℕ} 0 1 = cc in absurd (omega arith)

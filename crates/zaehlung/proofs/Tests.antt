@@ -1,7 +1,7 @@
 -- Two tests.
 --   and_left, and_right   both hold: so does either
 --   and_yes, and_no       beside a test that holds the other decides; beside one that fails both fail
---   agree a b             = whether they say the same, as a test that computes; agree_is, then they are the same
+--   agree a b = whether they say the same, as a test that computes; agree_is, then they are the same
 -- Assumes nothing.
 use mathlib.Core.Bool.{Bool, true, false, not, ◌&&◌}
 use mathlib.Core.Path.{◌≡◌, refl, sym, subst}

@@ -1,8 +1,7 @@
 -- Days in consecutive blocks, years or months, of which block k has `len k` days: one theory for both.
---   start len k    = how many days lie before block k
---   at len f k r   = the block of the day r days after the first of block k, and the day in it, from 0 on; at most f
---                  blocks
---                    are passed
+--   start len k  = how many days lie before block k
+--   at len f k r = the block of the day r days after the first of block k, and the day in it, from 0 on; at most f
+--                  blocks are passed
 -- Source: the Gregorian calendar's years and months, of which document 01 takes 1996 to 2899.
 use Rattle.std.specs.Prelude.{ℕ, zero, suc, ◌+◌, ◌-◌, true, false, ltb}
 

@@ -1,9 +1,9 @@
 -- Lists of things that are tested.
---   any p xs       = whether p holds of some element of xs
---   strike p x     = the test p of a day, with the day x struck out
---   strikes p xs   = the same with each day of xs struck out
---   each p xs n    = how many places of xs hold a day before n that passes p
---   below xs n     = how many hold a day before n
+--   any p xs     = whether p holds of some element of xs
+--   strike p x   = the test p of a day, with the day x struck out
+--   strikes p xs = the same with each day of xs struck out
+--   each p xs n  = how many places of xs hold a day before n that passes p
+--   below xs n   = how many hold a day before n
 -- Assumes nothing.
 use Rattle.std.specs.Prelude.{ℕ, ◌+◌, Bool, false, not, ◌&&◌, ◌||◌, List, [], ◌∷◌, eqb, ltb}
 use Rattle.zaehlung.specs.Walk.{bit}

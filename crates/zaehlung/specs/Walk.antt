@@ -1,24 +1,24 @@
 -- Days 0 to last, stepped and counted day by day, for any test w of a day. A day that passes w is open; for the test of
 -- the holiday list that is a Werktag.
---   last           = 330179, the index of the calendar's last day, 31 December 2899; day 0 is 1 January 1996
---   add w d n      = the n-th open day after d; d itself for n = 0; Outside past the last day
---   sub w d n      = the n-th open day before d; d itself for n = 0; Outside before day 0
---   next w d       = the first open day on or after d; Outside if there is none up to the last day
---   W w t n        = the day after the n-th open day on or after t; t itself for n = 0; Outside past the last day:
---                    `day_after_werktage`
---   between w a b  = how many days after a, up to and with b, are open; 0 if b is not later
---   count w d      = how many days before d are open
+--   last          = 330179, the index of the calendar's last day, 31 December 2899; day 0 is 1 January 1996
+--   add w d n     = the n-th open day after d; d itself for n = 0; Outside past the last day
+--   sub w d n     = the n-th open day before d; d itself for n = 0; Outside before day 0
+--   next w d      = the first open day on or after d; Outside if there is none up to the last day
+--   W w t n       = the day after the n-th open day on or after t; t itself for n = 0; Outside past the last day:
+--                   `day_after_werktage`
+--   between w a b = how many days after a, up to and with b, are open; 0 if b is not later
+--   count w d     = how many days before d are open
 -- and the walks that give them, with k, the number of days that are left to go:
---   up w k d n     = n open days on from d, each day arrived at tested
---   past w k d n   = n open days on from d, each day left behind tested
---   first w k d    = the first open day from d on
---   down w d n     = n open days back from d; d days are left to go
---   among w d k    = how many of the k days from d on are open
---   bit b          = 1 for true, 0 for false
+--   up w k d n   = n open days on from d, each day arrived at tested
+--   past w k d n = n open days on from d, each day left behind tested
+--   first w k d  = the first open day from d on
+--   down w d n   = n open days back from d; d days are left to go
+--   among w d k  = how many of the k days from d on are open
+--   bit b        = 1 for true, 0 for false
 -- and what goes on from a step:
---   on_step z s f   = f of the day that the step s reached; z where it left the calendar
---   day_after d     = the day after d; Outside past the last day
---   day_before d    = the day before d; Outside before day 0
+--   on_step z s f = f of the day that the step s reached; z where it left the calendar
+--   day_after d   = the day after d; Outside past the last day
+--   day_before d  = the day before d; Outside before day 0
 -- Source: document 01, lib.rs, and 'The span of anchors' for W.
 -- Assumes nothing.
 use Rattle.std.specs.Prelude.{ℕ, zero, suc, ◌+◌, ◌-◌, Bool, true, false, cond, ltb}

@@ -1,6 +1,6 @@
 -- Numbers read from a place of a list of bytes, lowest byte first.
 --   u16_at l i, u32_at l i = the number of the 2, 4 bytes of l that start at i, counted from 0
---   i64_at l i            = the signed number of the 8 bytes of l that start at i
+--   i64_at l i             = the signed number of the 8 bytes of l that start at i
 -- Source: document 01, 'Host calls and their refusals': 'little-endian, no header'.
 -- Assumes nothing.
 use Rattle.std.specs.Prelude.{ℕ, ◌+◌, List, ℤ, get_or}

@@ -1,6 +1,6 @@
 -- Signed numbers as bits, two's complement, at the width whose lowest number is -h: h is 2^63 for 64 bits, 2^31 for 32.
---   bits_in h z    = the bits of the signed number z, as a natural number
---   signed_in h x  = the signed number whose bits are x
+--   bits_in h z            = the bits of the signed number z, as a natural number
+--   signed_in h x          = the signed number whose bits are x
 --   bits_of z, signed_of x = the same at 64 bits
 -- Source: document 01, 'Host calls and their refusals': '8 to 15 seconds, signed'.
 -- Assumes nothing.

@@ -11,7 +11,8 @@ use Rattle.gang.specs.Stand.{Stands}
 use Rattle.gang.proofs.add_werktage.Given as goal
 
 abbrev pub invariant-loop-remaining : goal.invariant-loop-remaining
-invariant-loop-remaining l =     (Stands l.at) × (add (is_werktag l.cal) l.initial.at.tag.index l.n ≡ add (is_werktag l.cal) l.at.tag.index l.remaining)
+invariant-loop-remaining l =     (Stands l.at)
+    × (add (is_werktag l.cal) l.initial.at.tag.index l.n ≡ add (is_werktag l.cal) l.at.tag.index l.remaining)
 
 abbrev pub decreases-loop-remaining : goal.decreases-loop-remaining
 decreases-loop-remaining l = last - l.at.tag.index

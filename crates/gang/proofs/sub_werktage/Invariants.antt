@@ -10,7 +10,8 @@ use Rattle.gang.specs.Stand.{Stands}
 use Rattle.gang.proofs.sub_werktage.Given as goal
 
 abbrev pub invariant-loop-remaining : goal.invariant-loop-remaining
-invariant-loop-remaining l =     (Stands l.at) × (sub (is_werktag l.cal) l.initial.at.tag.index l.n ≡ sub (is_werktag l.cal) l.at.tag.index l.remaining)
+invariant-loop-remaining l =     (Stands l.at)
+    × (sub (is_werktag l.cal) l.initial.at.tag.index l.n ≡ sub (is_werktag l.cal) l.at.tag.index l.remaining)
 
 abbrev pub decreases-loop-remaining : goal.decreases-loop-remaining
 decreases-loop-remaining l = l.at.tag.index

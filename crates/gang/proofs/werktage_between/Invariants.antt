@@ -10,7 +10,8 @@ use Rattle.gang.specs.Stand.{Stands}
 use Rattle.gang.proofs.werktage_between.Given as goal
 
 abbrev pub invariant-loop-at : goal.invariant-loop-at
-invariant-loop-at l =     (Stands l.at) × (between (is_werktag l.cal) l.initial.at.tag.index l.to ≡ l.count + between (is_werktag l.cal) l.at.tag.index l.to)
+invariant-loop-at l =     (Stands l.at) × (between (is_werktag l.cal) l.initial.at.tag.index l.to
+    ≡ l.count + between (is_werktag l.cal) l.at.tag.index l.to)
     × (l.at.tag.index ≤ l.to) × (l.count ≤ l.at.tag.index)
 
 abbrev pub decreases-loop-at : goal.decreases-loop-at

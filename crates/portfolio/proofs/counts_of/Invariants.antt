@@ -12,7 +12,8 @@ use Rattle.portfolio.proofs.Counted.{Counted, counts_rules, one_more}
 use Rattle.portfolio.proofs.counts_of.Given as goal
 
 abbrev pub invariant-loop-i : goal.invariant-loop-i
-invariant-loop-i l = (l.table ≡ entries) × Knows l.cal l.run × Counted (is_werktag l.cal) l.from l.to l.counts l.i l.run.read l.run.year
+invariant-loop-i l = (l.table ≡ entries) × Knows l.cal l.run
+    × Counted (is_werktag l.cal) l.from l.to l.counts l.i l.run.read l.run.year
     × (length l.counts ≡ length l.initial.counts) × (l.i ≤ length l.from)
 
 abbrev pub decreases-loop-i : goal.decreases-loop-i

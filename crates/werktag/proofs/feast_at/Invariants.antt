@@ -11,7 +11,8 @@ use borrow.Author.Rules.{rules}
 use Rattle.werktag.proofs.feast_at.Given as goal
 
 abbrev pub invariant-loop-i : goal.invariant-loop-i
-invariant-loop-i l = (l.i ≤ 6) × (place_from (17 + l.i) (drop l.i (feasts l.distance)) ≡ place_from 17 (feasts l.distance))
+invariant-loop-i l = (l.i ≤ 6)
+    × (place_from (17 + l.i) (drop l.i (feasts l.distance)) ≡ place_from 17 (feasts l.distance))
 
 abbrev pub decreases-loop-i : goal.decreases-loop-i
 decreases-loop-i l = 6 - l.i

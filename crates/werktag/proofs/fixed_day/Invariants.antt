@@ -9,7 +9,8 @@ use borrow.Author.Rules.{rules}
 use Rattle.werktag.proofs.fixed_day.Given as goal
 
 abbrev pub invariant-loop-i : goal.invariant-loop-i
-invariant-loop-i l = (l.i ≤ 13) × (place_from (3 + l.i) (drop l.i (fixed_tests l.month l.day)) ≡ place_from 3 (fixed_tests l.month l.day))
+invariant-loop-i l = (l.i ≤ 13)
+    × (place_from (3 + l.i) (drop l.i (fixed_tests l.month l.day)) ≡ place_from 3 (fixed_tests l.month l.day))
 
 abbrev pub decreases-loop-i : goal.decreases-loop-i
 decreases-loop-i l = 13 - l.i

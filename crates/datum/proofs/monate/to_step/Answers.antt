@@ -1,5 +1,5 @@
--- `datum::monate::to_step` meets its contract: each arm is a clause of `to_step`, and a date that a shift reached is one
--- of the range, as the caller shows.
+-- `datum::monate::to_step` meets its contract: each arm is a clause of `to_step`, and a date that a shift reached is
+-- one of the range, as the caller shows.
 -- Assumes nothing.
 use Rattle.datum.proofs.MonthStepRules.{month_rules}
 use borrow.Author.Rules.{rules}

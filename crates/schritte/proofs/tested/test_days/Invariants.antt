@@ -12,7 +12,8 @@ use Rattle.schritte.proofs.tested.test_days.Given as goal
 
 abbrev pub invariant-loop-at : goal.invariant-loop-at
 invariant-loop-at l =     (Stands l.at) × (l.werktage ≡ among (is_werktag l.cal) l.initial.at.tag.index l.tested)
-    × (l.at.tag.index + 1 ≡ l.initial.at.tag.index + l.tested) × (l.at.tag.index ≤ l.day) × (l.werktage ≤ l.tested) × (1 ≤ l.tested)
+    × (l.at.tag.index + 1 ≡ l.initial.at.tag.index + l.tested) × (l.at.tag.index ≤ l.day) × (l.werktage ≤ l.tested)
+    × (1 ≤ l.tested)
 
 abbrev pub decreases-loop-at : goal.decreases-loop-at
 decreases-loop-at l = l.day - l.at.tag.index
