@@ -50,7 +50,7 @@ module _ (w : ℕ → Bool) (m n : Moment) (i : ℕ) (b : Bool) (g : n ≡ berli
 
   pub no_werktag :
       (s : TagStep) → not b ≡ false → s ≡ tag_step (sub w i 1) → s ≡ Gone →
-          Outside ≡ eog_ankuendigung_fristgerecht w m i
+      Outside ≡ eog_ankuendigung_fristgerecht w m i
   unfolding eog_ankuendigung_fristgerecht
   no_werktag s t p q = rw (at_midnight true (not-false b t), gone s (sub w i 1) p q)
 

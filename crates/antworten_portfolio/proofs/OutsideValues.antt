@@ -4,7 +4,7 @@
 use Prim.Native.Nat.{ℕ}
 use mathlib.Core.List.{List, [], ◌∷◌}
 use mathlib.Core.Path.{◌≡◌, refl}
-use lib.ListN.{length, replicate}
+use lib.ListN.{replicate}
 use Rattle.zaehlung.specs.Walk.{among, between}
 use Rattle.zaehlung.specs.Blocks.{start, at}
 use Rattle.zaehlung.specs.Lists.{any}

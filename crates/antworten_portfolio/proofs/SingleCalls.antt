@@ -7,7 +7,7 @@
 use Prim.Native.Nat.{ℕ, suc, ◌+◌, ◌-◌, ◌≤◌, ◌<◌}
 use mathlib.Core.Bool.{Bool, true}
 use mathlib.Core.List.{List}
-use mathlib.Core.Path.{◌≡◌, refl, sym, ap, ◌∙◌}
+use mathlib.Core.Path.{◌≡◌, ◌∙◌}
 use native.Mathlib.Omega.{arith}
 use lib.ListN.{length, get_or}
 use borrow.Author.Tests.{le-leb}
@@ -17,7 +17,7 @@ use Rattle.datum.specs.declared.Date.{Date}
 use Rattle.datum.specs.declared.Index.TheVariants.{Day}
 use Rattle.datum.specs.Calendar.{index_of}
 use Rattle.datum.proofs.RoundTrip.{index_inside}
-use Rattle.portfolio.specs.Portfolio.{is_portfolio, in_range, pair_count, counts_of}
+use Rattle.portfolio.specs.Portfolio.{is_portfolio, in_range, pair_count}
 use Rattle.portfolio.proofs.Pairs.{pairwise_at}
 use Rattle.portfolio.proofs.Rules.{within}
 use Rattle.portfolio.proofs.Counted.{lengths_are}

@@ -124,7 +124,7 @@ given_tag d b t g f e = tag_is d t (valid_is d (date_valid d b g f)) (sym e)
 
 pub days_same :
     (w : ℕ → Bool) (u : VorlaufShape) (d : Date) (t : ℕ) (s : Span) (r : Answer) → t ≡ days_before d →
-        s ≡ span_of w u t →
+    s ≡ span_of w u t →
     r ≡ span_answer s → r ≡ span_answer (span_of w u (days_before d))
 days_same w u d t s r e q p = p ∙ ap span_answer (q ∙ ap (span_of w u) e)
 

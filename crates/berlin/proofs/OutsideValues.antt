@@ -26,7 +26,7 @@ pub clocks :
     berlin_at 11045 (record { second = 9000; nanos = 0 }) ∷ berlin_at 11045 (record { second = 12600; nanos = 7 }) ∷
     berlin_at 11045 (record { second = 5400; nanos = 0 })
     ∷ berlin_at 11255 (record { second = 9000; nanos = 0 }) ∷ berlin_at 11255 (record { second = 12600; nanos = 0 })
-        ∷ []
+    ∷ []
     ≡ Absent ∷ At (moment_of 1774747800 7) ∷ At (moment_of 1774744200 0)
     ∷ At (moment_of 1792888200 0) ∷ At (moment_of 1792895400 0) ∷ []
 unfolding berlin_at offset_at year_at last_sunday date_of date_in at start year_len days_in_month is_leap

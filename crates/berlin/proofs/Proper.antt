@@ -160,7 +160,7 @@ module _ (i : ℕ) (h : i ≤ last) where
   pub midnight_proper : (m : Moment) → m ≡ berlin_midnight i → Proper m
   midnight_proper m e =
       rw e (shown_proper i midnight (berlin_midnight i) h (proper_clock _ (omega arith) (omega arith))
-          midnight_earliest)
+      midnight_earliest)
 
   pub midnight_second : (m : Moment) → m ≡ berlin_midnight i → m.second < 86400
   midnight_second m e = (midnight_proper m e).second_lt
@@ -168,7 +168,7 @@ module _ (i : ℕ) (h : i ≤ last) where
   pub end_proper : (m : Moment) → m ≡ end_of_day_berlin i → Proper m
   end_proper m e =
       rw e (shown_proper i second_before_midnight (end_of_day_berlin i) h (proper_clock _ (omega arith) (omega arith))
-          end_earliest)
+      end_earliest)
 
   begin_proper_at : (sp : Sparte) → Proper (tagesbeginn_utc i sp)
   unfolding tagesbeginn_utc

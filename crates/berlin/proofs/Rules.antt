@@ -26,7 +26,7 @@ use Rattle.berlin.specs.Berlin.{berlin_date, berlin_at, resolved_or, berlin_midn
 use Rattle.berlin.specs.Berlin.{tagesbeginn_utc, tag_des_beginns}
 use Rattle.berlin.specs.Inside.{Proper, ProperClock, guessed_year}
 use Rattle.berlin.proofs.SummerTime.{parts, start_3, start_10, guessed, summer_in, winter_late}
-use Rattle.berlin.proofs.LocalTime.{early, gap, late, at_two, at_one, at_none, clock_from, clock_to}
+use Rattle.berlin.proofs.LocalTime.{early, gap, late, at_two, at_one, at_none, clock_to}
 
 -- read_clock
 module _ (h m s x : ℕ) where
@@ -108,7 +108,7 @@ before_is i t j u =
 module _ (i t : ℕ) (h : i ≤ last) (v : t < 86400) where
   pub offset_early :
       (a : ℕ) (f : Bool) → a ≡ last_sunday (guessed_year i) 3 → f ≡ ltb (day_start i + t) (day_start a + 7200) →
-          f ≡ true →
+      f ≡ true →
       3600 ≡ offset_at (day_start i + t - 3600)
   offset_early a f p q y =
       let l = ltb-true (day_start i + t) (day_start a + 7200) (sym q ∙ y) in
@@ -196,7 +196,7 @@ module _ (i : ℕ) (c : Clock) (h : i ≤ last) (u : ProperClock c) where
 
   pub at_gap :
       (a : ℕ) (f g : Bool) → a ≡ last_sunday (guessed_year i) 3 →
-          f ≡ ltb (day_start i + c.second) (day_start a + 7200) →
+      f ≡ ltb (day_start i + c.second) (day_start a + 7200) →
       f ≡ false → g ≡ ltb (day_start i + c.second) (day_start a + 10800) → g ≡ true → Absent ≡ berlin_at i c
   at_gap a f g p q y s z =
       let k = ltb-false (day_start i + c.second) (day_start a + 7200) (sym q ∙ y) in

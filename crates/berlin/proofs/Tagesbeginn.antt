@@ -2,7 +2,7 @@
 --   day_of_beginning   the day that the beginning of a day begins is that day
 --   beginning_of_day   an instant that begins a day is the beginning of that day, to the nanosecond
 -- Assumes nothing.
-use Prim.Native.Nat.{ℕ, ◌-◌, ◌≤◌}
+use Prim.Native.Nat.{ℕ, ◌≤◌}
 use mathlib.Core.Path.{◌≡◌, refl, sym}
 use native.Mathlib.Omega.{arith}
 use Rattle.zaehlung.specs.Walk.{last}

@@ -23,7 +23,7 @@ use borrow.Author.Tests.{leb-true, le-leb}
 use Rattle.zaehlung.specs.Walk.{bit, last}
 use Rattle.zaehlung.proofs.Tests.{and_left, and_right}
 use Rattle.zaehlung.proofs.Every.{run, run_at}
-use Rattle.zaehlung.specs.Blocks.{start, at}
+use Rattle.zaehlung.specs.Blocks.{start}
 use Rattle.zaehlung.proofs.BlockLaws.{start_suc, start_mono, at_is, at_sum, at_below}
 use Rattle.datum.specs.declared.Date.{Date}
 use Rattle.datum.specs.Calendar.{is_leap, year_len, year_start, year_of, months, days_in_month, month_start, month_of}

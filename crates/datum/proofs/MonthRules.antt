@@ -1,7 +1,7 @@
 -- What the proofs of the month shifts cite: signed numbers and the calendar's months.
 --   InRange      a month's number whose year lies in the calendar: it is a natural number
 -- Assumes nothing.
-use Prim.Native.Nat.{ℕ, ◌+◌, ◌-◌, ◌/◌, ◌%◌, ◌^◌, ◌≤◌, ◌<◌, min}
+use Prim.Native.Nat.{ℕ, ◌+◌, ◌/◌, ◌%◌, ◌^◌, ◌≤◌, ◌<◌, min}
 use mathlib.Core.Bool.{Bool, true, false}
 use mathlib.Core.Path.{◌≡◌, refl}
 use native.Mathlib.Omega.{arith}
@@ -23,7 +23,7 @@ use Rattle.datum.proofs.Signed.{back, clash, pos_fits, neg_fits, back_pos, sub_f
 
 -- in_month: n is what `days_in_month` returned
 module _ (y m x : ℕ) (l : Bool) (n : ℕ) (a : 1996 ≤ y) (b : y ≤ 2899) (g : l ≡ is_leap y)
-        (e : n ≡ days_in_month l m) where
+    (e : n ≡ days_in_month l m) where
   pub cut : n < x → ◌≡◌ {A = Shifted} (On (record { year = y; month = m; day = n })) (in_month y m x)
   unfolding in_month
   cut h =

@@ -105,7 +105,7 @@ earlier_inside i n e h p = to_step_inside (subtract_months (date_of i) n) e (ear
 -- both ends of M are days of a month
 either_inside :
     (b : Bool) (s u : Shifted) (e : ℕ) → InsideShift s → InsideShift u → cond b (to_step s) (to_step u) ≡ Day e →
-        e ≤ last
+    e ≤ last
 either_inside true s u e v w p = to_step_inside s e v p
 either_inside false s u e v w p = to_step_inside u e w p
 

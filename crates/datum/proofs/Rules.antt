@@ -10,7 +10,7 @@ use lib.Dec.{eqb, leb}
 use lib.ListN.{get_or-eq_default}
 use mir.Syntax.{w8, w32}
 use mir.Val.{Fits}
-use borrow.Author.Tests.{eqb-true, leb-true, eq-eqb, ne_eqb, le-leb, lt-leb}
+use borrow.Author.Tests.{eqb-true, leb-true, ne_eqb, le-leb, lt-leb}
 use Rattle.zaehlung.specs.Walk.{bit, last}
 use Rattle.zaehlung.specs.Blocks.{start, at}
 use Rattle.zaehlung.proofs.BlockLaws.{at_sum, at_below}
@@ -409,7 +409,7 @@ pub ruleset index_rules = (is_asked, has_day, no_date_lem)
 
 -- date_of: y and x are the year and the day in it that `year_of` returned
 module _ (i y x : ℕ) (h : i ≤ last) (e : y ≡ (year_of i).0) (f : x ≡ (year_of i).1) (l : Bool)
-        (g : l ≡ is_leap (1996 + y))
+    (g : l ≡ is_leap (1996 + y))
   where
     pub day_in_year : x < 365 + bit l
     day_in_year = rw (g, e, f) (year_below i h)
@@ -438,8 +438,11 @@ module _ (i y x : ℕ) (h : i ≤ last) (e : y ≡ (year_of i).0) (f : x ≡ (ye
       unfolding date_of date_in
       date_is =
           let d : x - s ≡ (month_of l x).1 = omega (arith, parts) in
-          let b : ◌≡◌ {A = Date} (record { year = 1996 + y; month = m; day = x - s + 1 }) (date_in y x) = rw (d, p,
-              g) in
+          let b : ◌≡◌ {A = Date} (record { year = 1996 + y; month = m; day = x - s + 1 }) (date_in y x) = rw (
+            d,
+            p,
+            g,
+          ) in
           b ∙ ap₂ date_in e f
 
 pub ruleset date_rules = (day_in_year, month_by, day_fits, day_fits_32, date_is)

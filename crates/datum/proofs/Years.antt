@@ -16,7 +16,7 @@ use lib.Dec.{eqb}
 use borrow.Author.Tests.{eqb-true, eqb-false}
 use Rattle.datum.specs.Calendar.{is_leap, year_len, year_start, year_of}
 use Rattle.zaehlung.specs.Walk.{bit, last}
-use Rattle.zaehlung.specs.Blocks.{start, at}
+use Rattle.zaehlung.specs.Blocks.{start}
 use Rattle.zaehlung.proofs.BlockLaws.{start_suc, start_mono, at_is, at_sum}
 
 -- how a quotient moves from a year to the next: one lemma for each divisor, since omega gives up on all three at once
@@ -101,16 +101,24 @@ start_none = refl
 -- a year that starts by a day of the calendar is one of it
 pub year_le : (i k : ℕ) → i ≤ last → year_start k ≤ i → k ≤ 903
 year_le i k h g =
-    elim (dec_le k 903) [ yes l ↦ l | no l ↦ absurd (omega (arith, start_all,
-        start_mono year_len 904 k (omega arith))) ]
+    elim (dec_le k 903) [
+      | yes l ↦ l
+      | no l ↦ absurd (omega (
+        arith,
+        start_all,
+        start_mono year_len 904 k (omega arith),
+      ))
+    ]
 
 -- what the loops of `year_of` establish
 pub year_found : (i k : ℕ) → i ≤ last → year_start k ≤ i → i < year_start (k + 1) → year_of i ≡ (k, i - year_start k)
 year_found i k h a b =
     let n = start_suc year_len k in
     let c : i < year_start (suc k) = rw add-one at b in
-    at_is year_len 903 0 k i (i - year_start k) (omega arith) (year_le i k h a) (omega (arith,
-        start_none)) (omega arith)
+    at_is year_len 903 0 k i (i - year_start k) (omega arith) (year_le i k h a) (omega (
+      arith,
+      start_none,
+    )) (omega arith)
 
 pub year_rest :
     (i : ℕ) → (year_start (year_of i).0 ≤ i) × ((year_of i).1 ≡ i - year_start (year_of i).0) × ((year_of i).0 ≤ 903)

@@ -73,5 +73,5 @@ pub ruleset later_rules = (days_fit, day_fits, later_in, later_proper, later_out
 -- add_hours
 pub hours_parts :
     (m : Moment) (n : ℕ) (r : Due) → r ≡ instant_later m (n / 24 * 86400 + n % 24 * 3600) →
-        r ≡ instant_later m (hours n)
+    r ≡ instant_later m (hours n)
 hours_parts m n r p = let e : n / 24 * 86400 + n % 24 * 3600 ≡ n * 3600 = omega arith in rw e at p

@@ -186,7 +186,7 @@ module _ (w : ℕ → Bool) (shut : (i : ℕ) → weekday i ≡ 6 → w i ≡ fa
         let d = receipt_day m in
         resolved_absent (berlin_at d c) (λ a. cond (w d && is_before m a) (At a) (next_werktag_at w m c))
         (λ a. cond_absent (w d && is_before m a) (At a) (next_werktag_at w m c) (λ _. at_is_not a)
-            (λ _. nth_never 1 c k))
+        (λ _. nth_never 1 c k))
         e,
     λ q. rw q,
   )

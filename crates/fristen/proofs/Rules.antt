@@ -161,13 +161,13 @@ module _ (y : ℕ) (h : 1996 ≤ y) (k : y ≤ 2899) where
 
 -- a and b, v and w are the days of the windows, f and g what `in_window` returned
 module _ (m : Moment) (y a b : ℕ) (k : a ≡ day_on y 3 31) (l : b ≡ day_on y 4 2) (f : Bool)
-        (u : f ≡ in_window a b m) where
+    (u : f ≡ in_window a b m) where
   pub spring : (r : Moment) → f ≡ true → r ≡ berlin_midnight b → r ≡ toleranz_in y m
   unfolding toleranz_in
   spring r t q = rw (← k, ← l, sym u ∙ t) q
 
   module _ (v w : ℕ) (n : f ≡ false) (i : v ≡ day_on y 9 30) (j : w ≡ day_on y 10 2) (g : Bool)
-          (o : g ≡ in_window v w m)
+      (o : g ≡ in_window v w m)
     where
       pub autumn : (r : Moment) → g ≡ true → r ≡ berlin_midnight w → r ≡ toleranz_in y m
       unfolding toleranz_in
@@ -244,7 +244,7 @@ module _ (pid i : ℕ) (e : any (eqb pid) (drop i gas_initialprozess_pids) ≡ i
 -- aperak_strom_allgemein_due_at, aperak_gas_folgeprozess_due_at: c is what `o_clock` returned, r the due instant
 pub at_noon :
     (w : ℕ → Bool) (m : Moment) (c : Clock) (r : Due) → c ≡ noon → r ≡ next_werktag_at w m c →
-        r ≡ next_werktag_at w m noon
+    r ≡ next_werktag_at w m noon
 at_noon w m c r u q = rw u at q
 
 -- aperak_gas_due_at: b is what `is_initial` returned, r the due instant

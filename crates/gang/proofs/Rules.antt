@@ -14,7 +14,7 @@ use borrow.Author.Tests.{eq-eqb, ne_eqb, lt-ltb, le-ltb}
 use mir.Syntax.{w8}
 use mir.Val.{Fits}
 use Rattle.zaehlung.specs.declared.Step.{Step}
-use Rattle.zaehlung.specs.declared.Step.TheVariants.{Day, Outside}
+use Rattle.zaehlung.specs.declared.Step.TheVariants.{Day}
 use Rattle.zaehlung.specs.Walk.{last, bit, add, sub, between}
 use Rattle.zaehlung.proofs.Laws.{add_none, sub_none, between_later}
 use Rattle.zaehlung.proofs.Skips.{ShutOn, ShutBack, leap_open, leap_shut, leap_edge, back_open, back_shut, back_edge}

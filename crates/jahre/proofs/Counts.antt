@@ -97,8 +97,12 @@ year_among BdewMaKo k n h g =
     let c : count (λ r. w (year_start k + r)) n ≡ count (open_in (year_numbers k)) n =
     count_cong (λ r. w (year_start k + r)) (open_in (year_numbers k)) n
     (λ r l. index_is BdewMaKo k r h (omega arith) ∙ open_is k r h (omega arith)) in
-    omega (arith, count_among w (year_start k) n, count_shift w (year_start k) n,
-        in_year_lem (year_numbers k) n (usual k h))
+    omega (
+      arith,
+      count_among w (year_start k) n,
+      count_shift w (year_start k) n,
+      in_year_lem (year_numbers k) n (usual k h),
+    )
 
 -- whole weeks, and the weekdays of no more than 366 days
 sevenths_on : (m q : ℕ) → (m + 7 * q) / 7 ≡ m / 7 + q

@@ -256,7 +256,7 @@ open_is k r h g = rw (year_is k) (open_for k r h g)
 
 pub index_is :
     (cal : HolidayCalendar) (k r : ℕ) → k < 904 → r < year_len k →
-        is_werktag cal (year_start k + r) ≡ is_werktag_in cal k r
+    is_werktag cal (year_start k + r) ≡ is_werktag_in cal k r
 unfolding is_werktag
 index_is cal k r h g =
     let q : year_of (year_start k + r) ≡ (k, r) =

@@ -215,7 +215,7 @@ below_each f n (x ∷ hs) h = ap₂ (λ (a b : ℕ). a + b) (bit_each f n x h) (
 known_is :
     (cal : HolidayCalendar) (k : ℕ) →
     ((holiday_year cal k).first ≡ (year_numbers k).first)
-        × ((holiday_year cal k).holidays ≡ weekday_holidays (year_numbers k))
+    × ((holiday_year cal k).holidays ≡ weekday_holidays (year_numbers k))
 unfolding holiday_year
 known_is BdewMaKo k = (refl, refl)
 

@@ -172,7 +172,7 @@ pub fn mf_eog_ankuendigung_fristgerecht(
 ) -> u8
     ensures { (result, answer.new) ≡ reply answer.old
         (eog_ankuendigung_fristgerecht_answer (is_werktag BdewMaKo) (read_instant seconds nanos)
-            (date_from year month day)) }
+        (date_from year month day)) }
 {
     if answer.len() != antwortsatz::ANSWER_BYTES {
         return antwortsatz::ANSWER_LENGTH;

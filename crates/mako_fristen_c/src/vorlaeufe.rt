@@ -112,7 +112,7 @@ pub extern "C" fn mf_eog_ankuendigung_fristgerecht(
 ) -> u8
     ensures { (result, answer.new) ≡ reply answer.old
         (eog_ankuendigung_fristgerecht_answer (is_werktag BdewMaKo) (read_instant seconds nanos)
-            (date_from year month day)) }
+        (date_from year month day)) }
 {
     mako_fristen::mf_eog_ankuendigung_fristgerecht(seconds, nanos, year, month, day, answer)
 }

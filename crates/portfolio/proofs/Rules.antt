@@ -12,22 +12,17 @@
 -- Assumes nothing.
 use Prim.Native.Nat.{ℕ, suc, ◌+◌, ◌-◌, ◌≤◌, ◌<◌}
 use mathlib.Core.Bool.{Bool, true, false, ◌&&◌}
-use mathlib.Core.List.{List}
 use mathlib.Core.Path.{◌≡◌, refl, sym, ap, ◌∙◌, subst}
 use native.Mathlib.Omega.{arith}
 use native.Mathlib.Numerals.{add-one}
 use lib.Dec.{T, eqb, leb, ltb}
-use lib.ListN.{length, get_or, drop, set, length-set}
-use borrow.Author.Tests.{eq-eqb, ne_eqb, eqb-true, leb-true, ltb-true, le-leb, lt-leb, lt-ltb}
+use borrow.Author.Tests.{eq-eqb, ne_eqb, leb-true, ltb-true, le-leb, lt-leb, lt-ltb}
 use mir.Syntax.{w32}
 use mir.Val.{Fits}
 use Rattle.zaehlung.specs.Walk.{last, bit, among, count, between}
 use Rattle.zaehlung.proofs.Tests.{and_left, and_right}
-use Rattle.zaehlung.proofs.Count.{bit_small}
-use Rattle.zaehlung.proofs.Every.{split}
 use Rattle.zaehlung.proofs.BlockLaws.{start_suc, at_is}
-use Rattle.zaehlung.proofs.Filling.{Filled, fill_more, fill_all}
-use Rattle.datum.specs.Calendar.{first_year, year_len, year_start, year_of}
+use Rattle.datum.specs.Calendar.{year_len, year_start, year_of}
 use Rattle.datum.proofs.Years.{start_none}
 use Rattle.werktag.specs.declared.HolidayCalendar.{HolidayCalendar}
 use Rattle.werktag.specs.Werktag.{is_werktag}
@@ -37,10 +32,9 @@ use Rattle.jahre.proofs.Rules.{year_within, year_known, days_within, of_year}
 use Rattle.jahresindex.specs.Werktage.{werktage}
 use Rattle.schritte.proofs.IndexRules.{year_at_lem, sum_most, sum_at}
 use Rattle.portfolio.specs.declared.Run.{Run}
-use Rattle.portfolio.specs.Portfolio.{is_portfolio, first_day, in_calendar, in_range, pair_count, pairwise, counts_of}
-use Rattle.portfolio.specs.Runs.{beginning, opens, openings, runs}
+use Rattle.portfolio.specs.Portfolio.{is_portfolio, in_calendar, in_range, pair_count}
+use Rattle.portfolio.specs.Runs.{beginning, opens}
 use Rattle.portfolio.specs.Inside.{IsRun, Knows}
-use Rattle.portfolio.proofs.Pairs.{pairwise_length, pairwise_at, openings_at, openings_end}
 
 -- is_portfolio
 module _ (n m k : ℕ) where

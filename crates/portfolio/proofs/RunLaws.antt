@@ -15,7 +15,6 @@ use native.Mathlib.Omega.{arith}
 use lib.Dec.{eqb}
 use lib.ListN.{length, replicate}
 use borrow.Author.Tests.{eq-eqb, ne_eqb, eqb-false}
-use Rattle.zaehlung.specs.Walk.{bit}
 use Rattle.zaehlung.proofs.Tests.{and_no}
 use Rattle.zaehlung.proofs.Every.{split}
 use Rattle.zaehlung.proofs.Count.{bit_small}

@@ -87,7 +87,7 @@ module _ (w : ℕ → Bool) (t : ℕ) (ht : t ≤ last) where
     -- 'for `LatestWerktageAfter` and `Korridor` never'
     pub named_after :
         (n : ℕ) → check_of w (LatestWerktageAfter n) t a ≡ TooLate b y →
-            Begins (span_of w (LatestWerktageAfter n) t) y →
+        Begins (span_of w (LatestWerktageAfter n) t) y →
         ⊥
     named_after = after_named w t ht a ha b y
 

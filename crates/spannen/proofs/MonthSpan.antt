@@ -42,7 +42,7 @@ module _ (len : ℕ → ℕ) where
     cases : {A : Type 0} → (t + n < a → A) → (t + n ≡ a → A) → (a < t + n → A) → A
     cases f g h =
         elim (dec_lt (t + n) a)
-            [ yes l ↦ f l | no l ↦ elim (dec_lt a (t + n)) [ yes m ↦ h m | no m ↦ g (omega arith) ] ]
+        [ yes l ↦ f l | no l ↦ elim (dec_lt a (t + n)) [ yes m ↦ h m | no m ↦ g (omega arith) ] ]
 
     pub kept : d < len (t + n) → (start len t + d ≤ back_day a e n) ↔ (start len (t + n) + d ≤ start len a + e)
     kept h = (

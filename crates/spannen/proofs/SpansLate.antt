@@ -66,7 +66,7 @@ module _ (w : ℕ → Bool) (t a b y : ℕ) where
       late_window b y w t r o c (between w t o) (Day o) (λ h e. is_late (Korridor n) c r p q h (u ∙ e)))
   verdict_says TagVorDemLetztenWerktagVor c r p q =
       late_upto b y w r c (fruehester_termin_nach_tag_vor_dem_letzten_werktag w t)
-          (is_late TagVorDemLetztenWerktagVor c r p q)
+      (is_late TagVorDemLetztenWerktagVor c r p q)
   verdict_says (LatestMonateBefore n) c r p q =
       late_day b y (months_later t n) _ (λ f u.
       late_upto b y w r c (Day f) (λ h e. is_late (LatestMonateBefore n) c r p q h (u ∙ e)))

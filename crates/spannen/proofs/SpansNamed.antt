@@ -73,7 +73,7 @@ begins_one Outside f y g = absurd g
 module _ (w : ℕ → Bool) (t : ℕ) (ht : t ≤ last) (a : ℕ) (ha : a ≤ last) (b y : ℕ) where
   pub earliest_named :
       (n : ℕ) → check_of w (EarliestWerktageAfter n) t a ≡ TooLate b y →
-          Begins (span_of w (EarliestWerktageAfter n) t) y
+      Begins (span_of w (EarliestWerktageAfter n) t) y
   unfolding span_of
   earliest_named n e = (from_begins (add w t n) y).1 (late_says w t a b y (EarliestWerktageAfter n) e).named
 
@@ -129,7 +129,7 @@ module _ (w : ℕ → Bool) (t : ℕ) (ht : t ≤ last) (a : ℕ) (ha : a ≤ la
 
   pub after_named :
       (n : ℕ) → check_of w (LatestWerktageAfter n) t a ≡ TooLate b y → Begins (span_of w (LatestWerktageAfter n) t) y →
-          ⊥
+      ⊥
   unfolding span_of
   after_named n e g =
       let r = after_late n e in

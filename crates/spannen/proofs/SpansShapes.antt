@@ -35,7 +35,7 @@ module _ (w : ℕ → Bool) (t : ℕ) (ht : t ≤ last) (a : ℕ) (ha : a ≤ la
   window_spans :
       (earliest latest : ℕ) →
       Spans (span_of w (WindowWerktageBefore earliest latest) t) (check_of w (WindowWerktageBefore earliest latest) t a)
-          a
+      a
   unfolding span_of check_of closes reaches
   window_spans earliest latest =
       both_spans (W w t latest) (add w t earliest) _ a (λ f l q r.

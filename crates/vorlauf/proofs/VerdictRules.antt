@@ -205,7 +205,7 @@ module _ (w : ℕ → Bool) (t a : ℕ) where
 
   pub monate_out_2 :
       (n : ℕ) (x : Tag) (r u : TagStep) → r ≡ tag_step (months_earlier a n) → r ≡ At x →
-          u ≡ tag_step (months_later t n) →
+      u ≡ tag_step (months_later t n) →
       u ≡ Gone → Outside ≡ check_of w (LatestMonateBefore n) t a
   unfolding check_of closes reaches
   monate_out_2 n x r u p q k l = rw (at_day r (months_earlier a n) p x q, gone u (months_later t n) k l)

@@ -61,8 +61,14 @@ module _ (w : ℕ → Bool) where
 
   pub count_at : (e b : ℕ) → w e ≡ true → count w b ≤ count w e → b ≤ e
   count_at e b h p =
-      elim (dec_le b e) [ yes q ↦ q | no q ↦ absurd (omega (arith, count_mono (suc e) b (omega arith),
-          count_open e h)) ]
+      elim (dec_le b e) [
+        | yes q ↦ q
+        | no q ↦ absurd (omega (
+          arith,
+          count_mono (suc e) b (omega arith),
+          count_open e h,
+        ))
+      ]
 
   pub count_same : (d e : ℕ) → w d ≡ true → w e ≡ true → count w d ≡ count w e → d ≡ e
   count_same d e hd he q = omega (arith, count_at e d he (omega arith), count_at d e hd (omega arith))

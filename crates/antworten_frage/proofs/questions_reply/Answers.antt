@@ -1,13 +1,10 @@
 -- `antworten_frage::questions_reply` meets its contract. The loop's invariant: the answers so far, and those to the
 -- questions that are left, are those of the whole file.
 -- Assumes nothing.
-use Prim.Native.Nat.{◌-◌, ◌%◌, ◌≤◌}
-use mathlib.Core.Path.{◌≡◌, ◌∙◌, ap}
+use mathlib.Core.Path.{◌∙◌, ap}
 use mathlib.Core.Bool.{not}
 use borrow.Author.Rules.{rules}
-use lib.ListN.{length}
-use Rattle.werktag.specs.Werktag.{is_werktag}
-use Rattle.antworten_frage.proofs.Rules.{Answered, one_more, file_answered, file_rules}
+use Rattle.antworten_frage.proofs.Rules.{one_more, file_answered, file_rules}
 use Rattle.antworten_frage.proofs.questions_reply.Goals as goal
 
 pub is_file-requires : goal.is_file-requires

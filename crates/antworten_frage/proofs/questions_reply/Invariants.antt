@@ -2,11 +2,10 @@
 -- questions that are left, are those of the whole file.
 -- Assumes nothing.
 use Prim.Native.Nat.{◌-◌, ◌%◌, ◌≤◌}
-use mathlib.Core.Path.{◌≡◌, ◌∙◌}
-use borrow.Author.Rules.{rules}
+use mathlib.Core.Path.{◌≡◌}
 use lib.ListN.{length}
 use Rattle.werktag.specs.Werktag.{is_werktag}
-use Rattle.antworten_frage.proofs.Rules.{Answered, one_more, file_answered, file_rules}
+use Rattle.antworten_frage.proofs.Rules.{Answered}
 use Rattle.antworten_frage.proofs.questions_reply.Given as goal
 
 abbrev pub invariant-loop-at : goal.invariant-loop-at

@@ -2,7 +2,6 @@
 -- Assumes nothing.
 use mir.Facts.{to_z-of_z}
 use Rattle.antwortsatz.specs.Answers.{at_instant}
-use borrow.Author.Rules.{rules}
 use Rattle.antwortsatz.proofs.at_instant.Goals as goal
 
 pub returns : goal.returns

@@ -1,7 +1,6 @@
 -- `antwortsatz::dated` meets its contract: `filled` makes the answer, of dates as words.
 -- Assumes nothing.
 use Rattle.antwortsatz.specs.Answers.{dated}
-use borrow.Author.Rules.{rules}
 use Rattle.antwortsatz.proofs.dated.Goals as goal
 
 pub returns : goal.returns

@@ -1,7 +1,6 @@
 -- `antwortsatz::judged` meets its contract: `filled` makes the answer, of dates as words.
 -- Assumes nothing.
 use Rattle.antwortsatz.specs.Answers.{judged}
-use borrow.Author.Rules.{rules}
 use Rattle.antwortsatz.proofs.judged.Goals as goal
 
 pub returns : goal.returns

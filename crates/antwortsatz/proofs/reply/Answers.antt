@@ -1,11 +1,7 @@
 -- `antwortsatz::reply` meets its contract. The loop's invariant: the first i bytes of the slice are those of the
 -- answer, and the slice has 32. At its end all 32 are. A slice of another length is not written.
 -- Assumes nothing.
-use Prim.Native.Nat.{◌≤◌, ◌-◌}
-use mathlib.Core.Path.{◌≡◌}
 use borrow.Author.Rules.{rules}
-use lib.ListN.{length}
-use Rattle.zaehlung.proofs.Filling.{Filled}
 use Rattle.antwortsatz.proofs.Rules.{reply_rules}
 use Rattle.antwortsatz.proofs.reply.Goals as goal
 

@@ -3,10 +3,8 @@
 -- Assumes nothing.
 use Prim.Native.Nat.{◌≤◌, ◌-◌}
 use mathlib.Core.Path.{◌≡◌}
-use borrow.Author.Rules.{rules}
 use lib.ListN.{length}
 use Rattle.zaehlung.proofs.Filling.{Filled}
-use Rattle.antwortsatz.proofs.Rules.{reply_rules}
 use Rattle.antwortsatz.proofs.reply.Given as goal
 
 abbrev pub invariant-loop-i : goal.invariant-loop-i

@@ -1,7 +1,6 @@
 -- `antwortsatz::spanned` meets its contract: `filled` makes the answer, of dates as words.
 -- Assumes nothing.
 use Rattle.antwortsatz.specs.Answers.{spanned}
-use borrow.Author.Rules.{rules}
 use Rattle.antwortsatz.proofs.spanned.Goals as goal
 
 pub returns : goal.returns

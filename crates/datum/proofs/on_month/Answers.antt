@@ -20,33 +20,33 @@ pub overflow_cast-year : goal.overflow_cast-year
 overflow_cast-year c =
     let s = c.split_months-at in
     let r = in_range_lem c.args.t s.result.year s.result.month c.args.day c.ranges.t s.ensures.0 s.ensures.1
-        c.if-year-lt-FIRST_YEAR_64.false c.if-year-gt-LAST_YEAR_64.false in
+    c.if-year-lt-FIRST_YEAR_64.false c.if-year-gt-LAST_YEAR_64.false in
     year_cast r
 
 pub overflow_add-month : goal.overflow_add-month
 overflow_add-month c =
     let s = c.split_months-at in
     let r = in_range_lem c.args.t s.result.year s.result.month c.args.day c.ranges.t s.ensures.0 s.ensures.1
-        c.if-year-lt-FIRST_YEAR_64.false c.if-year-gt-LAST_YEAR_64.false in
+    c.if-year-lt-FIRST_YEAR_64.false c.if-year-gt-LAST_YEAR_64.false in
     month_fits r
 
 pub overflow_cast-month : goal.overflow_cast-month
 overflow_cast-month c =
     let s = c.split_months-at in
     let r = in_range_lem c.args.t s.result.year s.result.month c.args.day c.ranges.t s.ensures.0 s.ensures.1
-        c.if-year-lt-FIRST_YEAR_64.false c.if-year-gt-LAST_YEAR_64.false in
+    c.if-year-lt-FIRST_YEAR_64.false c.if-year-gt-LAST_YEAR_64.false in
     month_cast r
 
 pub in_month-requires : goal.in_month-requires
 in_month-requires c =
     let s = c.split_months-at in
     let r = in_range_lem c.args.t s.result.year s.result.month c.args.day c.ranges.t s.ensures.0 s.ensures.1
-        c.if-year-lt-FIRST_YEAR_64.false c.if-year-gt-LAST_YEAR_64.false in
+    c.if-year-lt-FIRST_YEAR_64.false c.if-year-gt-LAST_YEAR_64.false in
     within r
 
 pub returns : goal.returns
 returns c =
     let s = c.split_months-at in
     let r = in_range_lem c.args.t s.result.year s.result.month c.args.day c.ranges.t s.ensures.0 s.ensures.1
-        c.if-year-lt-FIRST_YEAR_64.false c.if-year-gt-LAST_YEAR_64.false in
+    c.if-year-lt-FIRST_YEAR_64.false c.if-year-gt-LAST_YEAR_64.false in
     on_it r c.args.day c.in_month.result c.in_month.ensures

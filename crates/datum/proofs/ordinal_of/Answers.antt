@@ -2,7 +2,6 @@
 -- Assumes nothing.
 use native.Mathlib.Omega.{arith}
 use Rattle.datum.proofs.MonthRules.{ordinal_is}
-use borrow.Author.Rules.{rules}
 use Rattle.datum.proofs.ordinal_of.Goals as goal
 
 pub returns : goal.returns

@@ -1,8 +1,6 @@
 -- `datum::year_of` meets its contract. The first loop leaves a year that starts by the day, the second one whose next
 -- starts after it; the guess needs no proof.
 -- Assumes nothing.
-use Prim.Native.Nat.{◌≤◌, ◌-◌}
-use Rattle.datum.specs.Calendar.{year_start}
 use Rattle.datum.proofs.Rules.{year_rules}
 use borrow.Author.Rules.{rules}
 use Rattle.datum.proofs.year_of.Goals as goal

@@ -3,8 +3,6 @@
 -- Assumes nothing.
 use Prim.Native.Nat.{◌≤◌, ◌-◌}
 use Rattle.datum.specs.Calendar.{year_start}
-use Rattle.datum.proofs.Rules.{year_rules}
-use borrow.Author.Rules.{rules}
 use Rattle.datum.proofs.year_of.Given as goal
 
 abbrev pub invariant-loop-k : goal.invariant-loop-k

@@ -1,6 +1,5 @@
 -- `fragesatz::date_at` meets its contract: two bytes are the year, the next the month and the day.
 -- Assumes nothing.
-use borrow.Author.Rules.{rules}
 use Rattle.fragesatz.proofs.date_at.Goals as goal
 
 pub returns : goal.returns

@@ -1,11 +1,5 @@
 -- `fristen::is_initial` meets its contract. The invariant: the rest of the table decides.
 -- Assumes nothing.
-use Prim.Native.Nat.{◌≤◌, ◌-◌}
-use mathlib.Core.Path.{◌≡◌}
-use lib.Dec.{eqb}
-use lib.ListN.{drop}
-use Rattle.zaehlung.specs.Lists.{any}
-use Rattle.fristen.specs.Fristen.{gas_initialprozess_pids, is_initial}
 use Rattle.fristen.proofs.Rules.{pid_start, pid_hit, pid_miss, pid_none}
 use borrow.Author.Rules.{rules}
 use Rattle.fristen.proofs.is_initial.Goals as goal

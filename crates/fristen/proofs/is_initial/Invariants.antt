@@ -6,8 +6,6 @@ use lib.Dec.{eqb}
 use lib.ListN.{drop}
 use Rattle.zaehlung.specs.Lists.{any}
 use Rattle.fristen.specs.Fristen.{gas_initialprozess_pids, is_initial}
-use Rattle.fristen.proofs.Rules.{pid_start, pid_hit, pid_miss, pid_none}
-use borrow.Author.Rules.{rules}
 use Rattle.fristen.proofs.is_initial.Given as goal
 
 abbrev pub invariant-loop-i : goal.invariant-loop-i

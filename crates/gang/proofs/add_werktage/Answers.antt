@@ -2,12 +2,7 @@
 -- Each turn goes to the next weekday, and the days that are left grow fewer.
 -- Assumes nothing.
 use Rattle.gang.proofs.Rules.{on_rules}
-use Prim.Native.Nat.{◌-◌}
-use mathlib.Core.Path.{◌≡◌}
 use borrow.Author.Rules.{rules}
-use Rattle.zaehlung.specs.Walk.{last, add}
-use Rattle.werktag.specs.Werktag.{is_werktag}
-use Rattle.gang.specs.Stand.{Stands}
 use Rattle.gang.proofs.add_werktage.Goals as goal
 
 pub stand_at-at-requires : goal.stand_at-at-requires

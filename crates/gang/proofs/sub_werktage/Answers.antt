@@ -2,11 +2,7 @@
 -- Each turn goes back to the last weekday, and the days that are left grow fewer.
 -- Assumes nothing.
 use Rattle.gang.proofs.Rules.{back_rules}
-use mathlib.Core.Path.{◌≡◌}
 use borrow.Author.Rules.{rules}
-use Rattle.zaehlung.specs.Walk.{sub}
-use Rattle.werktag.specs.Werktag.{is_werktag}
-use Rattle.gang.specs.Stand.{Stands}
 use Rattle.gang.proofs.sub_werktage.Goals as goal
 
 pub stand_at-at-requires : goal.stand_at-at-requires

@@ -1,16 +1,14 @@
 -- `gang::sub_werktage` meets its contract. The invariant: from here the walk reaches what it reaches from the start.
 -- Each turn goes back to the last weekday, and the days that are left grow fewer.
 -- Assumes nothing.
-use Rattle.gang.proofs.Rules.{back_rules}
 use mathlib.Core.Path.{◌≡◌}
-use borrow.Author.Rules.{rules}
 use Rattle.zaehlung.specs.Walk.{sub}
 use Rattle.werktag.specs.Werktag.{is_werktag}
 use Rattle.gang.specs.Stand.{Stands}
 use Rattle.gang.proofs.sub_werktage.Given as goal
 
 abbrev pub invariant-loop-remaining : goal.invariant-loop-remaining
-invariant-loop-remaining l =     (Stands l.at)
+invariant-loop-remaining l = (Stands l.at)
     × (sub (is_werktag l.cal) l.initial.at.tag.index l.n ≡ sub (is_werktag l.cal) l.at.tag.index l.remaining)
 
 abbrev pub decreases-loop-remaining : goal.decreases-loop-remaining

@@ -1,12 +1,7 @@
 -- `gang::werktage_between` meets its contract. The invariant: the Werktage so far, and those that are left.
 -- Assumes nothing.
 use Rattle.gang.proofs.Rules.{count_rules}
-use Prim.Native.Nat.{◌+◌, ◌-◌, ◌≤◌}
-use mathlib.Core.Path.{◌≡◌}
 use borrow.Author.Rules.{rules}
-use Rattle.zaehlung.specs.Walk.{between}
-use Rattle.werktag.specs.Werktag.{is_werktag}
-use Rattle.gang.specs.Stand.{Stands}
 use Rattle.gang.proofs.werktage_between.Goals as goal
 
 pub stand_at-at-requires : goal.stand_at-at-requires

@@ -2,10 +2,6 @@
 -- are those of the whole list.
 -- Assumes nothing.
 use borrow.Author.Rules.{rules}
-use Prim.Native.Nat.{◌+◌, ◌-◌, ◌≤◌}
-use mathlib.Core.Path.{◌≡◌}
-use lib.ListN.{drop}
-use Rattle.zaehlung.specs.Lists.{below}
 use Rattle.jahre.proofs.Rules.{number_rules}
 use Rattle.jahre.proofs.number_before.Goals as goal
 

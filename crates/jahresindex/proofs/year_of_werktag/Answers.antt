@@ -2,10 +2,6 @@
 -- it, the second ends at the last such year; the guess needs no proof.
 -- Assumes nothing.
 use borrow.Author.Rules.{rules}
-use Prim.Native.Nat.{◌-◌, ◌≤◌, ◌<◌}
-use mathlib.Core.Path.{◌≡◌}
-use lib.ListN.{get_or}
-use Rattle.jahresindex.specs.Entries.{entries}
 use Rattle.jahresindex.proofs.Rules.{year_rules}
 use Rattle.jahresindex.proofs.year_of_werktag.Goals as goal
 

@@ -1,12 +1,10 @@
 -- `jahresindex::year_of_werktag` meets its contract. The first loop leaves a year with fewer than n Werktage before
 -- it, the second ends at the last such year; the guess needs no proof.
 -- Assumes nothing.
-use borrow.Author.Rules.{rules}
 use Prim.Native.Nat.{◌-◌, ◌≤◌, ◌<◌}
 use mathlib.Core.Path.{◌≡◌}
 use lib.ListN.{get_or}
 use Rattle.jahresindex.specs.Entries.{entries}
-use Rattle.jahresindex.proofs.Rules.{year_rules}
 use Rattle.jahresindex.proofs.year_of_werktag.Given as goal
 
 abbrev pub invariant-loop-k : goal.invariant-loop-k

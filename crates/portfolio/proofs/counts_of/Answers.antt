@@ -2,13 +2,9 @@
 -- those that the pairs still to come will need, are those of all pairs.
 -- Assumes nothing.
 use borrow.Author.Rules.{rules}
-use Prim.Native.Nat.{◌-◌, ◌≤◌}
-use mathlib.Core.Path.{◌≡◌, refl}
-use lib.ListN.{length, length-set}
-use Rattle.werktag.specs.Werktag.{is_werktag}
-use Rattle.jahresindex.specs.Entries.{entries}
-use Rattle.portfolio.specs.Inside.{Knows}
-use Rattle.portfolio.proofs.Counted.{Counted, counts_rules, one_more}
+use mathlib.Core.Path.{refl}
+use lib.ListN.{length-set}
+use Rattle.portfolio.proofs.Counted.{counts_rules, one_more}
 use Rattle.portfolio.proofs.counts_of.Goals as goal
 
 pub no_run-run-requires : goal.no_run-run-requires

@@ -1,14 +1,13 @@
 -- `portfolio::counts_of` meets its contract. The loop's invariant: the counts so far, and the entries read so far with
 -- those that the pairs still to come will need, are those of all pairs.
 -- Assumes nothing.
-use borrow.Author.Rules.{rules}
 use Prim.Native.Nat.{◌-◌, ◌≤◌}
-use mathlib.Core.Path.{◌≡◌, refl}
-use lib.ListN.{length, length-set}
+use mathlib.Core.Path.{◌≡◌}
+use lib.ListN.{length}
 use Rattle.werktag.specs.Werktag.{is_werktag}
 use Rattle.jahresindex.specs.Entries.{entries}
 use Rattle.portfolio.specs.Inside.{Knows}
-use Rattle.portfolio.proofs.Counted.{Counted, counts_rules, one_more}
+use Rattle.portfolio.proofs.Counted.{Counted}
 use Rattle.portfolio.proofs.counts_of.Given as goal
 
 abbrev pub invariant-loop-i : goal.invariant-loop-i

@@ -1,12 +1,6 @@
 -- `werktag::feast_at` meets its contract. The invariant: the rest of the table decides.
 -- Assumes nothing.
-use Prim.Native.Nat.{◌≤◌, ◌+◌, ◌-◌}
-use mathlib.Core.Path.{◌≡◌}
-use lib.ListN.{drop}
-use mir.Syntax.{w64}
-use mir.Val.{to_z}
-use Rattle.werktag.specs.Reason.{place_from}
-use Rattle.werktag.proofs.Rules.{feasts, offset_hit, offset_miss, offset_none}
+use Rattle.werktag.proofs.Rules.{offset_hit, offset_miss, offset_none}
 use borrow.Author.Rules.{rules}
 use Rattle.werktag.proofs.feast_at.Goals as goal
 

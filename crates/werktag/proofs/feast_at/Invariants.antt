@@ -3,11 +3,8 @@
 use Prim.Native.Nat.{◌≤◌, ◌+◌, ◌-◌}
 use mathlib.Core.Path.{◌≡◌}
 use lib.ListN.{drop}
-use mir.Syntax.{w64}
-use mir.Val.{to_z}
 use Rattle.werktag.specs.Reason.{place_from}
-use Rattle.werktag.proofs.Rules.{feasts, offset_hit, offset_miss, offset_none}
-use borrow.Author.Rules.{rules}
+use Rattle.werktag.proofs.Rules.{feasts}
 use Rattle.werktag.proofs.feast_at.Given as goal
 
 abbrev pub invariant-loop-i : goal.invariant-loop-i

@@ -4,8 +4,6 @@ use Prim.Native.Nat.{◌≤◌, ◌+◌, ◌-◌}
 use mathlib.Core.Path.{◌≡◌}
 use lib.ListN.{drop}
 use Rattle.werktag.specs.Reason.{place_from, fixed_tests}
-use Rattle.werktag.proofs.Rules.{fixed_hit, fixed_other_day, fixed_other_month, fixed_none}
-use borrow.Author.Rules.{rules}
 use Rattle.werktag.proofs.fixed_day.Given as goal
 
 abbrev pub invariant-loop-i : goal.invariant-loop-i

@@ -3,11 +3,6 @@
 -- Assumes nothing.
 use Rattle.schritte.proofs.TestedRules.{test_rules}
 use borrow.Author.Rules.{rules}
-use Prim.Native.Nat.{◌+◌, ◌-◌, ◌≤◌}
-use mathlib.Core.Path.{◌≡◌}
-use Rattle.zaehlung.specs.Walk.{among}
-use Rattle.werktag.specs.Werktag.{is_werktag}
-use Rattle.gang.specs.Stand.{Stands}
 use Rattle.schritte.proofs.tested.test_days.Goals as goal
 
 pub stand_at-at-requires : goal.stand_at-at-requires

@@ -1,8 +1,6 @@
 -- `schritte::tested::test_days` meets its contract. The invariant: the Werktage so far are those among the days tested
 -- so far, and the walk stands at the last of them.
 -- Assumes nothing.
-use Rattle.schritte.proofs.TestedRules.{test_rules}
-use borrow.Author.Rules.{rules}
 use Prim.Native.Nat.{◌+◌, ◌-◌, ◌≤◌}
 use mathlib.Core.Path.{◌≡◌}
 use Rattle.zaehlung.specs.Walk.{among}
@@ -11,7 +9,7 @@ use Rattle.gang.specs.Stand.{Stands}
 use Rattle.schritte.proofs.tested.test_days.Given as goal
 
 abbrev pub invariant-loop-at : goal.invariant-loop-at
-invariant-loop-at l =     (Stands l.at) × (l.werktage ≡ among (is_werktag l.cal) l.initial.at.tag.index l.tested)
+invariant-loop-at l = (Stands l.at) × (l.werktage ≡ among (is_werktag l.cal) l.initial.at.tag.index l.tested)
     × (l.at.tag.index + 1 ≡ l.initial.at.tag.index + l.tested) × (l.at.tag.index ≤ l.day) × (l.werktage ≤ l.tested)
     × (1 ≤ l.tested)
 

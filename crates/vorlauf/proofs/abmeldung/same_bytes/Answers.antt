@@ -1,12 +1,8 @@
 -- `vorlauf::abmeldung::same_bytes` meets its contract. The invariant: the strings are as long, and what is left of them
 -- is the same exactly if the whole is. The bytes that are left grow fewer.
 -- Assumes nothing.
-use Prim.Native.Nat.{◌-◌}
-use mathlib.Core.Path.{◌≡◌}
 use native.Mathlib.Omega.{arith}
-use lib.ListN.{length, drop}
 use borrow.Author.Rules.{rules}
-use Rattle.vorlauf.specs.Abmeldung.{same_bytes}
 use Rattle.vorlauf.proofs.AbmeldungRules.{bytes_length, bytes_rules}
 use Rattle.vorlauf.proofs.abmeldung.same_bytes.Goals as goal
 

@@ -3,11 +3,8 @@
 -- Assumes nothing.
 use Prim.Native.Nat.{◌-◌}
 use mathlib.Core.Path.{◌≡◌}
-use native.Mathlib.Omega.{arith}
 use lib.ListN.{length, drop}
-use borrow.Author.Rules.{rules}
 use Rattle.vorlauf.specs.Abmeldung.{same_bytes}
-use Rattle.vorlauf.proofs.AbmeldungRules.{bytes_length, bytes_rules}
 use Rattle.vorlauf.proofs.abmeldung.same_bytes.Given as goal
 
 abbrev pub invariant-loop-i : goal.invariant-loop-i
