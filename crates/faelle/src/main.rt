@@ -1,9 +1,10 @@
 // The cases A to M of document 01, worked out by calling the library: a line for each, the letter, a space, `ok` or
 // `no`.
 #![tactic(auto)]
+
 use antwortsatz::{Answer, LOCAL_TIME_ABSENT};
 use datum::Date;
-use libc::STDOUT_FILENO;
+use std::io;
 
 // Berlin times of 2026, in seconds since 1970-01-01T00:00Z.
 const MARCH_31_11_59_59: i64 = 1774951199;
@@ -277,27 +278,26 @@ fn case_m() -> bool {
     is_answer(&left, antwortsatz::of_kind(2))
 }
 
-fn print_case(letter: u8, ok: bool) {
-    io::write_all(STDOUT_FILENO, &[letter, b' ']);
+fn print_case(rt: &impl Print, letter: char, ok: bool) -> io::Result<()> {
     if ok {
-        io::write_all(STDOUT_FILENO, b"ok\n");
+        println!(rt; "{letter} ok")
     } else {
-        io::write_all(STDOUT_FILENO, b"no\n");
+        println!(rt; "{letter} no")
     }
 }
 
-fn main() {
-    print_case(b'A', case_a());
-    print_case(b'B', case_b());
-    print_case(b'C', case_c());
-    print_case(b'D', case_d());
-    print_case(b'E', case_e());
-    print_case(b'F', case_f());
-    print_case(b'G', case_g());
-    print_case(b'H', case_h());
-    print_case(b'I', case_i());
-    print_case(b'J', case_j());
-    print_case(b'K', case_k());
-    print_case(b'L', case_l());
-    print_case(b'M', case_m());
+fn main(rt: HostRuntime) -> io::Result<()> {
+    print_case(&rt, 'A', case_a())?;
+    print_case(&rt, 'B', case_b())?;
+    print_case(&rt, 'C', case_c())?;
+    print_case(&rt, 'D', case_d())?;
+    print_case(&rt, 'E', case_e())?;
+    print_case(&rt, 'F', case_f())?;
+    print_case(&rt, 'G', case_g())?;
+    print_case(&rt, 'H', case_h())?;
+    print_case(&rt, 'I', case_i())?;
+    print_case(&rt, 'J', case_j())?;
+    print_case(&rt, 'K', case_k())?;
+    print_case(&rt, 'L', case_l())?;
+    print_case(&rt, 'M', case_m())
 }

@@ -1,22 +1,17 @@
 -- What the proofs cite: each rule's premises have the form in which a proof has them, so that `search` finds the rule.
 --   digit_rules   for `digit`, one for each return
 --   hex_rules     for `read_hex`: one byte more is read; all are read
---   never         what a function promises where it answers true, shown where it answers false
 -- Assumes nothing.
 use Prim.Native.Nat.{ℕ, zero, suc, ◌+◌, ◌-◌, ◌*◌, ◌≤◌, ◌<◌}
-use mathlib.Core.Bool.{true, false}
-use mathlib.Core.Path.{◌≡◌, refl, sym, ap, ◌∙◌, subst}
+use mathlib.Core.Bool.{true}
+use mathlib.Core.Path.{◌≡◌, refl, sym, ap, ◌∙◌}
 use mathlib.Core.List.{List}
 use native.Mathlib.Omega.{arith}
 use native.Mathlib.Numerals.{add-one}
 use borrow.Author.Tests.{lt-ltb, le-ltb, le-leb, lt-leb}
-use lib.Dec.{T}
 use lib.ListN.{length, get_or, set, take, length-set}
 use lib.Seq.{take_all, take-suc, take-suc-set}
 use Rattle.vektoren.specs.Hex.{digit, byte_at, bytes_at}
-
-pub never : {P : Type 0} → false ≡ true → P
-never e = absurd (subst T (sym e) tt)
 
 module _ (b : ℕ) where
   pub below_0 : b < 48 → 16 ≡ digit b

@@ -7,10 +7,12 @@
 // to 30 hour, minute and second of a clock; 31 zero; 32 to 35 a second count; 36 to 43 and 44 to 47 a second instant;
 // 48 a second code; 49 the length of a reason and 50 to 63 its bytes. A line of another form counts as different.
 #![tactic(auto)]
+
 ghost use Rattle.std.specs.Prelude.{true, ◌≡◌, ◌≤◌, length, get_or};
 ghost use Rattle.vektoren.specs.Hex.{digit, bytes_at};
 
-use libc::{STDIN_FILENO, STDOUT_FILENO};
+use std::io;
+use std::io::Read;
 
 // A line's bytes, its end left out.
 const LINE_BYTES: usize = 193;
@@ -34,6 +36,9 @@ const NO_CALL: u8 = 255;
 
 // What each byte of an answer is before the call, so that one that the call leaves out is seen.
 const UNWRITTEN: u8 = 170;
+
+// How many bytes are read at a time.
+const BLOCK_BYTES: usize = 4096;
 
 // Where the reading stands.
 #[derive(Clone, Copy)]
@@ -330,74 +335,87 @@ fn more(x: u64) -> u64 {
     if x < u64::MAX { x + 1 } else { x }
 }
 
-fn print_line_number(n: u64) {
-    io::print_decimal(STDOUT_FILENO, n);
-    io::write_all(STDOUT_FILENO, b"\n");
+fn print_line_number(rt: &impl Print, n: u64) -> io::Result<()> {
+    println!(rt; "{n}")
 }
 
 // The line has ended.
-fn end_line(line: &[u8; LINE_BYTES], r: Replay) -> Replay {
+fn end_line(rt: &impl Print, line: &[u8; LINE_BYTES], r: Replay) -> io::Result<Replay> {
     let lines = more(r.lines);
     if r.held == LINE_BYTES {
         if is_equal(line) {
-            return Replay {
+            return Ok(Replay {
                 ended: r.ended,
                 held: 0,
                 lines,
                 equal: more(r.equal),
-            };
+            });
         }
     }
-    print_line_number(lines);
-    Replay {
+    print_line_number(rt, lines)?;
+    Ok(Replay {
         ended: r.ended,
         held: 0,
         lines,
         equal: r.equal,
-    }
+    })
 }
 
 // One byte more.
-fn take_byte(b: u8, line: &mut [u8; LINE_BYTES], r: Replay) -> Replay {
+fn take_byte(rt: &impl Print, b: u8, line: &mut [u8; LINE_BYTES], r: Replay) -> io::Result<Replay> {
     if b == b'\n' {
-        return end_line(line, r);
+        return end_line(rt, line, r);
     }
     let mut next = r;
     let at = r.held;
     if at < LINE_BYTES {
         line[at] = b;
         next.held = at + 1;
-        return next;
+        return Ok(next);
     }
     next.held = LINE_BYTES + 1;
-    next
+    Ok(next)
 }
 
-fn take_bytes(bytes: &[u8], line: &mut [u8; LINE_BYTES], r: Replay) -> Replay {
+fn take_bytes(
+    rt: &impl Print,
+    bytes: &[u8],
+    line: &mut [u8; LINE_BYTES],
+    r: Replay,
+) -> io::Result<Replay> {
     let mut next = r;
     let mut i = 0;
     while i < bytes.len() {
-        next = take_byte(bytes[i], line, next);
+        next = take_byte(rt, bytes[i], line, next)?;
         i += 1;
     }
-    next
+    Ok(next)
 }
 
 // Reads once, and takes what came.
-fn take_block(line: &mut [u8; LINE_BYTES], r: Replay) -> Replay {
-    let mut block = io::buffer();
-    let n = io::read_full(STDIN_FILENO, &mut block);
+fn take_block(
+    rt: &impl Print,
+    input: &mut impl Read,
+    line: &mut [u8; LINE_BYTES],
+    r: Replay,
+) -> io::Result<Replay> {
+    let mut block = [0u8; BLOCK_BYTES];
+    let n = eingabe::read_full(input, &mut block)?;
     if n == 0 {
         let mut last = r;
         last.ended = true;
-        return last;
+        return Ok(last);
     }
-    take_bytes(&block[..n], line, r)
+    take_bytes(rt, &block[..n], line, r)
 }
 
 // A proved loop has to end, and nothing says that the input does. So the turns are counted down, from a number that no
 // run uses up.
-fn take_all(line: &mut [u8; LINE_BYTES]) -> Replay {
+fn take_all(
+    rt: &impl Print,
+    input: &mut impl Read,
+    line: &mut [u8; LINE_BYTES],
+) -> io::Result<Replay> {
     let mut r = Replay {
         ended: false,
         held: 0,
@@ -406,25 +424,22 @@ fn take_all(line: &mut [u8; LINE_BYTES]) -> Replay {
     };
     let mut turns = u64::MAX;
     while turns > 0 {
-        r = take_block(line, r);
+        r = take_block(rt, input, line, r)?;
         if r.ended {
-            return r;
+            return Ok(r);
         }
         turns -= 1;
     }
-    r
+    Ok(r)
 }
 
-fn main() {
+fn main(rt: HostRuntime) -> io::Result<()> {
     let mut line = [0u8; LINE_BYTES];
-    let mut r = take_all(&mut line);
+    let mut r = take_all(&rt, &mut rt.stdin(), &mut line)?;
     // A last line without its end is of another form.
     if r.held != 0 {
         r.lines = more(r.lines);
-        print_line_number(r.lines);
+        print_line_number(&rt, r.lines)?;
     }
-    io::print_decimal(STDOUT_FILENO, r.lines);
-    io::write_all(STDOUT_FILENO, b" answers, ");
-    io::print_decimal(STDOUT_FILENO, r.equal);
-    io::write_all(STDOUT_FILENO, b" equal\n");
+    println!(rt; "{} answers, {} equal", r.lines, r.equal)
 }

@@ -6,7 +6,9 @@
 // input that ends within a file, or has one longer than any here, counts as one that differs, and nothing behind it is
 // read.
 #![tactic(auto)]
-use libc::{STDIN_FILENO, STDOUT_FILENO};
+
+use std::io;
+use std::io::Read;
 
 // The bytes of the two lengths before a file.
 const HEAD_BYTES: usize = 8;
@@ -29,70 +31,80 @@ enum Replayed {
 }
 
 // Whether all of a slice could be filled from the input.
-fn is_filled(bytes: &mut [u8]) -> bool {
-    let n = io::read_full(STDIN_FILENO, bytes);
-    n == bytes.len()
+fn is_filled(input: &mut impl Read, bytes: &mut [u8]) -> io::Result<bool> {
+    let n = eingabe::read_full(input, bytes)?;
+    Ok(n == bytes.len())
 }
 
 // Reads a file into slices of its lengths, asks its questions and compares.
-fn replay_file(questions: &mut [u8], answers: &mut [u8], expected: &mut [u8]) -> Replayed {
+fn replay_file(
+    input: &mut impl Read,
+    questions: &mut [u8],
+    answers: &mut [u8],
+    expected: &mut [u8],
+) -> io::Result<Replayed> {
     let mut number = [0u8; 1];
-    if !is_filled(questions) {
-        return Replayed::Unreadable;
+    if !is_filled(input, questions)? {
+        return Ok(Replayed::Unreadable);
     }
-    if !is_filled(&mut number) {
-        return Replayed::Unreadable;
+    if !is_filled(input, &mut number)? {
+        return Ok(Replayed::Unreadable);
     }
-    if !is_filled(expected) {
-        return Replayed::Unreadable;
+    if !is_filled(input, expected)? {
+        return Ok(Replayed::Unreadable);
     }
     if mako_fristen::mf_questions(questions, answers) != number[0] {
-        return Replayed::Different;
+        return Ok(Replayed::Different);
     }
     if check::same(answers, expected) {
-        return Replayed::Equal;
+        return Ok(Replayed::Equal);
     }
-    Replayed::Different
+    Ok(Replayed::Different)
 }
 
 // Reads the two lengths of the next file, and then the file, into the front of slices that are long enough for any.
-fn replay_in(questions: &mut [u8], answers: &mut [u8], expected: &mut [u8]) -> Replayed {
+fn replay_in(
+    input: &mut impl Read,
+    questions: &mut [u8],
+    answers: &mut [u8],
+    expected: &mut [u8],
+) -> io::Result<Replayed> {
     let mut head = [0u8; HEAD_BYTES];
-    let n = io::read_full(STDIN_FILENO, &mut head);
+    let n = eingabe::read_full(input, &mut head)?;
     if n == 0 {
-        return Replayed::End;
+        return Ok(Replayed::End);
     }
     if n != HEAD_BYTES {
-        return Replayed::Unreadable;
+        return Ok(Replayed::Unreadable);
     }
     let asked = zahlen::u32_at(&head, 0) as usize;
     let lent = zahlen::u32_at(&head, 4) as usize;
     if questions.len() < asked {
-        return Replayed::Unreadable;
+        return Ok(Replayed::Unreadable);
     }
     if answers.len() < lent {
-        return Replayed::Unreadable;
+        return Ok(Replayed::Unreadable);
     }
     if expected.len() < lent {
-        return Replayed::Unreadable;
+        return Ok(Replayed::Unreadable);
     }
     replay_file(
+        input,
         &mut questions[..asked],
         &mut answers[..lent],
         &mut expected[..lent],
     )
 }
 
-fn replay_next() -> Replayed {
+fn replay_next(input: &mut impl Read) -> io::Result<Replayed> {
     let mut questions = [0u8; MOST_BYTES];
     let mut answers = [UNWRITTEN; MOST_BYTES];
     let mut expected = [0u8; MOST_BYTES];
-    replay_in(&mut questions, &mut answers, &mut expected)
+    replay_in(input, &mut questions, &mut answers, &mut expected)
 }
 
-fn print_number(n: u64, after: &[u8]) {
-    io::print_decimal(STDOUT_FILENO, n);
-    io::write_all(STDOUT_FILENO, after);
+fn print_number(rt: &impl Print, n: u64, after: &str) -> io::Result<()> {
+    print!(rt; "{n}{after}")
 }
 
 // How far the replay has come.
@@ -117,32 +129,32 @@ fn ended(r: Replay) -> Replay {
 }
 
 // A file that differs.
-fn differs(r: Replay) -> Replay {
+fn differs(rt: &impl Print, r: Replay) -> io::Result<Replay> {
     let files = more(r.files);
-    print_number(files, b"\n");
-    Replay {
+    print_number(rt, files, "\n")?;
+    Ok(Replay {
         ended: r.ended,
         files,
         equal: r.equal,
-    }
+    })
 }
 
-fn step(r: Replay) -> Replay {
-    match replay_next() {
-        Replayed::Equal => Replay {
+fn step(rt: &impl Print, input: &mut impl Read, r: Replay) -> io::Result<Replay> {
+    match replay_next(input)? {
+        Replayed::Equal => Ok(Replay {
             ended: r.ended,
             files: more(r.files),
             equal: more(r.equal),
-        },
-        Replayed::Different => differs(r),
-        Replayed::Unreadable => ended(differs(r)),
-        Replayed::End => ended(r),
+        }),
+        Replayed::Different => differs(rt, r),
+        Replayed::Unreadable => Ok(ended(differs(rt, r)?)),
+        Replayed::End => Ok(ended(r)),
     }
 }
 
 // A proved loop has to end, and nothing says that the input does. So the turns are counted down, from a number that no
 // run uses up.
-fn replay_all() -> Replay {
+fn replay_all(rt: &impl Print, input: &mut impl Read) -> io::Result<Replay> {
     let mut r = Replay {
         ended: false,
         files: 0,
@@ -150,17 +162,17 @@ fn replay_all() -> Replay {
     };
     let mut turns = u64::MAX;
     while turns > 0 {
-        r = step(r);
+        r = step(rt, input, r)?;
         if r.ended {
-            return r;
+            return Ok(r);
         }
         turns -= 1;
     }
-    r
+    Ok(r)
 }
 
-fn main() {
-    let r = replay_all();
-    print_number(r.files, b" files, ");
-    print_number(r.equal, b" equal\n");
+fn main(rt: HostRuntime) -> io::Result<()> {
+    let r = replay_all(&rt, &mut rt.stdin())?;
+    print_number(&rt, r.files, " files, ")?;
+    print_number(&rt, r.equal, " equal\n")
 }

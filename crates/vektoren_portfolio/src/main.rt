@@ -6,7 +6,9 @@
 // number that the call returns; then the third list and the answer as it leaves them. An input that ends within a
 // portfolio, or has one longer than any here, counts as one that differs, and nothing behind it is read.
 #![tactic(auto)]
-use libc::{STDIN_FILENO, STDOUT_FILENO};
+
+use std::io;
+use std::io::{BufReader, Read};
 
 // The bytes of the four lengths before a portfolio.
 const HEAD_BYTES: usize = 16;
@@ -35,126 +37,134 @@ enum Replayed {
 }
 
 // Whether all of a slice could be filled from the input.
-fn is_filled(bytes: &mut [u8]) -> bool {
-    let n = io::read_full(STDIN_FILENO, bytes);
-    n == bytes.len()
+fn is_filled(input: &mut impl Read, bytes: &mut [u8]) -> io::Result<bool> {
+    let n = eingabe::read_full(input, bytes)?;
+    Ok(n == bytes.len())
 }
 
 // Whether all of a list could be.
-fn is_list_filled(list: &mut [u32]) -> bool {
+fn is_list_filled(input: &mut impl Read, list: &mut [u32]) -> io::Result<bool> {
     let mut i = 0;
     while i < list.len() {
         let mut bytes = [0u8; 4];
-        if !is_filled(&mut bytes) {
-            return false;
+        if !is_filled(input, &mut bytes)? {
+            return Ok(false);
         }
         list[i] = zahlen::u32_at(&bytes, 0);
         i += 1;
     }
-    true
+    Ok(true)
 }
 
 // Whether the input goes on with a byte.
-fn is_byte_next(x: u8) -> bool {
+fn is_byte_next(input: &mut impl Read, x: u8) -> io::Result<bool> {
     let mut bytes = [0u8; 1];
-    if is_filled(&mut bytes) {
-        return bytes[0] == x;
+    if is_filled(input, &mut bytes)? {
+        return Ok(bytes[0] == x);
     }
-    false
+    Ok(false)
 }
 
 // Whether it goes on with a number.
-fn is_number_next(x: u32) -> bool {
+fn is_number_next(input: &mut impl Read, x: u32) -> io::Result<bool> {
     let mut bytes = [0u8; 4];
-    if is_filled(&mut bytes) {
-        return zahlen::u32_at(&bytes, 0) == x;
+    if is_filled(input, &mut bytes)? {
+        return Ok(zahlen::u32_at(&bytes, 0) == x);
     }
-    false
+    Ok(false)
 }
 
 // Whether it goes on with a slice. As many bytes are read, also behind one that differs.
-fn are_bytes_next(bytes: &[u8]) -> bool {
+fn are_bytes_next(input: &mut impl Read, bytes: &[u8]) -> io::Result<bool> {
     let mut same = true;
     let mut i = 0;
     while i < bytes.len() {
-        if !is_byte_next(bytes[i]) {
+        if !is_byte_next(input, bytes[i])? {
             same = false;
         }
         i += 1;
     }
-    same
+    Ok(same)
 }
 
 // Whether it goes on with a list.
-fn is_list_next(list: &[u32]) -> bool {
+fn is_list_next(input: &mut impl Read, list: &[u32]) -> io::Result<bool> {
     let mut same = true;
     let mut i = 0;
     while i < list.len() {
-        if !is_number_next(list[i]) {
+        if !is_number_next(input, list[i])? {
             same = false;
         }
         i += 1;
     }
-    same
+    Ok(same)
 }
 
 // Reads the days of a portfolio into lists of its lengths, asks for its counts, and compares with what is expected. All
 // of that is read before it is told whether it differs: there the next portfolio begins.
 fn replay_portfolio(
+    input: &mut impl Read,
     from: &mut [u32],
     to: &mut [u32],
     counts: &mut [u32],
     answer: &mut [u8],
-) -> Replayed {
-    if !is_list_filled(from) {
-        return Replayed::Unreadable;
+) -> io::Result<Replayed> {
+    if !is_list_filled(input, from)? {
+        return Ok(Replayed::Unreadable);
     }
-    if !is_list_filled(to) {
-        return Replayed::Unreadable;
+    if !is_list_filled(input, to)? {
+        return Ok(Replayed::Unreadable);
     }
-    let same_number = is_byte_next(mako_fristen::mf_portfolio(from, to, counts, answer));
-    let same_counts = is_list_next(counts);
-    let same_answer = are_bytes_next(answer);
+    let same_number = is_byte_next(input, mako_fristen::mf_portfolio(from, to, counts, answer))?;
+    let same_counts = is_list_next(input, counts)?;
+    let same_answer = are_bytes_next(input, answer)?;
     if !same_number {
-        return Replayed::Different;
+        return Ok(Replayed::Different);
     }
     if !same_counts {
-        return Replayed::Different;
+        return Ok(Replayed::Different);
     }
     if !same_answer {
-        return Replayed::Different;
+        return Ok(Replayed::Different);
     }
-    Replayed::Equal
+    Ok(Replayed::Equal)
 }
 
 // Reads the four lengths of the next portfolio, and then the portfolio, into the front of slices that are long enough
 // for any.
-fn replay_in(from: &mut [u32], to: &mut [u32], counts: &mut [u32], answer: &mut [u8]) -> Replayed {
+fn replay_in(
+    input: &mut impl Read,
+    from: &mut [u32],
+    to: &mut [u32],
+    counts: &mut [u32],
+    answer: &mut [u8],
+) -> io::Result<Replayed> {
     let mut head = [0u8; HEAD_BYTES];
-    let n = io::read_full(STDIN_FILENO, &mut head);
+    let n = eingabe::read_full(input, &mut head)?;
     if n == 0 {
-        return Replayed::End;
+        return Ok(Replayed::End);
     }
     if n != HEAD_BYTES {
-        return Replayed::Unreadable;
+        return Ok(Replayed::Unreadable);
     }
     let first = zahlen::u32_at(&head, 0) as usize;
     let second = zahlen::u32_at(&head, 4) as usize;
     let third = zahlen::u32_at(&head, 8) as usize;
     let lent = zahlen::u32_at(&head, 12) as usize;
     if from.len() < first {
-        return Replayed::Unreadable;
+        return Ok(Replayed::Unreadable);
     }
     if to.len() < second {
-        return Replayed::Unreadable;
+        return Ok(Replayed::Unreadable);
     }
     if counts.len() < third {
-        return Replayed::Unreadable;
+        return Ok(Replayed::Unreadable);
     }
     if answer.len() < lent {
-        return Replayed::Unreadable;
+        return Ok(Replayed::Unreadable);
     }
     replay_portfolio(
+        input,
         &mut from[..first],
         &mut to[..second],
         &mut counts[..third],
@@ -162,17 +172,16 @@ fn replay_in(from: &mut [u32], to: &mut [u32], counts: &mut [u32], answer: &mut 
     )
 }
 
-fn replay_next() -> Replayed {
+fn replay_next(input: &mut impl Read) -> io::Result<Replayed> {
     let mut from = [0u32; MOST_ENTRIES];
     let mut to = [0u32; MOST_ENTRIES];
     let mut counts = [UNWRITTEN_ENTRY; MOST_ENTRIES];
     let mut answer = [UNWRITTEN; MOST_BYTES];
-    replay_in(&mut from, &mut to, &mut counts, &mut answer)
+    replay_in(input, &mut from, &mut to, &mut counts, &mut answer)
 }
 
-fn print_number(n: u64, after: &[u8]) {
-    io::print_decimal(STDOUT_FILENO, n);
-    io::write_all(STDOUT_FILENO, after);
+fn print_number(rt: &impl Print, n: u64, after: &str) -> io::Result<()> {
+    print!(rt; "{n}{after}")
 }
 
 // How far the replay has come.
@@ -197,32 +206,32 @@ fn ended(r: Replay) -> Replay {
 }
 
 // A portfolio that differs.
-fn differs(r: Replay) -> Replay {
+fn differs(rt: &impl Print, r: Replay) -> io::Result<Replay> {
     let portfolios = more(r.portfolios);
-    print_number(portfolios, b"\n");
-    Replay {
+    print_number(rt, portfolios, "\n")?;
+    Ok(Replay {
         ended: r.ended,
         portfolios,
         equal: r.equal,
-    }
+    })
 }
 
-fn step(r: Replay) -> Replay {
-    match replay_next() {
-        Replayed::Equal => Replay {
+fn step(rt: &impl Print, input: &mut impl Read, r: Replay) -> io::Result<Replay> {
+    match replay_next(input)? {
+        Replayed::Equal => Ok(Replay {
             ended: r.ended,
             portfolios: more(r.portfolios),
             equal: more(r.equal),
-        },
-        Replayed::Different => differs(r),
-        Replayed::Unreadable => ended(differs(r)),
-        Replayed::End => ended(r),
+        }),
+        Replayed::Different => differs(rt, r),
+        Replayed::Unreadable => Ok(ended(differs(rt, r)?)),
+        Replayed::End => Ok(ended(r)),
     }
 }
 
 // A proved loop has to end, and nothing says that the input does. So the turns are counted down, from a number that no
 // run uses up.
-fn replay_all() -> Replay {
+fn replay_all(rt: &impl Print, input: &mut impl Read) -> io::Result<Replay> {
     let mut r = Replay {
         ended: false,
         portfolios: 0,
@@ -230,17 +239,18 @@ fn replay_all() -> Replay {
     };
     let mut turns = u64::MAX;
     while turns > 0 {
-        r = step(r);
+        r = step(rt, input, r)?;
         if r.ended {
-            return r;
+            return Ok(r);
         }
         turns -= 1;
     }
-    r
+    Ok(r)
 }
 
-fn main() {
-    let r = replay_all();
-    print_number(r.portfolios, b" portfolios, ");
-    print_number(r.equal, b" equal\n");
+fn main(rt: HostRuntime) -> io::Result<()> {
+    let mut input = BufReader::new(rt.alloc(), rt.stdin())?;
+    let r = replay_all(&rt, &mut input)?;
+    print_number(&rt, r.portfolios, " portfolios, ")?;
+    print_number(&rt, r.equal, " equal\n")
 }
