@@ -2,9 +2,9 @@
 
     python3 -B checks/fragen.py
 
-It needs target/bin/fragen, which `rt check` and `rt ci` build. What is expected is the original's stored answers: an
-answer depends on its question alone, so those of the first questions are the first answers. The last line is as in
-sources.py.
+It needs crates/fragen/out/fragen, which `rt ci` leaves there and `rt run </dev/null` in crates/fragen builds. What is
+expected is the original's stored answers: an answer depends on its question alone, so those of the first questions are
+the first answers. The last line is as in sources.py.
 """
 
 import os
@@ -17,7 +17,7 @@ from pathlib import Path
 
 import sources
 
-PROGRAM = "target/bin/fragen"
+PROGRAM = "crates/fragen/out/fragen"
 RECORD, MOST = 32, 65536
 # Longer than any run takes; what waits for an end that does not come takes for ever.
 SECONDS = 20

@@ -12,8 +12,9 @@ import sys
 from pathlib import Path
 
 LONGEST_LINE = 120
-EXPORTING_CRATE = "mako_fristen"
-NOT_OURS = {".git", "target", "host/target", "oracle/target"}
+# The exports for C, and the library whose calls they are.
+EXPORTING_CRATE, CALLED_CRATE = "mako_fristen_c", "mako_fristen"
+NOT_OURS = re.compile(r"\.git|target|host/target|oracle/target|crates/[^/]+/out")
 
 
 def tree(root, below=""):
@@ -24,7 +25,7 @@ def tree(root, below=""):
 
     for folder, folders, files in os.walk(Path(root, below), onerror=stop):
         here = Path(folder).relative_to(root)
-        folders[:] = sorted(name for name in folders if (here / name).as_posix() not in NOT_OURS)
+        folders[:] = sorted(name for name in folders if not NOT_OURS.fullmatch((here / name).as_posix()))
         for name in sorted(files) + [name for name in folders if Path(folder, name).is_symlink()]:
             yield here / name
 
@@ -39,17 +40,21 @@ def line_of(text, at):
 
 # Files of a crate that crates.txt lists.
 
+FOLDERS = {".rt": ("src",), ".antt": ("specs", "proofs")}
+
 
 def files(root):
-    listed = {line.split(":")[0].strip() for line in read(root, "crates.txt").splitlines() if ":" in line}
+    listed = set(re.findall(r"^[ \t]*(\w+)[^#:\n]*:", read(root, "crates.txt"), re.M))
     looked, faults = 0, []
     for path in tree(root):
         if Path(root, path).is_symlink() and path.parts[0] == "crates":
             faults.append(f"{path}: a link, which the checks do not follow")
-        if path.suffix in (".rt", ".antt"):
+        if path.suffix in FOLDERS:
             looked += 1
             if len(path.parts) < 3 or path.parts[0] != "crates" or path.parts[1] not in listed:
                 faults.append(f"{path}: in no crate that crates.txt lists")
+            elif len(path.parts) < 4 or path.parts[2] not in FOLDERS[path.suffix]:
+                faults.append(f"{path}: not below {' or '.join(FOLDERS[path.suffix])} of its crate")
     return looked, faults
 
 
@@ -59,9 +64,12 @@ SKIPPED = re.compile(
     r"""(?P<comment>//[^\n]*|/\*.*?\*/) | b?"(?:\\.|[^"\\])*" | b?'(?:\\.|[^'\\\n])'""", re.S | re.X
 )
 MARK = re.compile(r"\bno_mangle\b|\bexport_name\b|\bextern\b")
-EXPORT = re.compile(r'#\[no_mangle\]\s*(?:#\[[^\]]*\]\s*)*pub\s+extern\s*"C"\s*fn\s+(\w+)\s*\(')
-EQUATION = re.compile(r"λ r\. ⌜ \(r((?:, now \(\w+ \.exit\))+)\) ≡ ([^≡]+) ⌝")
-CLAUSES = ("ensures", "requires", "ghost")
+EXPORT = re.compile(r'#\[unsafe\(no_mangle\)\]\s*(?:#\[[^\]]*\]\s*)*pub\s+extern\s*"C"\s*fn\s+(\w+)\s*\(')
+CALL = re.compile(r"\bpub\s+fn\s+(mf_\w+)\s*\(")
+# A clause's word and its name, which one that is alone need not have.
+CLAUSE = re.compile(r"\b((?:ensures|requires|ghost)\b\*?)\s*(\w*)\s*$")
+EQUATION = re.compile(r"\(result((?:, \w+\.new)+)\) ≡ ([^≡]+)")
+GHOST_USE = re.compile(r"\bghost\s+use\s+([\w.]+)\.(?:\{([^}]*)\}|([^\s;{]+))\s*;")
 CLOSING = {"(": ")", "{": "}"}
 
 
@@ -85,38 +93,82 @@ def group(code, at):
 
 
 def contract(code, at):
-    """The clauses of the function whose parameters end here, as pairs of word and text; the word after its body."""
+    """Of the function whose parameters end here: the clauses, as word, name and text; the body; the word after it."""
     clauses = []
     while (brace := code.find("{", at)) >= 0:
-        head, end = code[at:brace].split(), group(code, brace)
-        if not head or head[-1] not in CLAUSES:
-            return clauses, code[end:].split(None, 1)[:1]
-        clauses.append((head[-1], " ".join(code[brace + 1 : end - 1].split())))
+        clause, end = CLAUSE.search(code[at:brace]), group(code, brace)
+        inside = spaced(code[brace + 1 : end - 1])
+        if not clause:
+            return clauses, inside, code[end:].split(None, 1)[:1]
+        clauses.append((*clause.groups(), inside))
         at = end
-    return clauses, []
+    return clauses, None, []
+
+
+def spaced(code):
+    """The code in one line, wrapped or not."""
+    return re.sub(r",? \)", ")", re.sub(r"\( ", "(", " ".join(code.split())))
 
 
 def faults_of_export(parameters, clauses, after):
-    words = [word for word, _ in clauses]
-    if "requires" in words or "ghost" in words:
+    words = [word for word, *_ in clauses]
+    if {"requires", "requires*", "ghost"} & set(words):
         yield "asks something of its caller"
-    if after and after[0].rstrip("{") in CLAUSES + ("",):
+    if after and re.match(r"(?:ensures|requires|ghost)\b|\{", after[0]):
         yield "has a contract that cannot be read"
-    if words.count("ensures") != 1:
-        yield f"has {words.count('ensures')} ensures and not one"
+    if words.count("ensures") + words.count("ensures*") != 1:
+        yield f"has {words.count('ensures') + words.count('ensures*')} ensures and not one"
         return
-    promise = re.sub(r"\( ", "(", re.sub(r" \)", ")", dict(clauses)["ensures"]))
+    promise = next((text for word, _, text in clauses if word == "ensures"), "")
     equation = EQUATION.fullmatch(promise)
     if not equation:
-        yield "promises no equation (r, now (.. .exit)) ≡ .."
+        yield "promises no equation (result, .. .new) ≡ .."
         return
     left, right = equation.groups()
-    if set(re.findall(r"\((\w+) ", left)) != set(re.findall(r"(\w+)\s*:\s*&\s*mut\b", parameters)):
+    if set(re.findall(r"(\w+)\.new", left)) != set(re.findall(r"(\w+)\s*:\s*&\s*mut\b", parameters)):
         yield "promises nothing of a slice that it may write"
-    if re.search(r"\br\b|\.exit\b", right):
+    if re.search(r"\bresult\b|\.(?:new|exit)\b", right):
         yield "has on the right what it promises on the left"
-    if re.search(r"[→×⊎∧∨∀∃]", right):
+    if not re.fullmatch(r"[\w.() ]+", right):
         yield "promises more or less than an equation"
+
+
+def imported(code):
+    """What the contracts of a file import, each name with its path."""
+    found = set()
+    for path, several, one in GHOST_USE.findall(code):
+        found |= {f"{path}.{spaced(name)}" for name in (several or one).split(",") if name.strip()}
+    return found
+
+
+def library_calls(root):
+    """The calls of the library, by name: parameters, clauses, imports; of two of one name none can be told."""
+    found = {}
+    for path in tree(root, f"crates/{CALLED_CRATE}/src"):
+        if path.suffix != ".rt":
+            continue
+        code = code_of(read(root, path))
+        for call in CALL.finditer(code):
+            end = group(code, call.end() - 1)
+            told = spaced(code[call.end() - 1 : end]), contract(code, end)[0], imported(code)
+            found[call[1]] = None if call[1] in found else told
+    return found
+
+
+def faults_of_call(name, parameters, clauses, body, imports, call):
+    """Where an export is not the library's call of the same name, handed on."""
+    if not call:
+        yield f"is not one call of {CALLED_CRATE}"
+        return
+    if parameters != call[0]:
+        yield f"has other parameters than in {CALLED_CRATE}"
+    if clauses != call[1]:
+        yield f"has other clauses than in {CALLED_CRATE}"
+    for other in sorted(imports - call[2]):
+        yield f"has clauses with {other}, which those in {CALLED_CRATE} do not import"
+    arguments = ", ".join(re.findall(r"(\w+) ?:(?!:)", parameters))
+    if body != f"{CALLED_CRATE}::{name}({arguments})":
+        yield f"does not hand its parameters to {CALLED_CRATE}::{name} alone"
 
 
 def call_table(root):
@@ -138,7 +190,7 @@ def host_calls(root):
 
 
 def exports(root):
-    found, faults = [], []
+    found, faults, calls = [], [], library_calls(root)
     for path in tree(root, "crates"):
         if path.suffix != ".rt":
             continue
@@ -151,15 +203,25 @@ def exports(root):
             if path.parts[1] != EXPORTING_CRATE:
                 faults.append(f"{place}: {name} is exported outside of {EXPORTING_CRATE}")
             end = group(code, export.end() - 1)
-            for fault in faults_of_export(code[export.end() : end - 1], *contract(code, end)):
+            parameters = spaced(code[export.end() - 1 : end])
+            clauses, body, after = contract(code, end)
+            for fault in [
+                *faults_of_export(parameters, clauses, after),
+                *faults_of_call(name, parameters, clauses, body, imported(code), calls.get(name)),
+            ]:
                 faults.append(f"{place}: {name} {fault}")
         for mark in sorted(marks):
-            faults.append(f'{path}:{line_of(code, mark)}: no export of the form #[no_mangle] pub extern "C" fn')
-    for what, calls in [("docs/host-calls.md", call_table(root)), ("host/src/ffi.rs", host_calls(root))]:
-        for call in sorted(set(found) ^ set(calls)):
+            place = f"{path}:{line_of(code, mark)}"
+            faults.append(f'{place}: no export of the form #[unsafe(no_mangle)] pub extern "C" fn')
+    for what, there in [
+        (f"crates/{CALLED_CRATE}", list(calls)),
+        ("docs/host-calls.md", call_table(root)),
+        ("host/src/ffi.rs", host_calls(root)),
+    ]:
+        for call in sorted(set(found) ^ set(there)):
             faults.append(f"{what}: {call} is not both there and exported")
-        if len(calls) != len(set(calls)) or not calls:
-            faults.append(f"{what}: has {len(calls)} calls with {len(set(calls))} names")
+        if len(there) != len(set(there)) or not there:
+            faults.append(f"{what}: has {len(there)} calls with {len(set(there))} names")
     if len(found) != len(set(found)):
         faults.append(f"crates: {len(found)} exports with {len(set(found))} names")
     return len(found), faults
@@ -190,7 +252,7 @@ def docs(root):
 
 # Names of definitions.
 
-DEFINITION = re.compile(r"^(?:[a-z]+ +)*pub +(?:(record|data|mod|use) +)?([^\s:({]+)", re.M)
+DEFINITION = re.compile(r"^(?:[a-z]+ +)*pub +(?:(record|data|ruleset|mod|use) +)?([^\s:({]+)", re.M)
 
 
 def names(root):
