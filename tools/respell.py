@@ -52,7 +52,8 @@ def signature(lines, i):
 def declared():
     """name -> the set of (file, kind); the kinds are type, value, field and goal."""
     out = collections.defaultdict(set)
-    files = glob.glob("crates/*/specs/**/*.antt", recursive=True) + glob.glob("crates/*/proofs/**/*.antt", recursive=True)
+    folders = ("specs", "proofs")
+    files = [f for folder in folders for f in glob.glob(f"crates/*/{folder}/**/*.antt", recursive=True)]
     for f in sorted(files):
         with open(f, encoding="utf-8") as it:
             lines = it.read().split("\n")
@@ -137,7 +138,17 @@ def main():
                 print("together:", b, *sorted(a))
         print(len(names), "names")
         return
-    patterns = ("crates/*/specs/**/*.antt", "crates/*/proofs/**/*.antt", "crates/*/src/**/*.rt", "crates/*/must-fail/*.edit", "checks/*.py", "*.md", "docs/*.md", "host/**/*.md", "oracle/*.md")
+    patterns = (
+        "crates/*/specs/**/*.antt",
+        "crates/*/proofs/**/*.antt",
+        "crates/*/src/**/*.rt",
+        "crates/*/must-fail/*.edit",
+        "checks/*.py",
+        "*.md",
+        "docs/*.md",
+        "host/**/*.md",
+        "oracle/*.md",
+    )
     for f in sorted({f for p in patterns for f in glob.glob(p, recursive=True) if "/target/" not in f}):
         with open(f, encoding="utf-8") as it:
             old = it.read()
