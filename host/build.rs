@@ -1,5 +1,5 @@
 //! Finds the archive `libmako_fristen.a`: in the folder that `MAKO_FRISTEN_LIB` names, an absolute
-//! path, else where `rt staticlib` writes it.
+//! path, else in target/staticlib, where `./fristen` puts it.
 
 use std::path::PathBuf;
 use std::{env, process};
@@ -21,7 +21,7 @@ fn main() {
     println!("cargo:rerun-if-changed={}", archive.display());
     if !archive.is_file() {
         eprintln!("error: there is no {}", archive.display());
-        eprintln!("  run `rt staticlib mako_fristen` at the repository's root,");
+        eprintln!("  run `./fristen --help` at the repository's root, which builds it,");
         eprintln!("  or set {FOLDER} to the folder that holds libmako_fristen.a");
         process::exit(1);
     }

@@ -63,7 +63,7 @@
 //!
 //! # Linking
 //!
-//! The calls stand in the archive `libmako_fristen.a`, which `rt staticlib mako_fristen` writes to
+//! The calls stand in the archive `libmako_fristen.a`, which `./fristen` builds and puts in
 //! target/staticlib. The build script takes it from there, or from the folder that the variable
 //! `MAKO_FRISTEN_LIB` names, and says so if there is none. Nothing is needed when a program runs.
 //!
