@@ -81,7 +81,9 @@ def fragen(root):
             faults.append(f"{PROGRAM}: {what}: writes otherwise, or does not end")
     looked += 1
     with open(os.devnull, "wb") as unreadable:
-        if subprocess.run([program], stdin=unreadable, stdout=subprocess.PIPE, check=False).stdout:
+        # What it says of that on standard error is its own matter.
+        ran = subprocess.run([program], stdin=unreadable, capture_output=True, check=False)
+        if ran.stdout:
             faults.append(f"{PROGRAM}: writes something for an input that cannot be read")
     return looked, faults
 
