@@ -31,3 +31,40 @@ pub fn read_full<R: Read>(input: &mut R, buf: &mut [u8]) -> io::Result<usize>
     }
     Ok(done)
 }
+
+#[cfg(test)]
+mod tests {
+    use super::*;
+    use std::test::Fail;
+
+    // Each read of it fails.
+    #[derive(Drop)]
+    struct Broken;
+
+    impl Read for Broken {
+        fn read(&mut self, _buf: &mut [u8]) -> io::Result<usize> {
+            Err(io::Error::from(io::ErrorKind::BrokenPipe))
+        }
+    }
+
+    #[test]
+    fn joins_pieces(rt: HostRuntime) -> Result<(), Fail> {
+        let mut input = b"ab".as_slice().chain(b"cde".as_slice());
+        let mut buf = [0u8; 4];
+        assert_eq!(rt; read_full(&mut input, &mut buf)?, 4);
+        assert_eq!(rt; buf, *b"abcd");
+        assert_eq!(rt; read_full(&mut input, &mut buf)?, 1);
+        assert_eq!(rt; buf[0], b'e');
+        assert_eq!(rt; read_full(&mut input, &mut buf)?, 0);
+        Ok(())
+    }
+
+    #[test]
+    fn gives_the_error_of_a_later_read(rt: HostRuntime) -> Result<(), Fail> {
+        let mut input = b"ab".as_slice().chain(Broken);
+        let mut buf = [0u8; 4];
+        assert!(rt; read_full(&mut input, &mut buf).is_err());
+        assert!(rt; read_full(&mut input, &mut buf).is_err());
+        Ok(())
+    }
+}
