@@ -13,6 +13,7 @@ use werktag::HolidayCalendar;
 /// length, and then touches nothing; 10 for lists that are no portfolio, and then leaves the third list as it was.
 ///
 /// Of the days 20,545 (2 April 2026) and 20,549 with 20,550 each the counts are 1 and 1, and the answer has count 1.
+#[tactic(auto, using(crate::proofs::Rules::other_length))]
 pub fn portfolio_reply(
     from: &[u32],
     to: &[u32],

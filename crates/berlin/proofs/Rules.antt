@@ -275,3 +275,5 @@ module _ (m b : Moment) (i : ℕ) (sp : Sparte) (e : i ≡ berlin_date m) (p : b
   unfolding tag_des_beginns
   begins h k l =
       rw (← e, ← p, eq-eqb b.utcday m.utcday h, eq-eqb b.second m.second k, eq-eqb b.nanos m.nanos l)
+
+pub ruleset other_rules = (other_day, other_second, other_nanos)

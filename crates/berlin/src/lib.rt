@@ -491,6 +491,7 @@ pub fn tagesbeginn_utc(day: u32, sparte: Sparte) -> Moment
 /// refused, never rounded.
 ///
 /// 31 December 2026 23:00 UTC begins 1 January 2027 in Strom; a nanosecond later begins no day.
+#[tactic(auto, using(crate::proofs::Rules::other_rules))]
 pub fn tag_des_beginns(at: Moment, sparte: Sparte) -> Beginn
     requires { Proper at }
     ensures { result ≡ tag_des_beginns at sparte }

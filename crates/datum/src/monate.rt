@@ -53,6 +53,7 @@ pub fn months_earlier(day: Tag, n: u32) -> TagStep
 /// `Outside` past the calendar's last day, which the first of the next month may be where n months later is not.
 ///
 /// 31 January 2026 and 1 month is 1 March 2026, 28 January and 1 month 28 February.
+#[tactic(auto, using(crate::proofs::MonthStepRules::date_shift_rules))]
 pub fn months_or_first_date(date: Date, n: u32) -> Shifted
     requires { is_date date ≡ true }
     ensures { (to_step result ≡ M n (days_before date)) × InsideShift result }

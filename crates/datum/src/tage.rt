@@ -98,6 +98,7 @@ pub fn later_in_month(tag: Tag, days: u8) -> Tag
 /// carried over into the next, and from December into the next year.
 ///
 /// From 30 December 2026 with 3: 2 January 2027.
+#[tactic(auto, using(crate::proofs::TagRules::later_rules))]
 pub fn into_next_month(tag: Tag, length: u8, days: u8) -> Tag
     requires tag_value { (tag ≡ tag_at tag.index) × (days ≤ 28) × (tag.index + days ≤ last) }
     requires length_len { length ≡ days_in_month (is_leap tag.date.year) tag.date.month }

@@ -158,6 +158,7 @@ pub fn contrl_due_at(received: Moment, anlass: ContrlAnlass) -> Due
 }
 
 /// Whether an instant lies in the window from 18:00 of one day to the midnight that begins the other.
+#[tactic(auto, using(crate::proofs::Rules::window_rules))]
 fn in_window(at: Moment, von: u32, bis: u32) -> bool
     requires { Proper at × (von ≤ last) × (bis ≤ last) }
     ensures { result ≡ in_window von bis at }
@@ -407,6 +408,7 @@ pub enum FristShape {
 
 /// The clock on the receipt day. From that time on, and on a day that is no Werktag, it is the clock on the first
 /// Werktag after it, the second window of GPKE Teil 2. The clock is resolved on the receipt day in any case.
+#[tactic(auto, using(crate::proofs::Rules::same_rules))]
 fn same_day_at(received: Moment, at: Clock, cal: HolidayCalendar) -> Due
     requires { Proper received × ProperClock at }
     ensures { (result ≡ same_day_at (is_werktag cal) received at) × ProperDue result }

@@ -61,6 +61,7 @@ fn weekday_earlier(wday: u32, days: u8) -> u32
 }
 
 /// The days to the next day from Monday to Friday: three from a Friday.
+#[tactic(auto, using(crate::proofs::Rules::weekday_rules))]
 pub fn to_weekday(wday: u32) -> u8
     requires { wday < 7 }
     ensures { (result ≡ to_weekday wday) × (1 ≤ result) × (result ≤ 3) }
@@ -178,7 +179,8 @@ pub fn add_werktage(from: Tag, n: u32, cal: HolidayCalendar) -> TagStep
     let mut remaining = n;
     while 0 < remaining {
         let days = to_weekday(at.wday);
-        if LAST - at.tag.index < (days as u32) {
+        let ahead = days as u32;
+        if LAST - at.tag.index < ahead {
             return TagStep::Outside;
         }
         at = on(at, days);

@@ -154,6 +154,7 @@ fn latest_werktage_after(n: u32, t: Tag, a: Tag, cal: HolidayCalendar) -> Vorlau
 }
 
 /// The anchor, the date requested, is the `n`-th Werktag after t at the earliest.
+#[tactic(auto, using(crate::proofs::VerdictRules::earliest_ok))]
 fn earliest_werktage_after(n: u32, t: Tag, a: Tag, cal: HolidayCalendar) -> VorlaufVerdict
     requires { (t ≡ tag_at t.index) × (t.index ≤ last) × (a ≡ tag_at a.index) × (a.index ≤ last) }
     ensures { result ≡ check_of (is_werktag cal) (VorlaufShape.EarliestWerktageAfter n) t.index a.index }

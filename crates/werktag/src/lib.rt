@@ -112,6 +112,7 @@ fn fixed_day(month: u8, day: u8) -> u8
 }
 
 /// Buß- und Bettag: 'the Wednesday from 16 to 22 November'.
+#[tactic(auto, using(crate::proofs::Rules::too_late))]
 fn is_buss_und_bettag(month: u8, day: u8, weekday: u32) -> bool
     ensures { result ≡ is_buss_und_bettag month day weekday }
 {
@@ -196,6 +197,7 @@ fn feast_at(distance: i64) -> u8
 /// The reason of a holiday of the list, for a day whose weekday and whose Easter are known: the fixed days, Buß- und
 /// Bettag, the feasts that move with Easter, by one distance from it. Of two holidays on one date it is the lower:
 /// 1 May 2008, Tag der Arbeit and Christi Himmelfahrt, has 6.
+#[tactic(auto, using(crate::proofs::Rules::distance_fits, crate::proofs::Rules::tag_rules))]
 fn bdew_mako_holiday(tag: Tag, wday: u32, easter: u32) -> u8
     requires tag_value { (tag ≡ tag_at tag.index) × (tag.index ≤ last) × (wday ≡ weekday tag.index) }
     requires easter_value { (easter ≡ easter_for tag.date.year tag.date.month) × (easter ≤ last + 3) }
@@ -230,6 +232,7 @@ fn reason_of_weekday(tag: Tag, wday: u32, easter: u32, cal: HolidayCalendar) -> 
 /// before a holiday.
 ///
 /// 18 November 2026, Buß- und Bettag, has 16; 8 March 2026, a Sunday and Internationaler Frauentag, has 2.
+#[tactic(auto, using(crate::proofs::Rules::on_sunday))]
 pub fn reason(tag: Tag, cal: HolidayCalendar) -> u8
     requires { (tag ≡ tag_at tag.index) × (tag.index ≤ last) }
     ensures { result ≡ reason cal tag.index }
@@ -305,6 +308,7 @@ pub fn is_open_weekday(tag: Tag, wday: u32, easter: u32, cal: HolidayCalendar) -
 /// A holiday of any one Land counts everywhere, and 24 and 31 December count as holidays.
 ///
 /// 18 November 2026, Buß- und Bettag, is none; 7 April 2026, the Tuesday after Easter, is one.
+#[tactic(auto, using(crate::proofs::Rules::on_weekend))]
 pub fn is_werktag(tag: Tag, cal: HolidayCalendar) -> bool
     requires { (tag ≡ tag_at tag.index) × (tag.index ≤ last) }
     ensures { result ≡ is_werktag cal tag.index }

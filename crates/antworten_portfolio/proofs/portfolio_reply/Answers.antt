@@ -4,9 +4,6 @@ use borrow.Author.Rules.{rules}
 use Rattle.antworten_portfolio.proofs.Rules.{other_length, portfolio_reply_rules}
 use Rattle.antworten_portfolio.proofs.portfolio_reply.Goals as goal
 
-pub returns-then-answer-ne-ANSWER_BYTES : goal.returns-then-answer-ne-ANSWER_BYTES
-returns-then-answer-ne-ANSWER_BYTES c = other_length _ _ _ _ _ (λ e. search (rules, c.if-answer-ne-ANSWER_BYTES.true))
-
 pub returns-then-not-is_portfolio : goal.returns-then-not-is_portfolio
 returns-then-not-is_portfolio c = search (rules, portfolio_reply_rules)
 

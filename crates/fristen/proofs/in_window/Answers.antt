@@ -11,9 +11,6 @@ returns-in_default c = search (rules, window_rules)
 pub is_before-requires : goal.is_before-requires
 is_before-requires c = search (rules, shown_second)
 
-pub returns-then-is_before : goal.returns-then-is_before
-returns-then-is_before c = search (rules, window_rules)
-
 pub is_before-requires-2 : goal.is_before-requires-2
 is_before-requires-2 c = search (rules, midnight_second)
 

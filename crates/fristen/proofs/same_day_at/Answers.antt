@@ -13,8 +13,5 @@ returns-then-not-is_werktag_at c = search (rules, same_rules)
 pub is_before-requires : goal.is_before-requires
 is_before-requires c = search (rules, same_rules)
 
-pub returns-then-is_before : goal.returns-then-is_before
-returns-then-is_before c = search (rules, same_rules)
-
 pub returns : goal.returns
 returns c = search (rules, same_rules)

@@ -17,11 +17,11 @@ to_weekday-days-requires c = search (rules, on_rules)
 pub overflow_sub-at : goal.overflow_sub-at
 overflow_sub-at c = search (rules, on_rules)
 
-pub overflow_cast-days : goal.overflow_cast-days
-overflow_cast-days c = search (rules, on_rules)
+pub overflow_cast-ahead : goal.overflow_cast-ahead
+overflow_cast-ahead c = search (rules, on_rules)
 
-pub returns-then-at-days : goal.returns-then-at-days
-returns-then-at-days c = search (rules, on_rules)
+pub returns-then-at-ahead : goal.returns-then-at-ahead
+returns-then-at-ahead c = search (rules, on_rules)
 
 pub on-at-requires : goal.on-at-requires
 on-at-requires c = search (rules, on_rules)

@@ -12,9 +12,6 @@ add_werktage-requires c = search (rules, inside_rules)
 pub returns-in_default : goal.returns-in_default
 returns-in_default c = search (rules, verdict_rules)
 
-pub returns-then-first-a : goal.returns-then-first-a
-returns-then-first-a c = search (rules, verdict_rules)
-
 pub too_late-requires : goal.too_late-requires
 too_late-requires c = search (rules, inside_rules)
 

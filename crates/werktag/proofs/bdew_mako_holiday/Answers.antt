@@ -13,8 +13,5 @@ returns-then-has_fixed_day c = search (rules, holiday_rules)
 pub returns-then-is_buss_und_bettag : goal.returns-then-is_buss_und_bettag
 returns-then-is_buss_und_bettag c = search (rules, holiday_rules)
 
-pub overflow_sub-tag : goal.overflow_sub-tag
-overflow_sub-tag c = search (rules, holiday_rules)
-
 pub returns : goal.returns
 returns c = search (rules, holiday_rules)

@@ -10,8 +10,5 @@ returns-then-month-ne-NOVEMBER c = no_november _ _ _ c.if-month-ne-NOVEMBER.true
 pub returns-then-day-lt16 : goal.returns-then-day-lt16
 returns-then-day-lt16 c = search (rules, buss_rules)
 
-pub returns-then-day-gt22 : goal.returns-then-day-gt22
-returns-then-day-gt22 c = search (rules, buss_rules)
-
 pub returns : goal.returns
 returns c = search (rules, buss_rules)

@@ -4,8 +4,5 @@ use Rattle.werktag.proofs.Rules.{werktag_rules}
 use borrow.Author.Rules.{rules}
 use Rattle.werktag.proofs.is_werktag.Goals as goal
 
-pub returns-then-wday-ge-SATURDAY : goal.returns-then-wday-ge-SATURDAY
-returns-then-wday-ge-SATURDAY c = search (rules, werktag_rules)
-
 pub easter_for-requires : goal.easter_for-requires
 easter_for-requires c = search (rules, werktag_rules)

@@ -7,8 +7,5 @@ use Rattle.werktag.proofs.reason.Goals as goal
 pub returns-then-wday-eq-SATURDAY : goal.returns-then-wday-eq-SATURDAY
 returns-then-wday-eq-SATURDAY c = search (rules, reason_rules)
 
-pub returns-then-wday-gt-SATURDAY : goal.returns-then-wday-gt-SATURDAY
-returns-then-wday-gt-SATURDAY c = search (rules, reason_rules)
-
 pub easter_for-requires : goal.easter_for-requires
 easter_for-requires c = search (rules, reason_rules)

@@ -12,9 +12,6 @@ add_months-requires c = search (rules, date_shift_rules)
 pub returns-in_default : goal.returns-in_default
 returns-in_default c = search (rules, date_shift_rules)
 
-pub returns-then-date-target : goal.returns-then-date-target
-returns-then-date-target c = search (rules, date_shift_rules)
-
 pub add_months-requires-2 : goal.add_months-requires-2
 add_months-requires-2 c = search (rules, date_shift_rules)
 

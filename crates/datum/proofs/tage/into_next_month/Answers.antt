@@ -7,9 +7,6 @@ use Rattle.datum.proofs.tage.into_next_month.Goals as goal
 pub overflow_add-day : goal.overflow_add-day
 overflow_add-day c = search (rules, later_rules)
 
-pub returns-then-tag-lt-MONTHS : goal.returns-then-tag-lt-MONTHS
-returns-then-tag-lt-MONTHS c = search (rules, later_rules)
-
 pub overflow_add-result-2 : goal.overflow_add-result-2
 overflow_add-result-2 c = search (rules, later_rules)
 
