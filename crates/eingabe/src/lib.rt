@@ -8,9 +8,9 @@ ghost use Rattle.std.specs.Io.{ReadsAtMost};
 use std::io;
 use std::io::Read;
 
-/// Reads until the buffer is full or the input has ended, and returns how many bytes it put at the buffer's start: fewer
-/// than fit only where the input has ended. A buffer of length 0 reads nothing. A read that fails, also one that a
-/// signal interrupts, gives its error; what had come until then stands at the buffer's start.
+/// Reads until the buffer is full or the input has ended, and returns how many bytes it put at the buffer's start:
+/// fewer than fit only where the input has ended. A buffer of length 0 reads nothing. A read that fails, also one that
+/// a signal interrupts, gives its error; what had come until then stands at the buffer's start.
 pub fn read_full<R: Read>(input: &mut R, buf: &mut [u8]) -> io::Result<usize>
     // `&buf[..n]` is in bounds.
     ensures bound { ReadsAtMost result buf.new }

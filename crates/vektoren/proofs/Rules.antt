@@ -41,11 +41,12 @@ unfolding bytes_at
 bytes_length l i zero = refl
 bytes_length l i (suc k) = ap suc (bytes_length l (i + 2) k)
 
-bytes_get_d : (l : List ℕ) (i k j : ℕ) → j < k → get_or (bytes_at l i k) j 0 ≡ byte_at l (i + 2 * j)
+bytes_get_or : (l : List ℕ) (i k j : ℕ) → j < k → get_or (bytes_at l i k) j 0 ≡ byte_at l (i + 2 * j)
 unfolding bytes_at
-bytes_get_d l i zero j h = absurd (omega arith)
-bytes_get_d l i (suc k) zero h = ap (λ (n : ℕ). byte_at l n) (omega arith)
-bytes_get_d l i (suc k) (suc j) h = bytes_get_d l (i + 2) k j (omega arith) ∙ ap (λ (n : ℕ). byte_at l n) (omega arith)
+bytes_get_or l i zero j h = absurd (omega arith)
+bytes_get_or l i (suc k) zero h = ap (λ (n : ℕ). byte_at l n) (omega arith)
+bytes_get_or l i (suc k) (suc j) h =
+    bytes_get_or l (i + 2) k j (omega arith) ∙ ap (λ (n : ℕ). byte_at l n) (omega arith)
 
 pub hex_more :
     (l out : List ℕ) (from i high low : ℕ) →
@@ -60,7 +61,7 @@ hex_more l out from i high low p q n h t =
       take-suc-set out i (high * 16 + low) (omega arith),
       take-suc (bytes_at l from 32) i 0 (omega arith),
       t,
-      bytes_get_d l from 32 i h,
+      bytes_get_or l from 32 i h,
       p,
       q,
     )

@@ -9,5 +9,6 @@ pub loop-done-preserved : goal.loop-done-preserved
 loop-done-preserved g c =
     let before = c.loop-done.invariant in
     let read = c.in_ok-n.ensures in
-    let joined = take_more-put_mid c.loop-done.done _ c.in_ok-n.n c.loop-done.buf c.read.new.buf before.1 read.bound.0 in
+    let buf = c.loop-done.buf in
+    let joined = take_more-put_mid c.loop-done.done _ c.in_ok-n.n buf c.read.new.buf before.1 read.bound.0 in
     (search rules, search rules, subst (Consumes _ _) (sym joined) (Consumes-trans _ _ _ _ _ before.2 read.bytes.0))
