@@ -1,8 +1,9 @@
 -- What the proofs of the walks cite, with premises in the form in which they stand there.
 --   stand_rules     where a walk stands after some days on or back
 --   weekday_rules   the days to the next weekday and back to the last
---   on_rules, back_rules, count_rules  a turn and a return of each walk: from weekday to weekday, the days between being
---                   weekend. x is what the walk has to give, and the invariant says that the walk from here on gives it
+--   on_rules, back_rules, count_rules  a turn and a return of each walk: from weekday to weekday, the days between
+--                   being weekend. x is what the walk has to give, and the invariant says that the walk from here on
+--                   gives it
 -- Assumes nothing.
 use Prim.Native.Nat.{ℕ, ◌+◌, ◌-◌, ◌%◌, ◌≤◌, ◌<◌}
 use mathlib.Core.Bool.{Bool, true, false}
