@@ -1,6 +1,6 @@
 -- Whether an announcement kept its Frist. m is the instant at which it was received, i the day with which the Zuordnung
 -- begins, w any test of a day.
---   is_by_thirteen e m = whether m is not after 13:00 of the day e
+--   is_by_thirteen e m                  = whether m is not after 13:00 of the day e
 --   eog_ankuendigung_fristgerecht w m i = yes, no or neither; Outside if the last Werktag before i leaves the calendar
 -- Source: GPKE Teil 2 Kap. 2.3.2.2 Nr. 1: 'sofern der Zuordnungsbeginn des E/G in der Zukunft liegt, gilt: Frühester ÜZ
 -- ist 00:00 Uhr und spätester 13:00 Uhr des letzten WT vor dem Zuordnungsbeginn des E/G'; document 01, vorlauf.rs.

@@ -1,7 +1,7 @@
 -- What functions ask and promise of ranges; no reader need believe it.
---   InsideBeginn b       = the day in b, if it holds one, is in the calendar
+--   InsideBeginn b                    = the day in b, if it holds one, is in the calendar
 --   ProperReading k, ProperResolved r = the instant in k, in r, if it holds one, is in the calendar
---   ProperClockReading k = the clock in k, if it holds one, is a time of day
+--   ProperClockReading k              = the clock in k, if it holds one, is a time of day
 -- Assumes nothing.
 use Rattle.std.specs.Prelude.{◌≤◌}
 use Rattle.zaehlung.specs.Walk.{last}

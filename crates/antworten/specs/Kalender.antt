@@ -1,7 +1,7 @@
 -- What the calls of the calendar answer: their refusals in the paper's order, all but 1, and else the fields that they
 -- fill. w is the test of a day, a Werktag by some list, and why the reason that it has by that list.
---   is_werktag_answer why d = the reason of d as kind
---   next_werktag_answer w d = the first Werktag on or after d
+--   is_werktag_answer why d       = the reason of d as kind
+--   next_werktag_answer w d       = the first Werktag on or after d
 --   add_werktage_answer w d n, sub_werktage_answer w d n = the n-th Werktag after d, before d
 --   werktage_between_answer w d e = the Werktage after d up to and including e, and the days tested
 --   add_months_answer d n, subtract_months_answer d n = d shifted by n months

@@ -1,17 +1,17 @@
 -- What the calls answer that give a due instant: the instant i is the receipt, and w is the test of a day, a Werktag by
 -- some list.
---   contrl_due_at_answer i x     = when the CONTRL of the occasion with code x is due
---   aperak_strom_due_at_answer i = when the Strom APERAK on a UTILMD or ORDERS is due
+--   contrl_due_at_answer i x                 = when the CONTRL of the occasion with code x is due
+--   aperak_strom_due_at_answer i             = when the Strom APERAK on a UTILMD or ORDERS is due
 --   aperak_strom_allgemein_due_at_answer w i = when any other Strom APERAK is due
 --   aperak_gas_folgeprozess_due_at_answer w i, aperak_gas_initialprozess_due_at_answer w i,
 --     aperak_gas_due_at_answer w pid i
---                                = when a Gas APERAK is due; kind 1 for the initial process
---   add_hours_answer i n         = n hours later
+--                                            = when a Gas APERAK is due; kind 1 for the initial process
+--   add_hours_answer i n                     = n hours later
 --   deadline_at_werktage_answer w i n, end_of_werktag_after_answer w i n = the end of the n-th Werktag after the
---                                  receipt day
+--                                              receipt day
 --   next_werktag_at_answer w i c, nth_werktag_at_answer w i n c = the clock c on the first, the n-th Werktag after the
---                                  receipt day
---   frist_due_at_answer w x n c i = when an answer of the shape with code x, count n and clock c is due
+--                                              receipt day
+--   frist_due_at_answer w x n c i            = when an answer of the shape with code x, count n and clock c is due
 -- Source: document 01, 'Due instants: 4; 5; 6 (`SameDayAt` only); 8, the due instant's day leaves the calendar'; 'a Gas
 -- due instant kind 1 for the initial process, else 0'; 'Codes are always checked. A count, clock, date or instant that
 -- the operation or its shape doesn't use is not checked.'

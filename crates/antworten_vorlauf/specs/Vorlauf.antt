@@ -1,15 +1,15 @@
 -- What the calls answer that give a verdict, a span, a deregistration's case or the announcement's yes or no. w is the
 -- test of a day: a Werktag by some list.
---   vorlauf_check_answer w x n m d e = the verdict of the shape with code x and counts n, m on transmission date d and
---                                 anchor e
---   check_at_instants w s q k l = the verdict for a transmission instant k and an anchor l that begins a day in the
---                                 Sparte q
+--   vorlauf_check_answer w x n m d e      = the verdict of the shape with code x and counts n, m on transmission date d
+--                                           and anchor e
+--   check_at_instants w s q k l           = the verdict for a transmission instant k and an anchor l that begins a day
+--                                           in the Sparte q
 --   vorlauf_check_at_answer w x n m p k l = the same with codes
---   vorlauf_span_answer w x n m d = the span of a shape for transmission date d
---   abmeldung_fuer_answer b x   = the case of a deregistration with reason b and the EEG mark with code x
---   abmeldung_check_answer w b x d e = its verdict, or kind 3
+--   vorlauf_span_answer w x n m d         = the span of a shape for transmission date d
+--   abmeldung_fuer_answer b x             = the case of a deregistration with reason b and the EEG mark with code x
+--   abmeldung_check_answer w b x d e      = its verdict, or kind 3
 --   eog_ankuendigung_fristgerecht_answer w k d = whether an announcement received at k keeps its Frist for the
---                                 beginning d
+--                                           beginning d
 -- Source: document 01, 'Verdicts: 3; 8, a date that the Rust computes for this call leaves the calendar. Kind 0 Ok, 1
 -- TooLate, 2 TooEarly, 3 no shape. With a transmission instant and an anchor given as a day's beginning (added): 4 for
 -- either, 7 for the anchor, 8'; 'Span: 3; 8, an end leaves the calendar. Kind 0 no last day, 1 both, 2 empty with both

@@ -1,34 +1,36 @@
 -- When a message is due. m is the instant at which it was received, w any test of a day; for the holiday list's, a day
 -- that passes it is a Werktag.
 --   contrl_frist contrl_strom_schnell contrl_alocat aperak_strom_utilmd_orders = how many seconds after its receipt a
---                                 message is due
---   noon window_opens           = 12:00; 18:00, from which on the tolerance of a Formatumstellung holds
---   receipt_day m               = the Berlin day of the receipt, the Übertragungstag (ÜT)
---   is_saturday d               = whether the day d is a Saturday
---   instant_later m t           = t seconds after m; Outside if that is after the calendar's last instant
---   clock_on d c                = the clock c on the day d; Absent where no clock shows it
---   contrl_seconds d a          = how long after a receipt on the day d the CONTRL is due, before the tolerance
---   day_on y m d                = the day with that date
---   in_window a b m             = whether m lies from 18:00 of the day a on and before the midnight that begins the day
---                                 b
---   toleranz_in y m             = the end of the Formatumstellung's window of the year y in which m lies; m itself in
---                                 none
---   formatumstellung_toleranz m = the same in the year of m
---   tolerated_due r             = the same of the instant of r
---   contrl_due_at m a           = when a CONTRL is due
---   at_least_one n              = n, and 1 for 0
---   nth_werktag_on w d n c      = the clock c on the n-th Werktag after the day d
---   nth_werktag_at w m n c      = the clock c on the n-th Werktag after the receipt day; next_werktag_at w m c, on the
---                                 first
---   end_of_werktag_after w m n  = the end of the n-th Werktag after the receipt day
---   deadline_at_werktage w m n  = the same
---   add_hours m n               = n hours after m
---   aperak_strom_due_at m       = when the Strom APERAK on a UTILMD or ORDERS is due
---   aperak_strom_allgemein_due_at w m = when any other Strom APERAK is due
---   aperak_gas_folgeprozess_due_at w m = when the Gas APERAK of a follow-up process is due
+--                                          message is due
+--   noon window_opens                    = 12:00; 18:00, from which on the tolerance of a Formatumstellung holds
+--   receipt_day m                        = the Berlin day of the receipt, the Übertragungstag (ÜT)
+--   is_saturday d                        = whether the day d is a Saturday
+--   instant_later m t                    = t seconds after m; Outside if that is after the calendar's last instant
+--   clock_on d c                         = the clock c on the day d; Absent where no clock shows it
+--   contrl_seconds d a                   = how long after a receipt on the day d the CONTRL is due, before the
+--                                          tolerance
+--   day_on y m d                         = the day with that date
+--   in_window a b m                      = whether m lies from 18:00 of the day a on and before the midnight that
+--                                          begins the day b
+--   toleranz_in y m                      = the end of the Formatumstellung's window of the year y in which m lies; m
+--                                          itself in none
+--   formatumstellung_toleranz m          = the same in the year of m
+--   tolerated_due r                      = the same of the instant of r
+--   contrl_due_at m a                    = when a CONTRL is due
+--   at_least_one n                       = n, and 1 for 0
+--   nth_werktag_on w d n c               = the clock c on the n-th Werktag after the day d
+--   nth_werktag_at w m n c               = the clock c on the n-th Werktag after the receipt day; next_werktag_at w m
+--                                          c, on the first
+--   end_of_werktag_after w m n           = the end of the n-th Werktag after the receipt day
+--   deadline_at_werktage w m n           = the same
+--   add_hours m n                        = n hours after m
+--   aperak_strom_due_at m                = when the Strom APERAK on a UTILMD or ORDERS is due
+--   aperak_strom_allgemein_due_at w m    = when any other Strom APERAK is due
+--   aperak_gas_folgeprozess_due_at w m   = when the Gas APERAK of a follow-up process is due
 --   aperak_gas_initialprozess_due_at w m = when that of an initial process is due
---   gas_initialprozess_pids     = the Gas Prüfidentifikatoren that open a process; is_initial pid, whether pid is one
---   aperak_gas_due_at w pid m   = whether it does, and when the APERAK is due
+--   gas_initialprozess_pids              = the Gas Prüfidentifikatoren that open a process; is_initial pid, whether pid
+--                                          is one
+--   aperak_gas_due_at w pid m            = whether it does, and when the APERAK is due
 -- Source: CONTRL AHB 1.0 Kap. 2.3.1 and 2.4.1; APERAK AHB 1.1 Kap. 2.3.1 and 2.4.1; GPKE; as document 01, 'lib.rs,
 -- messages', and the original's comments quote them.
 use Rattle.std.specs.Prelude.{ℕ, ◌+◌, Bool, false, not, ◌&&◌, cond, List, [], ◌∷◌, eqb}

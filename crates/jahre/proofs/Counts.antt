@@ -1,7 +1,7 @@
 -- The Werktage of a year's first days, without a walk over them.
 --   count_weekdays   the weekdays of a year's first n days
---   in_year y n       = how many of them are Werktage: less the holidays on weekdays
---   in_year_lem          in_year y n ≡ count (open_in y) n, if the year is usual
+--   in_year y n      = how many of them are Werktage: less the holidays on weekdays
+--   in_year_lem      in_year y n ≡ count (open_in y) n, if the year is usual
 --   year_among       among (is_werktag cal) (year_start k) n ≡ in_year (year_numbers k) n, for n ≤ year_len k
 --   weeks_few        1 January and q weeks after it have at most 5 q Werktage: 1 January is none
 --   year_few         a year has at most 262 Werktage

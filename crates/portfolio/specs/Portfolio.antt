@@ -3,7 +3,7 @@
 --   is_portfolio n m k  = whether lists of n and m days and one of k counts may be a portfolio
 --   first_day, last_day = 9,496 and 339,675: 1 January 1996 and 31 December 2899
 --   in_calendar a       = whether the day a lies in the calendar
---   in_range a b         = whether both days of the pair a, b do
+--   in_range a b        = whether both days of the pair a, b do
 --   pair_count w a b    = the count of the pair a, b
 --   pairwise f xs ys    = f of each pair of the two lists
 --   counts_of w xs ys   = the counts of all pairs

@@ -1,5 +1,5 @@
 -- Dates as days of one run of months: the month numbered o, counted from January of year 0, is block o.
---   month_days o   = days of the month numbered o
+--   month_days o  = days of the month numbered o
 --   origin        = days of the months before January 1996
 --   month_has     a month has days
 --   date_run      a date's index and `origin` are the days of all months before its own, and the days before it in that

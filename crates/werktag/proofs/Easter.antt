@@ -5,8 +5,8 @@
 --   easter_valid       Easter Sunday is a date of the range
 --   number y           = n, from the year y
 --   easter_number      Easter Sunday lies n - 93 days after 1 March
---   day_in l m d        = day d of month m as a day of the year, from 0 on
---   easter_in y         = Easter Sunday of the year y, the same
+--   day_in l m d       = day d of month m as a day of the year, from 0 on
+--   easter_in y        = Easter Sunday of the year y, the same
 --   easter_is          its index, by the year's start
 --   first_of k          = the weekday of 1 January of the year 1996 + k, without a walk over the years
 --   weekday_in         the weekday of a day of the year, by that of its first

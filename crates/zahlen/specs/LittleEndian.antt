@@ -1,7 +1,7 @@
 -- Numbers as bytes, lowest byte first.
---   le2 x, le4 x, le8 x = the 2, 4, 8 lowest bytes of the number x, lowest first
+--   le2 x, le4 x, le8 x            = the 2, 4, 8 lowest bytes of the number x, lowest first
 --   u16_from a b, u32_from a b c d = the number whose bytes, lowest first, these are
---   u64_from l h        = the number whose lower four bytes are l and whose upper four are h
+--   u64_from l h                   = the number whose lower four bytes are l and whose upper four are h
 -- Source: document 01, 'Host calls and their refusals': 'little-endian, no header'.
 -- Assumes nothing.
 use Rattle.std.specs.Prelude.{ℕ, ◌+◌, ◌*◌, ◌/◌, ◌%◌, List, [], ◌∷◌}

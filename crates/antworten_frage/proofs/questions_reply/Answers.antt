@@ -1,5 +1,4 @@
--- `antworten_frage::questions_reply` meets its contract. The loop's invariant: the answers so far, and those to the
--- questions that are left, are those of the whole file.
+-- `antworten_frage::questions_reply` meets its contract, by the invariants beside it.
 -- Assumes nothing.
 use mathlib.Core.Path.{◌∙◌, ap}
 use mathlib.Core.Bool.{not}

@@ -1,5 +1,4 @@
--- `antwortsatz::reply` meets its contract. The loop's invariant: the first i bytes of the slice are those of the
--- answer, and the slice has 32. At its end all 32 are. A slice of another length is not written.
+-- `antwortsatz::reply` meets its contract, by the invariants beside it.
 -- Assumes nothing.
 use borrow.Author.Rules.{rules}
 use Rattle.antwortsatz.proofs.Rules.{reply_rules}

@@ -1,5 +1,4 @@
--- `datum::year_of` meets its contract. The first loop leaves a year that starts by the day, the second one whose next
--- starts after it; the guess needs no proof.
+-- `datum::year_of` meets its contract, by the invariants beside it.
 -- Assumes nothing.
 use Rattle.datum.proofs.Rules.{year_rules}
 use borrow.Author.Rules.{rules}

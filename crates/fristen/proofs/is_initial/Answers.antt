@@ -1,4 +1,4 @@
--- `fristen::is_initial` meets its contract. The invariant: the rest of the table decides.
+-- `fristen::is_initial` meets its contract, by the invariants beside it.
 -- Assumes nothing.
 use Rattle.fristen.proofs.Rules.{pid_start, pid_hit, pid_miss, pid_none}
 use borrow.Author.Rules.{rules}

@@ -1,5 +1,4 @@
--- `gang::add_werktage` meets its contract. The invariant: from here the walk reaches what it reaches from the start.
--- Each turn goes to the next weekday, and the days that are left grow fewer.
+-- `gang::add_werktage` meets its contract, by the invariants beside it.
 -- Assumes nothing.
 use Rattle.gang.proofs.Rules.{on_rules}
 use borrow.Author.Rules.{rules}

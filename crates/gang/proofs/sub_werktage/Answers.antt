@@ -1,5 +1,4 @@
--- `gang::sub_werktage` meets its contract. The invariant: from here the walk reaches what it reaches from the start.
--- Each turn goes back to the last weekday, and the days that are left grow fewer.
+-- `gang::sub_werktage` meets its contract, by the invariants beside it.
 -- Assumes nothing.
 use Rattle.gang.proofs.Rules.{back_rules}
 use borrow.Author.Rules.{rules}

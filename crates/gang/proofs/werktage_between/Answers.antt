@@ -1,4 +1,4 @@
--- `gang::werktage_between` meets its contract. The invariant: the Werktage so far, and those that are left.
+-- `gang::werktage_between` meets its contract, by the invariants beside it.
 -- Assumes nothing.
 use Rattle.gang.proofs.Rules.{count_rules}
 use borrow.Author.Rules.{rules}

@@ -1,5 +1,4 @@
--- `jahre::number_before` meets its contract. The invariant: the days counted so far, and those of the rest of the list,
--- are those of the whole list.
+-- `jahre::number_before` meets its contract, by the invariants beside it.
 -- Assumes nothing.
 use borrow.Author.Rules.{rules}
 use Rattle.jahre.proofs.Rules.{number_rules}

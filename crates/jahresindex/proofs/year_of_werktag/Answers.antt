@@ -1,5 +1,4 @@
--- `jahresindex::year_of_werktag` meets its contract. The first loop leaves a year with fewer than n Werktage before
--- it, the second ends at the last such year; the guess needs no proof.
+-- `jahresindex::year_of_werktag` meets its contract, by the invariants beside it.
 -- Assumes nothing.
 use borrow.Author.Rules.{rules}
 use Rattle.jahresindex.proofs.Rules.{year_rules}

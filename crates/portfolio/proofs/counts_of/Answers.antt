@@ -1,5 +1,4 @@
--- `portfolio::counts_of` meets its contract. The loop's invariant: the counts so far, and the entries read so far with
--- those that the pairs still to come will need, are those of all pairs.
+-- `portfolio::counts_of` meets its contract, by the invariants beside it.
 -- Assumes nothing.
 use borrow.Author.Rules.{rules}
 use mathlib.Core.Path.{refl}

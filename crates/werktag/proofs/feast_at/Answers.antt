@@ -1,4 +1,4 @@
--- `werktag::feast_at` meets its contract. The invariant: the rest of the table decides.
+-- `werktag::feast_at` meets its contract, by the invariants beside it.
 -- Assumes nothing.
 use Rattle.werktag.proofs.Rules.{offset_hit, offset_miss, offset_none}
 use borrow.Author.Rules.{rules}

@@ -1,4 +1,4 @@
--- `werktag::fixed_day` meets its contract. The invariant: the rest of the table decides.
+-- `werktag::fixed_day` meets its contract, by the invariants beside it.
 -- Assumes nothing.
 use Rattle.werktag.proofs.Rules.{fixed_hit, fixed_other_day, fixed_other_month, fixed_none}
 use borrow.Author.Rules.{rules}

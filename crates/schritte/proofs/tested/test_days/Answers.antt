@@ -1,5 +1,4 @@
--- `schritte::tested::test_days` meets its contract. The invariant: the Werktage so far are those among the days tested
--- so far, and the walk stands at the last of them.
+-- `schritte::tested::test_days` meets its contract, by the invariants beside it.
 -- Assumes nothing.
 use Rattle.schritte.proofs.TestedRules.{test_rules}
 use borrow.Author.Rules.{rules}

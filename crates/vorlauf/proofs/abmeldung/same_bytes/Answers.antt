@@ -1,5 +1,4 @@
--- `vorlauf::abmeldung::same_bytes` meets its contract. The invariant: the strings are as long, and what is left of them
--- is the same exactly if the whole is. The bytes that are left grow fewer.
+-- `vorlauf::abmeldung::same_bytes` meets its contract, by the invariants beside it.
 -- Assumes nothing.
 use native.Mathlib.Omega.{arith}
 use borrow.Author.Rules.{rules}
