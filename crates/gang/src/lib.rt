@@ -101,6 +101,7 @@ pub fn stand_at(tag: Tag) -> Stand
 
 /// Some days on, up to a week: in the month by the parts that are known, past its last day with the next month's length
 /// and Easter.
+#[tactic(auto, using(crate::proofs::Rules::stand_rules))]
 pub fn on(stand: Stand, days: u8) -> Stand
     requires { (Stands stand) × (days ≤ 7) × (stand.tag.index + days ≤ last) }
     ensures { (Stands result) × (result.tag.index ≡ stand.tag.index + days) }

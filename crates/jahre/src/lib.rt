@@ -89,6 +89,7 @@ fn weekday_or_none(first: u32, day: u32) -> u32
 }
 
 /// Christi Himmelfahrt, a Thursday, unless it falls on 1 May, a holiday already.
+#[tactic(auto, using(crate::proofs::Rules::on_may))]
 fn himmelfahrt(leaps: u32, easter: u32) -> u32
     requires { (leaps ≤ 1) × (easter ≤ 116) }
     ensures { result ≡ himmelfahrt_or leaps easter }

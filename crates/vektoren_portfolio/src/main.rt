@@ -8,7 +8,7 @@
 #![tactic(auto)]
 
 use std::io;
-use std::io::{BufReader, Read};
+use std::io::Read;
 
 // The bytes of the four lengths before a portfolio.
 const HEAD_BYTES: usize = 16;
@@ -249,8 +249,7 @@ fn replay_all(rt: &impl Print, input: &mut impl Read) -> io::Result<Replay> {
 }
 
 fn main(rt: HostRuntime) -> io::Result<()> {
-    let mut input = BufReader::new(rt.alloc(), rt.stdin())?;
-    let r = replay_all(&rt, &mut input)?;
+    let r = replay_all(&rt, &mut rt.stdin())?;
     print_number(&rt, r.portfolios, " portfolios, ")?;
     print_number(&rt, r.equal, " equal\n")
 }

@@ -7,9 +7,6 @@ use Rattle.gang.proofs.on.Goals as goal
 pub overflow_add-stand : goal.overflow_add-stand
 overflow_add-stand c = search (rules, stand_rules)
 
-pub returns-then-stand-days : goal.returns-then-stand-days
-returns-then-stand-days c = search (rules, stand_rules)
-
 pub easter_for-requires : goal.easter_for-requires
 easter_for-requires c = search (rules, stand_rules)
 
