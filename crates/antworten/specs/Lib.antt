@@ -1,4 +1,3 @@
-pub mod Inside
 pub mod Reading
 pub mod Kalender
 pub mod Uhrzeit

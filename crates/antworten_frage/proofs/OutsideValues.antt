@@ -22,15 +22,13 @@ use Rattle.fristen.specs.FristShape.{same_day_at, due_at_of}
 use Rattle.vorlauf.specs.Verdict.{closes, reaches, check_of}
 use Rattle.vorlauf.specs.Span.{span_of}
 use Rattle.zahlen.specs.TwosComplement.{bits_in, signed_in}
-use Rattle.antwortsatz.specs.Answers.{refused, of_kind, at_instant, judged, spanned}
+use Rattle.antwortsatz.specs.Answers.{of_kind, at_instant, judged, spanned}
 use Rattle.antwortsatz.specs.Bytes.{bytes_of}
 use Rattle.fragesatz.specs.Record.{question_of}
 use Rattle.fragesatz.specs.File.{is_file, records}
-use Rattle.antworten.specs.Reading.{on_code}
 use Rattle.antworten_frist.specs.Frist.{contrl_due_at_answer, frist_due_at_answer}
 use Rattle.antworten_vorlauf.specs.Vorlauf.{vorlauf_check_answer, vorlauf_span_answer}
-use Rattle.antworten_frage.specs.Frage.{clock_of_seconds, contrl_question_answer, frist_question_answer}
-use Rattle.antworten_frage.specs.Frage.{check_question_answer, span_question_answer, question_answer}
+use Rattle.antworten_frage.specs.Frage.{clock_of_seconds, question_answer}
 use Rattle.antworten_frage.specs.Fragen.{answers_to, questions_reply}
 
 abbrev questions : List ℕ
@@ -78,9 +76,7 @@ unfolding start at is_leap days_in_month year_len is_date index_of date_in date_
     is_before in_limits read_instant last_sunday year_at offset_at berlin_at berlin_midnight
     instant_later contrl_seconds in_window toleranz_in formatumstellung_toleranz contrl_due_at nth_werktag_at
     same_day_at due_at_of closes reaches check_of span_of bits_in signed_in
-    refused of_kind at_instant judged spanned bytes_of question_of is_file records on_code
+    of_kind at_instant judged spanned bytes_of question_of is_file records
     contrl_due_at_answer frist_due_at_answer vorlauf_check_answer vorlauf_span_answer
-    clock_of_seconds contrl_question_answer frist_question_answer check_question_answer span_question_answer
-    question_answer
-    answers_to questions_reply
+    clock_of_seconds question_answer answers_to questions_reply
 cases = refl

@@ -15,6 +15,7 @@ use lib.ListN.{length, take, drop, length-append}
 use lib.Seq.{take_at, drop-append-add, drop-drop}
 use Rattle.berlin.specs.Berlin.{hours, minutes, read_clock}
 use Rattle.antwortsatz.specs.declared.Answer.{Answer}
+use Rattle.antwortsatz.specs.declared.Refusal.{Refusal}
 use Rattle.antwortsatz.specs.Bytes.{bytes_of, reply}
 use Rattle.antwortsatz.proofs.AnswerBytes.{bytes_length}
 use Rattle.antwortsatz.proofs.Rules.{reply_whole}
@@ -25,6 +26,7 @@ use Rattle.fragesatz.proofs.RoundTrip.{Fits, question_back}
 use Rattle.fragesatz.proofs.Rules.{file_is}
 use Rattle.antworten_frage.specs.Frage.{clock_of_seconds, clock_seconds, question_answer}
 use Rattle.antworten_frage.specs.Fragen.{answers_to, questions_reply}
+use Rattle.std.specs.Prelude.{Result}
 
 module _ (w : ℕ → Bool) where
   records_length : (k : ℕ) (l : List ℕ) → length (answers_to w (records k l)) ≡ 32 * k
@@ -61,7 +63,7 @@ module _ (w : ℕ → Bool) where
     answer_at i h = rw f (record_at (length l / 32) i l h)
 
   pub record_gets :
-      (l m : List ℕ) (i : ℕ) (q : Question) (a : Answer) →
+      (l m : List ℕ) (i : ℕ) (q : Question) (a : Result Answer Refusal) →
       Fits q → question_answer w q ≡ a →
       is_file (length l) (length m) ≡ true → i < length l / 32 → take 32 (drop (32 * i) l) ≡ question_bytes q →
       (b : List ℕ) → length b ≡ 32 → take 32 (drop (32 * i) (questions_reply w l m).1) ≡ (reply b a).1

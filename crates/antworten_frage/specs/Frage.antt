@@ -13,43 +13,42 @@
 -- second count is the clock in whole seconds'; 'An answer equals the single call's. Checks: 2 also if byte 2 or 3 is
 -- not zero; 5 also for a clock over 86,399'.
 -- Assumes nothing.
-use Rattle.std.specs.Prelude.{ℕ, ◌+◌, Bool, ◌&&◌, cond, List, [], ◌∷◌, eqb, leb}
-use Rattle.berlin.specs.declared.ClockReading.{ClockReading}
-use Rattle.berlin.specs.declared.ClockReading.TheVariants.{At as Clocked, NoClock}
+use Rattle.std.specs.Prelude.{ℕ, ◌+◌, Bool, ◌&&◌, cond, List, [], ◌∷◌, eqb, leb, Option, Some, None, Result, Err}
 use Rattle.berlin.specs.Berlin.{hours, minutes, read_instant}
 use Rattle.antwortsatz.specs.declared.Answer.{Answer}
-use Rattle.antwortsatz.specs.Refusals.{unknown_code}
-use Rattle.antwortsatz.specs.Answers.{refused}
+use Rattle.antwortsatz.specs.declared.Refusal.{Refusal}
+use Rattle.antwortsatz.specs.declared.Refusal.TheVariants.{UnknownCode}
 use Rattle.fragesatz.specs.declared.Question.{Question}
 use Rattle.antworten.specs.Reading.{on_code}
 use Rattle.antworten_frist.specs.Frist.{contrl_due_at_answer, frist_due_at_answer}
 use Rattle.antworten_vorlauf.specs.Vorlauf.{vorlauf_check_answer, vorlauf_span_answer}
+use Rattle.berlin.specs.declared.Clock.{Clock}
 
-unfoldable pub clock_of_seconds : ℕ → ClockReading
-clock_of_seconds n = cond (leb n 86399) (Clocked (record { second = n; nanos = 0 })) NoClock
+unfoldable pub clock_of_seconds : ℕ → Option Clock
+clock_of_seconds n = cond (leb n 86399) (Some (record { second = n; nanos = 0 })) None
 
 abbrev pub clock_seconds : ℕ → ℕ → ℕ → ℕ
 clock_seconds h m s = cond (leb h 23 && (leb m 59 && leb s 59)) (hours h + minutes m + s) 86400
 
-unfoldable pub contrl_question_answer : Question → Answer
+abbrev pub contrl_question_answer : Question → Result Answer Refusal
 contrl_question_answer q = contrl_due_at_answer (read_instant q.seconds q.nanos) q.code
 
-unfoldable pub frist_question_answer : (ℕ → Bool) → Question → Answer
+abbrev pub frist_question_answer : (ℕ → Bool) → Question → Result Answer Refusal
 frist_question_answer w q =
     frist_due_at_answer w q.code q.count (clock_of_seconds q.count2) (read_instant q.seconds q.nanos)
 
-unfoldable pub check_question_answer : (ℕ → Bool) → Question → Answer
+abbrev pub check_question_answer : (ℕ → Bool) → Question → Result Answer Refusal
 check_question_answer w q = vorlauf_check_answer w q.code q.count q.count2 q.transmission q.anchor
 
-unfoldable pub span_question_answer : (ℕ → Bool) → Question → Answer
+abbrev pub span_question_answer : (ℕ → Bool) → Question → Result Answer Refusal
 span_question_answer w q = vorlauf_span_answer w q.code q.count q.count2 q.transmission
 
-abbrev pub operations : (ℕ → Bool) → Question → List Answer
+abbrev pub operations : (ℕ → Bool) → Question → List (Result Answer Refusal)
 operations w q =
     contrl_question_answer q ∷ frist_question_answer w q ∷ check_question_answer w q ∷ span_question_answer w q ∷ []
 
-unfoldable pub question_answer : (ℕ → Bool) → Question → Answer
+unfoldable pub question_answer : (ℕ → Bool) → Question → Result Answer Refusal
 question_answer w q =
     cond (eqb q.byte2 0 && eqb q.byte3 0)
     (on_code (operations w q) q.operation (λ a. a))
-    (refused unknown_code)
+    (Err UnknownCode)

@@ -8,7 +8,8 @@
 -- Assumes nothing.
 use Rattle.std.specs.Prelude.{ℕ, Bool, cond, List, [], ◌∷◌, ◌++◌, length}
 use Rattle.antwortsatz.specs.Bytes.{bytes_of}
-use Rattle.antwortsatz.specs.Refusals.{file_length}
+use Rattle.antwortsatz.specs.declared.Refusal.TheVariants.{FileLength}
+use Rattle.antwortsatz.specs.Refusals.{number}
 use Rattle.fragesatz.specs.declared.Question.{Question}
 use Rattle.fragesatz.specs.File.{is_file, questions_of}
 use Rattle.antworten_frage.specs.Frage.{question_answer}
@@ -18,4 +19,4 @@ answers_to w [] = []
 answers_to w (q ∷ l) = bytes_of (question_answer w q) ++ answers_to w l
 
 unfoldable pub questions_reply : (ℕ → Bool) → List ℕ → List ℕ → ℕ × List ℕ
-questions_reply w l m = cond (is_file (length l) (length m)) (0, answers_to w (questions_of l)) (file_length, m)
+questions_reply w l m = cond (is_file (length l) (length m)) (0, answers_to w (questions_of l)) (number FileLength, m)

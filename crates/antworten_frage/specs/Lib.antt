@@ -1,3 +1,2 @@
 pub mod Frage
 pub mod Fragen
-pub mod Inside

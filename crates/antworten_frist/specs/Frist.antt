@@ -16,54 +16,55 @@
 -- due instant kind 1 for the initial process, else 0'; 'Codes are always checked. A count, clock, date or instant that
 -- the operation or its shape doesn't use is not checked.'
 -- Assumes nothing.
-use Rattle.std.specs.Prelude.{ℕ, Bool}
-use Rattle.zaehlung.specs.Walk.{bit}
-use Rattle.berlin.specs.declared.Reading.{Reading}
-use Rattle.berlin.specs.declared.ClockReading.{ClockReading}
+use Rattle.std.specs.Prelude.{ℕ, Bool, Option, Result}
 use Rattle.fristen.specs.Fristen.{contrl_due_at, aperak_strom_due_at, aperak_strom_allgemein_due_at, aperak_gas_due_at}
-use Rattle.fristen.specs.Fristen.{aperak_gas_folgeprozess_due_at, aperak_gas_initialprozess_due_at, add_hours}
+use Rattle.fristen.specs.Fristen.{aperak_gas_folgeprozess_due_at, aperak_gas_initialprozess_due_at, gas_prozess}
+use Rattle.fristen.specs.Fristen.{add_hours}
 use Rattle.fristen.specs.Fristen.{deadline_at_werktage}
 use Rattle.fristen.specs.Fristen.{end_of_werktag_after, next_werktag_at, nth_werktag_at}
 use Rattle.fristen.specs.FristShape.{due_at_of}
 use Rattle.antwortsatz.specs.declared.Answer.{Answer}
+use Rattle.antwortsatz.specs.declared.Refusal.{Refusal}
 use Rattle.antworten.specs.Reading.{on_code, on_instant, on_clock}
-use Rattle.antworten_frist.specs.FristReading.{anlaesse, frist_shapes, on_shape, due_answer}
+use Rattle.antworten_frist.specs.FristReading.{anlaesse, frist_shapes, on_shape, due_answer, prozess_kind}
+use Rattle.berlin.specs.declared.Clock.{Clock}
+use Rattle.berlin.specs.declared.Moment.{Moment}
 
-unfoldable pub contrl_due_at_answer : Reading → ℕ → Answer
+unfoldable pub contrl_due_at_answer : Option Moment → ℕ → Result Answer Refusal
 contrl_due_at_answer k x = on_code anlaesse x (λ a. on_instant k (λ m. due_answer 0 (contrl_due_at m a)))
 
-unfoldable pub aperak_strom_due_at_answer : Reading → Answer
+unfoldable pub aperak_strom_due_at_answer : Option Moment → Result Answer Refusal
 aperak_strom_due_at_answer k = on_instant k (λ m. due_answer 0 (aperak_strom_due_at m))
 
-unfoldable pub aperak_strom_allgemein_due_at_answer : (ℕ → Bool) → Reading → Answer
+unfoldable pub aperak_strom_allgemein_due_at_answer : (ℕ → Bool) → Option Moment → Result Answer Refusal
 aperak_strom_allgemein_due_at_answer w k = on_instant k (λ m. due_answer 0 (aperak_strom_allgemein_due_at w m))
 
-unfoldable pub aperak_gas_folgeprozess_due_at_answer : (ℕ → Bool) → Reading → Answer
+unfoldable pub aperak_gas_folgeprozess_due_at_answer : (ℕ → Bool) → Option Moment → Result Answer Refusal
 aperak_gas_folgeprozess_due_at_answer w k = on_instant k (λ m. due_answer 0 (aperak_gas_folgeprozess_due_at w m))
 
-unfoldable pub aperak_gas_initialprozess_due_at_answer : (ℕ → Bool) → Reading → Answer
+unfoldable pub aperak_gas_initialprozess_due_at_answer : (ℕ → Bool) → Option Moment → Result Answer Refusal
 aperak_gas_initialprozess_due_at_answer w k = on_instant k (λ m. due_answer 1 (aperak_gas_initialprozess_due_at w m))
 
-unfoldable pub aperak_gas_due_at_answer : (ℕ → Bool) → ℕ → Reading → Answer
+unfoldable pub aperak_gas_due_at_answer : (ℕ → Bool) → ℕ → Option Moment → Result Answer Refusal
 aperak_gas_due_at_answer w pid k =
-    on_instant k (λ m. let g = aperak_gas_due_at w pid m in due_answer (bit g.initial) g.due)
+    on_instant k (λ m. due_answer (prozess_kind (gas_prozess pid)) (aperak_gas_due_at w pid m))
 
-unfoldable pub add_hours_answer : Reading → ℕ → Answer
+unfoldable pub add_hours_answer : Option Moment → ℕ → Result Answer Refusal
 add_hours_answer k n = on_instant k (λ m. due_answer 0 (add_hours m n))
 
-unfoldable pub deadline_at_werktage_answer : (ℕ → Bool) → Reading → ℕ → Answer
+unfoldable pub deadline_at_werktage_answer : (ℕ → Bool) → Option Moment → ℕ → Result Answer Refusal
 deadline_at_werktage_answer w k n = on_instant k (λ m. due_answer 0 (deadline_at_werktage w m n))
 
-unfoldable pub end_of_werktag_after_answer : (ℕ → Bool) → Reading → ℕ → Answer
+unfoldable pub end_of_werktag_after_answer : (ℕ → Bool) → Option Moment → ℕ → Result Answer Refusal
 end_of_werktag_after_answer w k n = on_instant k (λ m. due_answer 0 (end_of_werktag_after w m n))
 
-unfoldable pub next_werktag_at_answer : (ℕ → Bool) → Reading → ClockReading → Answer
+unfoldable pub next_werktag_at_answer : (ℕ → Bool) → Option Moment → Option Clock → Result Answer Refusal
 next_werktag_at_answer w k t = on_instant k (λ m. on_clock t (λ c. due_answer 0 (next_werktag_at w m c)))
 
-unfoldable pub nth_werktag_at_answer : (ℕ → Bool) → Reading → ℕ → ClockReading → Answer
+unfoldable pub nth_werktag_at_answer : (ℕ → Bool) → Option Moment → ℕ → Option Clock → Result Answer Refusal
 nth_werktag_at_answer w k n t = on_instant k (λ m. on_clock t (λ c. due_answer 0 (nth_werktag_at w m n c)))
 
 -- a shape that uses a clock looks at it after the instant: 4 before 5
-unfoldable pub frist_due_at_answer : (ℕ → Bool) → ℕ → ℕ → ClockReading → Reading → Answer
+unfoldable pub frist_due_at_answer : (ℕ → Bool) → ℕ → ℕ → Option Clock → Option Moment → Result Answer Refusal
 frist_due_at_answer w x n t k =
     on_code (frist_shapes n t) x (λ s. on_instant k (λ m. on_shape s (λ f. due_answer 0 (due_at_of w f m))))

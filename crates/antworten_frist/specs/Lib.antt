@@ -1,3 +1,2 @@
 pub mod FristReading
-pub mod Inside
 pub mod Frist

@@ -13,7 +13,7 @@ use Rattle.werktag.specs.declared.HolidayCalendar.TheVariants.{BdewMaKo}
 use Rattle.werktag.specs.Easter.{easter_sunday, easter_index}
 use Rattle.werktag.specs.Werktag.{is_fixed, is_buss_und_bettag, is_easter_feast, is_werktag}
 use Rattle.zahlen.specs.TwosComplement.{bits_in}
-use Rattle.antwortsatz.specs.Answers.{refused, counted}
+use Rattle.antwortsatz.specs.Answers.{counted}
 use Rattle.antwortsatz.specs.Bytes.{bytes_of, reply}
 use Rattle.portfolio.specs.Portfolio.{is_portfolio, in_range, pair_count, pairwise}
 use Rattle.portfolio.specs.Runs.{beginning, opens, openings, runs}
@@ -48,7 +48,7 @@ pub refused_10 :
       7 ∷ [],
       10 ∷ replicate 31 0,
     )
-unfolding bits_in refused bytes_of reply is_portfolio portfolio_answer counts_left portfolio_reply
+unfolding bytes_of reply is_portfolio portfolio_answer counts_left portfolio_reply
 refused_10 = refl
 
 -- an answer of 31 bytes: nothing is touched

@@ -7,17 +7,18 @@
 -- answer and equals the number of such runs'; 'Checks: 10, after 1, if the three lists differ in length or have over
 -- 4,096 entries. A refused call leaves the third list untouched.'
 -- Assumes nothing.
-use Rattle.std.specs.Prelude.{ℕ, Bool, cond, List, eqb, length}
+use Rattle.std.specs.Prelude.{ℕ, Bool, cond, List, eqb, length, Result, Ok, Err}
 use Rattle.portfolio.specs.Portfolio.{is_portfolio, counts_of}
 use Rattle.portfolio.specs.Runs.{runs}
 use Rattle.antwortsatz.specs.declared.Answer.{Answer}
-use Rattle.antwortsatz.specs.Refusals.{list_length}
-use Rattle.antwortsatz.specs.Answers.{refused, counted}
+use Rattle.antwortsatz.specs.declared.Refusal.{Refusal}
+use Rattle.antwortsatz.specs.declared.Refusal.TheVariants.{ListLength}
+use Rattle.antwortsatz.specs.Answers.{counted}
 use Rattle.antwortsatz.specs.Bytes.{reply}
 
-unfoldable pub portfolio_answer : List ℕ → List ℕ → List ℕ → Answer
+unfoldable pub portfolio_answer : List ℕ → List ℕ → List ℕ → Result Answer Refusal
 portfolio_answer xs ys zs =
-    cond (is_portfolio (length xs) (length ys) (length zs)) (counted (runs xs ys) 0) (refused list_length)
+    cond (is_portfolio (length xs) (length ys) (length zs)) (Ok (counted (runs xs ys) 0)) (Err ListLength)
 
 unfoldable pub counts_left : ℕ → (ℕ → Bool) → List ℕ → List ℕ → List ℕ → List ℕ
 counts_left n w xs ys zs = cond (eqb n 0) (counts_of w xs ys) zs

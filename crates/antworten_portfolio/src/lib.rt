@@ -6,14 +6,14 @@ ghost use Rattle.std.specs.Prelude.{◌≡◌};
 ghost use Rattle.werktag.specs.Werktag.{is_werktag};
 ghost use Rattle.antworten_portfolio.specs.Portfolio.{portfolio_reply};
 
-use antwortsatz::{ANSWER_BYTES, ANSWER_LENGTH, LIST_LENGTH};
+use antwortsatz::{ANSWER_BYTES, Refusal};
 use werktag::HolidayCalendar;
 
 /// Counts the Werktage of each pair into the third list, and writes the answer. Returns 0; 1 for an answer of another
 /// length, and then touches nothing; 10 for lists that are no portfolio, and then leaves the third list as it was.
 ///
 /// Of the days 20,545 (2 April 2026) and 20,549 with 20,550 each the counts are 1 and 1, and the answer has count 1.
-#[tactic(auto, using(crate::proofs::Rules::other_length))]
+#[tactic(auto, using(crate::proofs::Rules::portfolio_reply_rules))]
 pub fn portfolio_reply(
     from: &[u32],
     to: &[u32],
@@ -26,11 +26,11 @@ pub fn portfolio_reply(
         answer.old }
 {
     if answer.len() != ANSWER_BYTES {
-        return ANSWER_LENGTH;
+        return Refusal::AnswerLength.number();
     }
     if !portfolio::is_portfolio(from.len(), to.len(), counts.len()) {
-        return antwortsatz::reply(answer, antwortsatz::refused(LIST_LENGTH));
+        return antwortsatz::reply(answer, Err(Refusal::ListLength));
     }
     let read = portfolio::counts_of(from, to, counts, cal);
-    antwortsatz::reply(answer, antwortsatz::counted(read, 0))
+    antwortsatz::reply(answer, Ok(antwortsatz::counted(read, 0)))
 }

@@ -1,15 +1,17 @@
 -- What the calls for verdicts, spans and deregistrations share: their codes in order, and what was found as an answer.
 --   vorlauf_shapes n m = the lead-time shapes with the counts n and m, in the order of their codes
 --   eeg_marks          = the EEG marks in the order of their codes
---   verdict_answer v   = a verdict, or refusal 8
+--   judged_answer v    = a verdict
+--   verdict_answer v   = the same, or refusal 8
 --   abmeldung_answer v = a deregistration's verdict, or kind 3
---   span_answer p      = a span, or refusal 8
+--   ends_answer p      = a span; span_answer p = the same, or refusal 8
 --   case_code v        = the code of a deregistration's case
---   announced_answer x = yes, no or neither, or refusal 8
+--   announced_kind x   = the kind of yes, no or neither
+--   announced_answer x = the same as an answer, or refusal 8
 -- Source: document 01, 'Host calls and their refusals': 'Codes count from 0 in the Rust's order of its cases; an EEG
 -- mark is 0 no, 1 yes, 2 unknown'.
 -- Assumes nothing.
-use Rattle.std.specs.Prelude.{ℕ, List, [], ◌∷◌}
+use Rattle.std.specs.Prelude.{ℕ, List, [], ◌∷◌, Option, Result, Ok, Err}
 use Rattle.datum.specs.Calendar.{date_of}
 use Rattle.vorlauf.specs.declared.VorlaufShape.{VorlaufShape}
 use Rattle.vorlauf.specs.declared.VorlaufShape.TheVariants.{LatestWerktageBefore, WindowWerktageBefore}
@@ -18,22 +20,23 @@ use Rattle.vorlauf.specs.declared.VorlaufShape.TheVariants.{EarliestWerktageAfte
 use Rattle.vorlauf.specs.declared.VorlaufShape.TheVariants.{TagVorDemLetztenWerktagVor}
 use Rattle.vorlauf.specs.declared.VorlaufShape.TheVariants.{LatestMonateBefore, LatestMonateUndWerktageBefore}
 use Rattle.vorlauf.specs.declared.VorlaufVerdict.{VorlaufVerdict}
-use Rattle.vorlauf.specs.declared.VorlaufVerdict.TheVariants.{Ok, TooLate, TooEarly, Outside as Refused}
+use Rattle.vorlauf.specs.declared.VorlaufVerdict.TheVariants.{Ok as InTime, TooLate, TooEarly}
 use Rattle.vorlauf.specs.declared.Span.{Span}
-use Rattle.vorlauf.specs.declared.Span.TheVariants.{From, Both, Empty, Outside as Leaves}
+use Rattle.vorlauf.specs.declared.Span.TheVariants.{From, Both, Empty}
 use Rattle.vorlauf.specs.declared.abmeldung.Eeg.{Eeg}
 use Rattle.vorlauf.specs.declared.abmeldung.Eeg.TheVariants.{Nein, Ja, Unbekannt}
 use Rattle.vorlauf.specs.declared.abmeldung.AbmeldungVorlauf.{AbmeldungVorlauf}
 use Rattle.vorlauf.specs.declared.abmeldung.AbmeldungVorlauf.TheVariants.{TagVorDemLetztenWerktag, EinMonat}
 use Rattle.vorlauf.specs.declared.abmeldung.AbmeldungVorlauf.TheVariants.{Unbestimmt, AnPruefschritt120}
-use Rattle.vorlauf.specs.declared.abmeldung.AbmeldungVerdict.{AbmeldungVerdict}
-use Rattle.vorlauf.specs.declared.abmeldung.AbmeldungVerdict.TheVariants.{Verdict, NoShape}
+use Rattle.vorlauf.specs.declared.abmeldung.NoVerdict.{NoVerdict}
+use Rattle.vorlauf.specs.declared.abmeldung.NoVerdict.TheVariants.{NoShape, Outside}
 use Rattle.ankuendigung.specs.declared.Fristgerecht.{Fristgerecht}
 use Rattle.ankuendigung.specs.declared.Fristgerecht.TheVariants.{Nein as No, Ja as Yes, Weder as Neither}
-use Rattle.ankuendigung.specs.declared.Fristgerecht.TheVariants.{Outside as NoWerktag}
 use Rattle.antwortsatz.specs.declared.Answer.{Answer}
-use Rattle.antwortsatz.specs.Refusals.{leaves_calendar}
-use Rattle.antwortsatz.specs.Answers.{zero_date, refused, of_kind, judged, spanned}
+use Rattle.antwortsatz.specs.declared.Refusal.{Refusal}
+use Rattle.antwortsatz.specs.declared.Refusal.TheVariants.{LeavesCalendar}
+use Rattle.antworten.specs.Reading.{on_read}
+use Rattle.antwortsatz.specs.Answers.{zero_date, of_kind, judged, spanned}
 
 abbrev pub vorlauf_shapes : ℕ → ℕ → List VorlaufShape
 vorlauf_shapes n m =
@@ -51,23 +54,30 @@ abbrev pub eeg_marks : List Eeg
 eeg_marks = Nein ∷ Ja ∷ Unbekannt ∷ []
 
 -- 'Kind 0 Ok, 1 TooLate, 2 TooEarly'; 'A verdict has its Werktage in the count and its earliest date in the date'
-abbrev pub verdict_answer : VorlaufVerdict → Answer
-verdict_answer Ok = judged 0 0 zero_date
-verdict_answer (TooLate b y) = judged 1 b (date_of y)
-verdict_answer (TooEarly b) = judged 2 b zero_date
-verdict_answer Refused = refused leaves_calendar
+abbrev pub judged_answer : VorlaufVerdict → Answer
+judged_answer InTime = judged 0 0 zero_date
+judged_answer (TooLate b y) = judged 1 b (date_of y)
+judged_answer (TooEarly b) = judged 2 b zero_date
+
+-- '8, a date that the Rust computes for this call leaves the calendar'
+abbrev pub verdict_answer : Option VorlaufVerdict → Result Answer Refusal
+verdict_answer v = on_read LeavesCalendar v (λ x. Ok (judged_answer x))
 
 -- '3 no shape'
-abbrev pub abmeldung_answer : AbmeldungVerdict → Answer
-abmeldung_answer (Verdict v) = verdict_answer v
-abmeldung_answer NoShape = of_kind 3
+abbrev pub abmeldung_answer : Result VorlaufVerdict NoVerdict → Result Answer Refusal
+abmeldung_answer (Ok v) = Ok (judged_answer v)
+abmeldung_answer (Err NoShape) = Ok (of_kind 3)
+abmeldung_answer (Err Outside) = Err LeavesCalendar
 
 -- 'Kind 0 no last day, 1 both, 2 empty with both dates zero'
-abbrev pub span_answer : Span → Answer
-span_answer (From f) = spanned 0 (date_of f) zero_date
-span_answer (Both f l) = spanned 1 (date_of f) (date_of l)
-span_answer Empty = of_kind 2
-span_answer Leaves = refused leaves_calendar
+abbrev pub ends_answer : Span → Answer
+ends_answer (From f) = spanned 0 (date_of f) zero_date
+ends_answer (Both f l) = spanned 1 (date_of f) (date_of l)
+ends_answer Empty = of_kind 2
+
+-- '8, an end leaves the calendar'
+abbrev pub span_answer : Option Span → Result Answer Refusal
+span_answer p = on_read LeavesCalendar p (λ x. Ok (ends_answer x))
 
 -- 'a deregistration reason the code of its `AbmeldungVorlauf` case'
 abbrev pub case_code : AbmeldungVorlauf → ℕ
@@ -77,8 +87,11 @@ case_code Unbestimmt = 2
 case_code AnPruefschritt120 = 3
 
 -- 'Kind 0 no, 1 yes, 2 neither'
-abbrev pub announced_answer : Fristgerecht → Answer
-announced_answer No = of_kind 0
-announced_answer Yes = of_kind 1
-announced_answer Neither = of_kind 2
-announced_answer NoWerktag = refused leaves_calendar
+abbrev pub announced_kind : Fristgerecht → ℕ
+announced_kind No = 0
+announced_kind Yes = 1
+announced_kind Neither = 2
+
+-- '8 for the last Werktag'
+abbrev pub announced_answer : Option Fristgerecht → Result Answer Refusal
+announced_answer x = on_read LeavesCalendar x (λ f. Ok (of_kind (announced_kind f)))

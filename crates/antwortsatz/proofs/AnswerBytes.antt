@@ -1,36 +1,39 @@
 -- What the definition of the 32 bytes comes to.
---   zeros n        = a list of n zeros
 --   bytes_length   : an answer has 32 bytes
 --   refusal_bytes  : a refusal leaves bytes 1 to 31 zero
---   date_bytes_lem     : the four bytes of a date's word are 'year 2 bytes, month, day'
---   bytes_below    : each byte of an answer whose refusal and kind fit theirs is below 256
+--   date_bytes_lem : the four bytes of a date's word are 'year 2 bytes, month, day'
+--   bytes_below    : each byte of an answer whose kind fits its byte is below 256
+--   refusal_below  : so is each of a refusal
 -- Source: document 01, 'Host calls and their refusals'.
 -- Assumes nothing.
 use Prim.Native.Nat.{ℕ, zero, suc, ◌/◌, ◌%◌, ◌<◌}
 use mathlib.Core.Path.{◌≡◌, refl, ap, ◌∙◌}
-use mathlib.Core.List.{List, [], ◌∷◌, ◌++◌}
+use mathlib.Core.List.{[], ◌∷◌, ◌++◌}
 use native.Mathlib.Omega.{arith}
-use lib.ListN.{length}
+use lib.ListN.{length, replicate}
+use Rattle.std.specs.Prelude.{Result, Ok, Err}
 use Rattle.datum.specs.declared.Date.{Date}
 use Rattle.zahlen.specs.LittleEndian.{le2, le4, le8, u32_from}
-use Rattle.zahlen.specs.TwosComplement.{bits_in, bits_of}
+use Rattle.zahlen.specs.TwosComplement.{bits_of}
 use Rattle.zahlen.proofs.RoundTrip.{Below, below_append, le_below, le4_is, le8_is, u32_bytes}
 use Rattle.zahlen.proofs.RoundTrip.Below.{none, more}
 use Rattle.antwortsatz.specs.declared.Answer.{Answer}
 use Rattle.antwortsatz.specs.Bytes.{bytes_of}
-use Rattle.antwortsatz.specs.Answers.{date_word, refused}
+use Rattle.antwortsatz.specs.declared.Refusal.{Refusal}
+use Rattle.antwortsatz.specs.declared.Refusal.TheVariants.{AnswerLength, UnknownCode, NoDate, InstantOutside, NoClock}
+use Rattle.antwortsatz.specs.declared.Refusal.TheVariants.{LocalTimeAbsent, NoBeginning, LeavesCalendar}
+use Rattle.antwortsatz.specs.declared.Refusal.TheVariants.{FileLength, ListLength}
+use Rattle.antwortsatz.specs.Refusals.{number}
+use Rattle.antwortsatz.specs.Answers.{date_word}
 
-pub bytes_length : (a : Answer) → length (bytes_of a) ≡ 32
+pub bytes_length : (a : Result Answer Refusal) → length (bytes_of a) ≡ 32
 unfolding bytes_of
-bytes_length a = refl
+bytes_length (Ok a) = refl
+bytes_length (Err r) = refl
 
-abbrev pub zeros : ℕ → List ℕ
-zeros zero = []
-zeros (suc n) = 0 ∷ zeros n
-
-pub refusal_bytes : (x : ℕ) → bytes_of (refused x) ≡ x ∷ zeros 31
-unfolding bytes_of refused bits_in
-refusal_bytes x = refl
+pub refusal_bytes : (r : Refusal) → bytes_of (Err r) ≡ number r ∷ replicate 31 0
+unfolding bytes_of
+refusal_bytes r = refl
 
 pub date_bytes_lem :
     (d : Date) → d.year < 65536 → d.month < 256 → d.day < 256 →
@@ -48,12 +51,32 @@ below_le8 x = rw le8_is (le_below 8 x)
 null : 0 < 256
 null = omega arith
 
-pub bytes_below : (a : Answer) → a.refusal < 256 → a.kind < 256 → Below (bytes_of a)
+zeros : (n : ℕ) → Below (replicate n 0)
+zeros zero = none
+zeros (suc n) = more null (zeros n)
+
+number_lt : (r : Refusal) → number r < 256
+number_lt AnswerLength = omega arith
+number_lt UnknownCode = omega arith
+number_lt NoDate = omega arith
+number_lt InstantOutside = omega arith
+number_lt NoClock = omega arith
+number_lt LocalTimeAbsent = omega arith
+number_lt NoBeginning = omega arith
+number_lt LeavesCalendar = omega arith
+number_lt FileLength = omega arith
+number_lt ListLength = omega arith
+
+pub bytes_below : (a : Answer) → a.kind < 256 → Below (bytes_of (Ok a))
 unfolding bytes_of
-bytes_below a r k =
-    more r (more k (more null (more null
+bytes_below a k =
+    more null (more k (more null (more null
     (below_append (below_le4 a.count)
     (below_append (below_le8 (bits_of a.seconds))
     (below_append (below_le4 a.nanos)
     (below_append (below_le4 a.word20)
     (below_append (below_le4 a.word24) (below_le4 a.word28)))))))))
+
+pub refusal_below : (r : Refusal) → Below (bytes_of (Err r))
+unfolding bytes_of
+refusal_below r = more (number_lt r) (zeros 31)

@@ -1,35 +1,48 @@
-// The answer of a host call: its fields, its 32 bytes, and the one function that writes them. It knows no calendar.
+// The answer of a host call: its refusals, its fields, its 32 bytes, and the one function that writes them. It knows no
+// calendar.
 #![tactic(auto)]
 
 ghost use Rattle.std.specs.Prelude.{◌≡◌};
+ghost use Rattle.antwortsatz.specs.Refusals.{number};
 ghost use Rattle.antwortsatz.specs.Bytes.{bytes_of, reply};
-ghost use Rattle.antwortsatz.specs.Answers.{zero_date, date_word, filled, refused, of_kind, counted, dated};
+ghost use Rattle.antwortsatz.specs.Answers.{zero_date, date_word, filled, of_kind, counted, dated};
 ghost use Rattle.antwortsatz.specs.Answers.{at_instant, judged, spanned};
 
 use datum::Date;
 
-// The refusals of document 01, "Host calls and their refusals", and of document 02, by the host's names.
+/// The refusals of document 01, "Host calls and their refusals", and of document 02, by the host's names and numbers.
+#[derive(Clone, Copy, PartialEq, Eq)]
+pub enum Refusal {
+    /// The answer isn't 32 bytes long.
+    AnswerLength = 1,
+    /// A code is unknown.
+    UnknownCode = 2,
+    /// A given date is no date of the range.
+    NoDate = 3,
+    /// An instant lies outside its limits.
+    InstantOutside = 4,
+    /// Hour over 23, minute or second over 59, nanoseconds over 999,999,999.
+    NoClock = 5,
+    /// The local time is absent.
+    LocalTimeAbsent = 6,
+    /// The instant is not the beginning of a day in that Sparte.
+    NoBeginning = 7,
+    /// A result leaves the calendar.
+    LeavesCalendar = 8,
+    /// The questions are no multiple of 32 bytes or exceed 65,536, or the answers differ in length.
+    FileLength = 9,
+    /// The three lists of a portfolio differ in length or have over 4,096 entries.
+    ListLength = 10,
+}
 
-/// The answer isn't 32 bytes long.
-pub const ANSWER_LENGTH: u8 = 1;
-/// A code is unknown.
-pub const UNKNOWN_CODE: u8 = 2;
-/// A given date is no date of the range.
-pub const NO_DATE: u8 = 3;
-/// An instant lies outside its limits.
-pub const INSTANT_OUTSIDE: u8 = 4;
-/// Hour over 23, minute or second over 59, nanoseconds over 999,999,999.
-pub const NO_CLOCK: u8 = 5;
-/// The local time is absent.
-pub const LOCAL_TIME_ABSENT: u8 = 6;
-/// The instant is not the beginning of a day in that Sparte.
-pub const NO_BEGINNING: u8 = 7;
-/// A result leaves the calendar.
-pub const LEAVES_CALENDAR: u8 = 8;
-/// The questions are no multiple of 32 bytes or exceed 65,536, or the answers differ in length.
-pub const FILE_LENGTH: u8 = 9;
-/// The three lists of a portfolio differ in length or have over 4,096 entries.
-pub const LIST_LENGTH: u8 = 10;
+impl Refusal {
+    /// The number that a host call returns and has in byte 0: that of `NoDate` is 3.
+    pub fn number(self) -> u8
+        ensures { result ≡ number self }
+    {
+        self as u8
+    }
+}
 
 /// The answer's length in bytes.
 pub const ANSWER_BYTES: usize = 32;
@@ -39,7 +52,6 @@ pub const ANSWER_BYTES: usize = 32;
 /// there too.
 #[derive(Clone, Copy)]
 pub struct Answer {
-    pub refusal: u8,
     pub kind: u8,
     pub count: u32,
     pub seconds: i64,
@@ -50,9 +62,8 @@ pub struct Answer {
 }
 
 /// An answer of all its fields, in the order of their bytes: what every named answer is made by. "Unused fields are
-/// zero": the day test of 3 April 2026, Karfreitag, is `filled(0, 17, 0, 0, 0, 0, 0, 0)`.
+/// zero": the day test of 3 April 2026, Karfreitag, is `filled(17, 0, 0, 0, 0, 0, 0)`.
 pub fn filled(
-    refusal: u8,
     kind: u8,
     count: u32,
     seconds: i64,
@@ -61,10 +72,9 @@ pub fn filled(
     word24: u32,
     word28: u32,
 ) -> Answer
-    ensures { result ≡ filled refusal kind count seconds nanos word20 word24 word28 }
+    ensures { result ≡ filled kind count seconds nanos word20 word24 word28 }
 {
     Answer {
-        refusal,
         kind,
         count,
         seconds,
@@ -92,123 +102,94 @@ pub fn zero_date() -> Date
 pub fn date_word(date: Date) -> u32
     ensures { result ≡ date_word date }
 {
-    (date.year as u32) + 65536 * (date.month as u32) + 16777216 * (date.day as u32)
-}
-
-/// "A refusal leaves bytes 1 to 31 zero": `refused(NO_DATE)` has 3 in byte 0. Refusal 1 is never written: it
-/// leaves the slice as it was.
-pub fn refused(number: u8) -> Answer
-    ensures { result ≡ refused number }
-{
-    filled(number, 0, 0, 0, 0, 0, 0, 0)
+    let [low, high] = date.year.to_le_bytes();
+    u32::from_le_bytes([low, high, date.month, date.day])
 }
 
 /// A kind alone: the reason of a day ("0 Werktag, 1 Saturday, 2 Sunday, 3 to 22 the holidays"), "a deregistration
 /// reason the code of its case". 3 April 2026, Karfreitag, is `of_kind(17)`; `of_kind(0)` is all zero, and an answer.
+#[tactic(auto, unfolding(crate::specs::Answers::of_kind))]
 pub fn of_kind(kind: u8) -> Answer
     ensures { result ≡ of_kind kind }
 {
-    filled(0, kind, 0, 0, 0, 0, 0, 0)
+    filled(kind, 0, 0, 0, 0, 0, 0)
 }
 
 /// A count, and the days that were tested for it: "a count [fills] the count", "how many days it tested, in bytes 24 to
 /// 27". The Werktage from 2 to 8 April 2026 are `counted(2, 190)`. `counted(0, 0)` is all zero, and an answer.
+#[tactic(auto, unfolding(crate::specs::Answers::counted))]
 pub fn counted(count: u32, tested: u32) -> Answer
     ensures { result ≡ counted count tested }
 {
-    filled(0, 0, count, 0, 0, 0, tested, 0)
+    filled(0, count, 0, 0, 0, tested, 0)
 }
 
 /// A date alone: "A step fills the date". 2 April 2026 plus 1 Werktag is `dated` of 7 April.
+#[tactic(auto, unfolding(crate::specs::Answers::dated))]
 pub fn dated(date: Date) -> Answer
     ensures { result ≡ dated date }
 {
-    filled(0, 0, 0, 0, 0, date_word(date), 0, 0)
+    filled(0, 0, 0, 0, date_word(date), 0, 0)
 }
 
 /// An instant beside a kind: a clock on a date, a due instant. "A Gas due instant [has] kind 1 for the initial process,
 /// else 0", as has every other instant. The Gas day 29 March 2026 begins `at_instant(0, 1774756800, 0)`.
+#[tactic(auto, unfolding(crate::specs::Answers::at_instant))]
 pub fn at_instant(kind: u8, seconds: i64, nanos: u32) -> Answer
     ensures { result ≡ at_instant kind seconds nanos }
 {
-    filled(0, kind, 0, seconds, nanos, 0, 0, 0)
+    filled(kind, 0, seconds, nanos, 0, 0, 0)
 }
 
 /// A kind, a count of Werktage and a date: "A verdict has its Werktage in the count and its earliest date in the date."
 /// `LatestWerktageBefore(1)`, 10 January 2026 against the 12th, is `judged(1, 0, ..)` of the 12th.
+#[tactic(auto, unfolding(crate::specs::Answers::judged))]
 pub fn judged(kind: u8, count: u32, date: Date) -> Answer
     ensures { result ≡ judged kind count date }
 {
-    filled(0, kind, count, 0, 0, date_word(date), 0, 0)
+    filled(kind, count, 0, 0, date_word(date), 0, 0)
 }
 
 /// A kind and two dates: a span, "24 to 27 the span's last date". `LatestWerktageBefore(1)` for 10 January 2026 is
 /// `spanned(0, .., zero_date())` of 13 January: it has no last day.
+#[tactic(auto, unfolding(crate::specs::Answers::spanned))]
 pub fn spanned(kind: u8, first: Date, last: Date) -> Answer
     ensures { result ≡ spanned kind first last }
 {
-    filled(0, kind, 0, 0, 0, date_word(first), date_word(last), 0)
+    filled(kind, 0, 0, 0, date_word(first), date_word(last), 0)
 }
 
-/// The 32 bytes of an answer, "little-endian, no header". Those of `refused(NO_DATE)` are 03 and 31 times 00.
-pub fn bytes_of(a: Answer) -> [u8; 32]
+/// The 32 bytes of an answer, "little-endian, no header". "A refusal leaves bytes 1 to 31 zero": those of
+/// `Err(Refusal::NoDate)` are 03 and 31 times 00.
+pub fn bytes_of(a: Result<Answer, Refusal>) -> [u8; 32]
     ensures { result ≡ bytes_of a }
 {
-    let c = a.count;
-    let s = zahlen::bits_of(a.seconds);
-    let n = a.nanos;
-    let x = a.word20;
-    let y = a.word24;
-    let z = a.word28;
-    [
-        a.refusal,
-        a.kind,
-        0,
-        0,
-        (c % 256) as u8,
-        (c / 256 % 256) as u8,
-        (c / 65536 % 256) as u8,
-        (c / 16777216 % 256) as u8,
-        (s % 256) as u8,
-        (s / 256 % 256) as u8,
-        (s / 65536 % 256) as u8,
-        (s / 16777216 % 256) as u8,
-        (s / 4294967296 % 256) as u8,
-        (s / 1099511627776 % 256) as u8,
-        (s / 281474976710656 % 256) as u8,
-        (s / 72057594037927936 % 256) as u8,
-        (n % 256) as u8,
-        (n / 256 % 256) as u8,
-        (n / 65536 % 256) as u8,
-        (n / 16777216 % 256) as u8,
-        (x % 256) as u8,
-        (x / 256 % 256) as u8,
-        (x / 65536 % 256) as u8,
-        (x / 16777216 % 256) as u8,
-        (y % 256) as u8,
-        (y / 256 % 256) as u8,
-        (y / 65536 % 256) as u8,
-        (y / 16777216 % 256) as u8,
-        (z % 256) as u8,
-        (z / 256 % 256) as u8,
-        (z / 65536 % 256) as u8,
-        (z / 16777216 % 256) as u8,
-    ]
+    let mut bytes = [0; 32];
+    match a {
+        Ok(a) => {
+            bytes[1] = a.kind;
+            bytes[4..8].copy_from_slice(&a.count.to_le_bytes());
+            bytes[8..16].copy_from_slice(&a.seconds.to_le_bytes());
+            bytes[16..20].copy_from_slice(&a.nanos.to_le_bytes());
+            bytes[20..24].copy_from_slice(&a.word20.to_le_bytes());
+            bytes[24..28].copy_from_slice(&a.word24.to_le_bytes());
+            bytes[28..32].copy_from_slice(&a.word28.to_le_bytes());
+        }
+        Err(r) => bytes[0] = r.number(),
+    }
+    bytes
 }
 
-/// Writes the answer and returns its refusal number, if the slice has 32 bytes; else returns 1, "which leaves the slice
-/// untouched", as one of 31 bytes. The one writer: no host call fills an answer without it.
-pub fn reply(answer: &mut [u8], a: Answer) -> u8
+/// Writes the answer and returns its refusal number, or 0, if the slice has 32 bytes; else returns 1, "which leaves the
+/// slice untouched", as one of 31 bytes. The one writer: no host call fills an answer without it.
+#[tactic(auto, using(crate::proofs::Rules::reply_rules))]
+pub fn reply(answer: &mut [u8], a: Result<Answer, Refusal>) -> u8
     ensures { (result, answer.new) ≡ reply answer.old a }
 {
     if answer.len() != ANSWER_BYTES {
-        return ANSWER_LENGTH;
+        return Refusal::AnswerLength.number();
     }
-    let b = bytes_of(a);
-    let mut i = 0;
-    while i < ANSWER_BYTES {
-        answer[i] = b[i];
-        i += 1;
-    }
-    a.refusal
+    let bytes = bytes_of(a);
+    answer.copy_from_slice(&bytes);
+    bytes[0]
 }

@@ -2,7 +2,7 @@
 --   moment_seconds seconds_moment    `moment_of` and `seconds_of` undo each other
 --   Earliest i c m              m is the earliest instant at which the Berlin clock shows the time c of day i
 --   is_earliest earliest_is     `berlin_at` gives m exactly if it is that
---   absent_none none_absent     `berlin_at` gives Absent exactly if no instant shows the time
+--   absent_none none_absent     `berlin_at` gives None exactly if no instant shows the time
 --   absent_when when_absent     that is so exactly from 02:00 to before 03:00 of the last Sunday of March
 --   Repeated i c                two instants show the time
 --   repeated_when when_repeated that is so exactly from 02:00 to before 03:00 of the last Sunday of October
@@ -11,11 +11,11 @@ use Prim.Native.Nat.{ℕ, ◌+◌, ◌-◌, ◌≤◌, ◌<◌}
 use mathlib.Core.Path.{◌≡◌, refl, sym, ap, ◌∙◌}
 use mathlib.Core.Logic.{◌⊎◌, inl, inr, ⊎_elim}
 use native.Mathlib.Omega.{arith}
+use Rattle.std.specs.Prelude.{Some, None}
 use Rattle.zaehlung.specs.Walk.{last}
 use Rattle.datum.specs.Calendar.{year_of, date_of}
 use Rattle.berlin.specs.declared.Moment.{Moment}
 use Rattle.berlin.specs.declared.Clock.{Clock}
-use Rattle.berlin.specs.declared.Resolved.TheVariants.{At, Absent}
 use Rattle.berlin.specs.Berlin.{day_start, moment_of, seconds_of, last_sunday, offset_at, berlin_clock, berlin_at}
 use Rattle.berlin.specs.Inside.{ProperClock}
 use Rattle.berlin.proofs.SummerTime.{parts, own_year, year_name}
@@ -56,11 +56,11 @@ module _ (i : ℕ) (c : Clock) where
 
   -- the three answers, by the offset at the two instants that may show the time
   pub data Answer : Type 0 where
-    two : berlin_clock (l - 7200) ≡ l → berlin_at i c ≡ At (moment_of (l - 7200) c.nanos) → Answer
+    two : berlin_clock (l - 7200) ≡ l → berlin_at i c ≡ Some (moment_of (l - 7200) c.nanos) → Answer
     one :
-        offset_at (l - 7200) ≡ 3600 → berlin_clock (l - 3600) ≡ l → berlin_at i c ≡ At (moment_of (l - 3600) c.nanos) →
-        Answer
-    none : offset_at (l - 7200) ≡ 3600 → offset_at (l - 3600) ≡ 7200 → berlin_at i c ≡ Absent → Answer
+        offset_at (l - 7200) ≡ 3600 → berlin_clock (l - 3600) ≡ l →
+        berlin_at i c ≡ Some (moment_of (l - 3600) c.nanos) → Answer
+    none : offset_at (l - 7200) ≡ 3600 → offset_at (l - 3600) ≡ 7200 → berlin_at i c ≡ None → Answer
 
   pub answer : Answer
   answer =
@@ -83,7 +83,7 @@ module _ (i : ℕ) (c : Clock) where
       ⊎_elim (λ e. let d = ap offset_at e in omega arith) (λ e. let d = ap offset_at e in omega arith) (candidate t h)
 
   module _ (h : i ≤ last) (u : ProperClock c) where
-    pub is_earliest : (m : Moment) → berlin_at i c ≡ At m → Earliest i c m
+    pub is_earliest : (m : Moment) → berlin_at i c ≡ Some m → Earliest i c m
     is_earliest m e = go answer
       where
         go : Answer → Earliest i c m
@@ -91,7 +91,7 @@ module _ (i : ℕ) (c : Clock) where
         go (one a b p) = earliest_of (l - 3600) m b (one_least a) (cc)
         go (none a b p) = let z : ◌≡◌ {A = ℕ} 0 1 = cc in absurd (omega arith)
 
-    pub earliest_is : (m : Moment) → Earliest i c m → berlin_at i c ≡ At m
+    pub earliest_is : (m : Moment) → Earliest i c m → berlin_at i c ≡ Some m
     earliest_is m e = go answer
       where
         at : (s : ℕ) → berlin_clock s ≡ l → ((t : ℕ) → berlin_clock t ≡ l → s ≤ t) → moment_of s c.nanos ≡ m
@@ -99,12 +99,12 @@ module _ (i : ℕ) (c : Clock) where
             let z : s ≡ seconds_of m = omega (arith, g (seconds_of m) e.shown, e.least s a) in
             rw (z, sym e.nanos) (seconds_moment m e.second_lt)
 
-        go : Answer → berlin_at i c ≡ At m
-        go (two a p) = p ∙ ap At (at (l - 7200) a two_least)
-        go (one a b p) = p ∙ ap At (at (l - 3600) b (one_least a))
+        go : Answer → berlin_at i c ≡ Some m
+        go (two a p) = p ∙ ap Some (at (l - 7200) a two_least)
+        go (one a b p) = p ∙ ap Some (at (l - 3600) b (one_least a))
         go (none a b p) = absurd (none_shows a b (seconds_of m) e.shown)
 
-    pub absent_none : berlin_at i c ≡ Absent → (s : ℕ) → berlin_clock s ≡ l → ⊥
+    pub absent_none : berlin_at i c ≡ None → (s : ℕ) → berlin_clock s ≡ l → ⊥
     absent_none e s k = go answer
       where
         go : Answer → ⊥
@@ -112,10 +112,10 @@ module _ (i : ℕ) (c : Clock) where
         go (one a b p) = let z : ◌≡◌ {A = ℕ} 0 1 = cc in omega arith
         go (none a b p) = none_shows a b s k
 
-    pub none_absent : ((s : ℕ) → berlin_clock s ≡ l → ⊥) → berlin_at i c ≡ Absent
+    pub none_absent : ((s : ℕ) → berlin_clock s ≡ l → ⊥) → berlin_at i c ≡ None
     none_absent f = go answer
       where
-        go : Answer → berlin_at i c ≡ Absent
+        go : Answer → berlin_at i c ≡ None
         go (two a p) = absurd (f (l - 7200) a)
         go (one a b p) = absurd (f (l - 3600) b)
         go (none a b p) = p
@@ -132,10 +132,10 @@ module _ (i : ℕ) (c : Clock) (h : i ≤ last) (u : ProperClock c) where
   abbrev k : ℕ
   k = (year_of i).0
 
-  never : {P : Type 0} (m : Moment) → berlin_at i c ≡ At m → berlin_at i c ≡ Absent → P
+  never : {P : Type 0} (m : Moment) → berlin_at i c ≡ Some m → berlin_at i c ≡ None → P
   never m p e = let z : ◌≡◌ {A = ℕ} 0 1 = cc in absurd (omega arith)
 
-  pub absent_when : berlin_at i c ≡ Absent → (i ≡ last_sunday (date_of i).year 3) × (7200 ≤ t) × (t < 10800)
+  pub absent_when : berlin_at i c ≡ None → (i ≡ last_sunday (date_of i).year 3) × (7200 ≤ t) × (t < 10800)
   absent_when e =
       let n = own_year i h in
       let v = u.second_lt in
@@ -147,7 +147,7 @@ module _ (i : ℕ) (c : Clock) (h : i ≤ last) (u : ProperClock c) where
       (λ a b. never _ (at_two i c (twice i t k h n v a b).0) e)
       (λ a. let q = late i t k h n v a in never _ (at_one i c q.0 q.1) e)
 
-  pub when_absent : i ≡ last_sunday (date_of i).year 3 → 7200 ≤ t → t < 10800 → berlin_at i c ≡ Absent
+  pub when_absent : i ≡ last_sunday (date_of i).year 3 → 7200 ≤ t → t < 10800 → berlin_at i c ≡ None
   when_absent e a b =
       let o = own i 3 in
       let q = gap i t k h (own_year i h) u.second_lt (omega arith) (omega arith) in

@@ -1,7 +1,5 @@
 pub mod SummerTime
 pub mod LocalTime
-pub mod Instants
-pub mod Order
 pub mod Rules
 pub mod Found
 pub mod Proper

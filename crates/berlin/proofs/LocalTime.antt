@@ -15,12 +15,12 @@ use native.Mathlib.Omega.{arith}
 use native.Mathlib.Decide.{dec_le, dec_lt}
 use lib.Dec.{leb, ltb}
 use borrow.Author.Tests.{eq-eqb, ne_eqb}
+use Rattle.std.specs.Prelude.{Some, None}
 use Rattle.zaehlung.specs.Walk.{last}
 use Rattle.zaehlung.proofs.BlockLaws.{start_mono}
 use Rattle.datum.specs.Calendar.{year_len, year_of}
 use Rattle.datum.proofs.Years.{start_all, start_none}
 use Rattle.berlin.specs.declared.Clock.{Clock}
-use Rattle.berlin.specs.declared.Resolved.TheVariants.{At, Absent}
 use Rattle.berlin.specs.Berlin.{day_start, moment_of, first_second, last_second, last_sunday, summer_from, summer_to}
 use Rattle.berlin.specs.Berlin.{year_at, offset_at, berlin_clock, berlin_at}
 use Rattle.berlin.proofs.SummerTime.{sundays, in_year_lem, Near, year_name, year_at_lem, after_summer, summer_in}
@@ -101,17 +101,17 @@ module _ (i : ℕ) (c : Clock) where
   abbrev l : ℕ
   l = day_start i + c.second
 
-  pub at_two : offset_at (l - 7200) ≡ 7200 → berlin_at i c ≡ At (moment_of (l - 7200) c.nanos)
+  pub at_two : offset_at (l - 7200) ≡ 7200 → berlin_at i c ≡ Some (moment_of (l - 7200) c.nanos)
   unfolding berlin_at
   at_two a = rw (eq-eqb (berlin_clock (l - 7200)) l (omega arith))
 
   pub at_one :
-      offset_at (l - 7200) ≡ 3600 → offset_at (l - 3600) ≡ 3600 → berlin_at i c ≡ At (moment_of (l - 3600) c.nanos)
+      offset_at (l - 7200) ≡ 3600 → offset_at (l - 3600) ≡ 3600 → berlin_at i c ≡ Some (moment_of (l - 3600) c.nanos)
   unfolding berlin_at
   at_one a b =
       rw (ne_eqb (berlin_clock (l - 7200)) l (λ z. omega arith), eq-eqb (berlin_clock (l - 3600)) l (omega arith))
 
-  pub at_none : offset_at (l - 7200) ≡ 3600 → offset_at (l - 3600) ≡ 7200 → berlin_at i c ≡ Absent
+  pub at_none : offset_at (l - 7200) ≡ 3600 → offset_at (l - 3600) ≡ 7200 → berlin_at i c ≡ None
   unfolding berlin_at
   at_none a b =
       rw (ne_eqb (berlin_clock (l - 7200)) l (λ z. omega arith), ne_eqb (berlin_clock (l - 3600)) l (λ z. omega arith))

@@ -4,11 +4,10 @@
 -- Assumes nothing.
 use mathlib.Core.List.{[], ◌∷◌}
 use mathlib.Core.Path.{◌≡◌, refl}
+use Rattle.std.specs.Prelude.{Some, None}
 use Rattle.zaehlung.specs.Blocks.{start, at}
 use Rattle.datum.specs.Calendar.{is_leap, year_len, days_in_month, date_in, date_of}
-use Rattle.berlin.specs.declared.Resolved.TheVariants.{At, Absent}
 use Rattle.berlin.specs.declared.Sparte.TheVariants.{Strom, Gas}
-use Rattle.berlin.specs.declared.Beginn.TheVariants.{Day, NoBeginning}
 use Rattle.berlin.specs.Berlin.{moment_of, last_sunday, summer_from, summer_to, year_at, offset_at, berlin_day}
 use Rattle.berlin.specs.Berlin.{berlin_at}
 use Rattle.berlin.specs.Berlin.{berlin_midnight, end_of_day_berlin, tagesbeginn_utc, tag_des_beginns}
@@ -27,8 +26,8 @@ pub clocks :
     berlin_at 11045 (record { second = 5400; nanos = 0 })
     ∷ berlin_at 11255 (record { second = 9000; nanos = 0 }) ∷ berlin_at 11255 (record { second = 12600; nanos = 0 })
     ∷ []
-    ≡ Absent ∷ At (moment_of 1774747800 7) ∷ At (moment_of 1774744200 0)
-    ∷ At (moment_of 1792888200 0) ∷ At (moment_of 1792895400 0) ∷ []
+    ≡ None ∷ Some (moment_of 1774747800 7) ∷ Some (moment_of 1774744200 0)
+    ∷ Some (moment_of 1792888200 0) ∷ Some (moment_of 1792895400 0) ∷ []
 unfolding berlin_at offset_at year_at last_sunday date_of date_in at start year_len days_in_month is_leap
 clocks = refl
 
@@ -50,8 +49,8 @@ pub days :
     tag_des_beginns (moment_of 1798758000 0) Strom ∷ tag_des_beginns (moment_of 1798758000 1) Strom ∷
     tag_des_beginns (moment_of 1798675200 0) Strom
     ∷ tag_des_beginns (moment_of 1798675200 0) Gas ∷ tag_des_beginns (moment_of 1822363200 0) Gas ∷ []
-    ≡ Day 11323 ∷ NoBeginning ∷ NoBeginning
-    ∷ NoBeginning ∷ Day 11596 ∷ []
+    ≡ Some 11323 ∷ None ∷ None
+    ∷ None ∷ Some 11596 ∷ []
 unfolding tag_des_beginns tagesbeginn_utc berlin_midnight berlin_at offset_at year_at last_sunday date_of date_in at
     start year_len
     days_in_month is_leap

@@ -16,11 +16,11 @@ use native.Mathlib.Omega.{arith}
 use native.Mathlib.Decide.{dec_lt}
 use lib.Dec.{ltb}
 use borrow.Author.Tests.{lt-ltb, le-ltb}
+use Rattle.std.specs.Prelude.{Some, None}
 use Rattle.zaehlung.specs.Walk.{last}
 use Rattle.datum.specs.Calendar.{date_of, weekday}
 use Rattle.berlin.specs.declared.Moment.{Moment}
 use Rattle.berlin.specs.declared.Clock.{Clock}
-use Rattle.berlin.specs.declared.Resolved.TheVariants.{At, Absent}
 use Rattle.berlin.specs.Berlin.{calendar_start, hours, day_start, seconds_of, first_second, last_second, last_sunday}
 use Rattle.berlin.specs.Berlin.{berlin_clock, local_of, berlin_day, berlin_at, berlin_midnight, end_of_day_berlin}
 use Rattle.berlin.specs.Inside.{ProperClock}
@@ -40,14 +40,14 @@ limits s = (
 )
 
 module _ (i : ℕ) (c : Clock) (h : i ≤ last) (u : ProperClock c) where
-  pub earliest : (m : Moment) → (berlin_at i c ≡ At m) ↔ Earliest i c m
+  pub earliest : (m : Moment) → (berlin_at i c ≡ Some m) ↔ Earliest i c m
   earliest m = (is_earliest i c h u m, earliest_is i c h u m)
 
-  pub no_instant : (berlin_at i c ≡ Absent) ↔ ((s : ℕ) → berlin_clock s ≡ day_start i + c.second → ⊥)
+  pub no_instant : (berlin_at i c ≡ None) ↔ ((s : ℕ) → berlin_clock s ≡ day_start i + c.second → ⊥)
   no_instant = (absent_none i c h u, none_absent i c h u)
 
   pub absent :
-      (berlin_at i c ≡ Absent) ↔ ((i ≡ last_sunday (date_of i).year 3) × (hours 2 ≤ c.second) × (c.second < hours 3))
+      (berlin_at i c ≡ None) ↔ ((i ≡ last_sunday (date_of i).year 3) × (hours 2 ≤ c.second) × (c.second < hours 3))
   absent = (absent_when i c h u, λ q. when_absent i c h u q.0 q.1 q.2)
 
   pub repeated : Repeated i c ↔ ((i ≡ last_sunday (date_of i).year 10) × (hours 2 ≤ c.second) × (c.second < hours 3))

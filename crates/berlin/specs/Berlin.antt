@@ -10,8 +10,8 @@
 --   is_before a b            = whether the instant a is earlier than b; same_instant a b = whether they are one
 --   first_second last_second = the limits of an instant's seconds; in_limits s = whether s lies inside them, is_by_last
 --                              s = whether it is not after the last
---   read_instant s x         = the instant of a host's numbers, or NoInstant
---   read_clock h m s x       = the time of day of a host's numbers, or NoClock
+--   read_instant s x         = the instant of a host's numbers, or None
+--   read_clock h m s x       = the time of day of a host's numbers, or None
 --   last_sunday y m          = the last Sunday of March (m = 3) or October (m = 10)
 --   summer_from y            = the instant at which summer time begins in the year y; summer_to y = that at which it
 --                              ends
@@ -21,29 +21,22 @@
 --   local_of s               = the same as day and second
 --   berlin_day s             = the day in Berlin at s, by its index; berlin_date m = that of a Moment
 --   shows s l                = whether the Berlin clock shows l at s
---   berlin_at i c            = the earliest instant at which the Berlin clock shows the time c of day i, or Absent
+--   berlin_at i c            = the earliest instant at which the Berlin clock shows the time c of day i, or None
 --   on_resolved z r f        = f of the instant that a local time means; z where no clock shows it
 --   resolved_or r            = the instant of a time that is never absent
 --   berlin_midnight i        = the instant at which day i begins; end_of_day_berlin i = its last
 --   tagesbeginn_utc i sp     = the instant at which day i begins in the Sparte sp
---   tag_des_beginns m sp     = the day that m begins in the Sparte sp, or NoBeginning
+--   tag_des_beginns m sp     = the day that m begins in the Sparte sp, or None
 -- Source: document 01, first paragraph, 'lib.rs, Berlin', 'tagesbeginn.rs' and 'Host calls and their refusals';
 -- Directive 2000/84/EC, articles 1 to 3.
 use Rattle.std.specs.Prelude.{ℕ, ◌+◌, ◌-◌, ◌*◌, ◌/◌, ◌%◌, Bool, ◌&&◌, ◌||◌, cond, eqb, leb, ltb, ℤ, pos, negsuc}
+use Rattle.std.specs.Prelude.{Option, Some, None}
 use Rattle.datum.specs.Calendar.{days_before, date_of, weekday}
 use Rattle.berlin.specs.declared.Moment.{Moment}
 use Rattle.berlin.specs.declared.Clock.{Clock}
 use Rattle.berlin.specs.declared.Local.{Local}
-use Rattle.berlin.specs.declared.Reading.{Reading}
-use Rattle.berlin.specs.declared.Reading.TheVariants.{At, NoInstant}
-use Rattle.berlin.specs.declared.ClockReading.{ClockReading}
-use Rattle.berlin.specs.declared.ClockReading.TheVariants.{At as ClockAt, NoClock}
-use Rattle.berlin.specs.declared.Resolved.{Resolved}
-use Rattle.berlin.specs.declared.Resolved.TheVariants.{At as ResolvedAt, Absent}
 use Rattle.berlin.specs.declared.Sparte.{Sparte}
 use Rattle.berlin.specs.declared.Sparte.TheVariants.{Strom, Gas}
-use Rattle.berlin.specs.declared.Beginn.{Beginn}
-use Rattle.berlin.specs.declared.Beginn.TheVariants.{Day, NoBeginning}
 
 abbrev pub calendar_start : ℕ
 calendar_start = 9496
@@ -94,16 +87,16 @@ unfoldable pub in_limits : ℕ → Bool
 in_limits s = leb first_second s && is_by_last s
 
 -- '4, instant outside its limits'; 'nanoseconds 0 to 999,999,999'
-unfoldable pub read_instant : ℤ → ℕ → Reading
-read_instant (pos s) x = cond (in_limits s && leb x most_nanos) (At (moment_of s x)) NoInstant
-read_instant (negsuc s) x = NoInstant
+unfoldable pub read_instant : ℤ → ℕ → Option Moment
+read_instant (pos s) x = cond (in_limits s && leb x most_nanos) (Some (moment_of s x)) None
+read_instant (negsuc s) x = None
 
 -- '5, hour over 23, minute or second over 59, nanoseconds over 999,999,999'
-unfoldable pub read_clock : ℕ → ℕ → ℕ → ℕ → ClockReading
+unfoldable pub read_clock : ℕ → ℕ → ℕ → ℕ → Option Clock
 read_clock h m s x =
     cond (leb h 23 && (leb m 59 && (leb s 59 && leb x most_nanos)))
-    (ClockAt (record { second = hours h + minutes m + s; nanos = x }))
-    NoClock
+    (Some (record { second = hours h + minutes m + s; nanos = x }))
+    None
 
 -- both months have 31 days; Sunday is weekday 6
 unfoldable pub last_sunday : ℕ → ℕ → ℕ
@@ -140,18 +133,18 @@ shows s l = eqb (berlin_clock s) l
 
 -- 'A repeated local time means its earlier instant. An absent one .. is refusal 6.' Berlin is one or two hours ahead of
 -- UTC, so there are two instants to try.
-unfoldable pub berlin_at : ℕ → Clock → Resolved
+unfoldable pub berlin_at : ℕ → Clock → Option Moment
 berlin_at i c =
     let l = day_start i + c.second in
     cond (shows (l - hours 2) l)
-    (ResolvedAt (moment_of (l - hours 2) c.nanos))
-    (cond (shows (l - hours 1) l) (ResolvedAt (moment_of (l - hours 1) c.nanos)) Absent)
+    (Some (moment_of (l - hours 2) c.nanos))
+    (cond (shows (l - hours 1) l) (Some (moment_of (l - hours 1) c.nanos)) None)
 
-abbrev pub on_resolved : {A : Type 0} → A → Resolved → (Moment → A) → A
-on_resolved z (ResolvedAt m) f = f m
-on_resolved z Absent f = z
+abbrev pub on_resolved : {A : Type 0} → A → Option Moment → (Moment → A) → A
+on_resolved z (Some m) f = f m
+on_resolved z None f = z
 
-abbrev pub resolved_or : Resolved → Moment
+abbrev pub resolved_or : Option Moment → Moment
 resolved_or r = on_resolved (moment_of 0 0) r (λ m. m)
 
 unfoldable pub berlin_midnight : ℕ → Moment
@@ -167,5 +160,5 @@ tagesbeginn_utc i Strom = berlin_midnight i
 tagesbeginn_utc i Gas = resolved_or (berlin_at i (o_clock 6))
 
 -- '7, not the beginning of a day in that Sparte'; tagesbeginn.rs: 'refused, never rounded'
-unfoldable pub tag_des_beginns : Moment → Sparte → Beginn
-tag_des_beginns m sp = let i = berlin_date m in cond (same_instant (tagesbeginn_utc i sp) m) (Day i) NoBeginning
+unfoldable pub tag_des_beginns : Moment → Sparte → Option ℕ
+tag_des_beginns m sp = let i = berlin_date m in cond (same_instant (tagesbeginn_utc i sp) m) (Some i) None

@@ -1,9 +1,8 @@
--- What functions ask and promise of ranges; no reader need believe it.
+-- What is true of every `Moment` and every `Clock`, and a year that the code guesses.
 --   Proper m        m is an instant inside its limits
 --   ProperClock c   c is a time of day
---   is_inner_day d = whether the UTC day d lies after the first that has an instant, 9,495, and before the last
 --   guessed_year i = the year of day i by the average length of a year: its own, or one at most two days away
-use Rattle.std.specs.Prelude.{ℕ, ◌+◌, ◌*◌, ◌/◌, ◌≤◌, ◌<◌, Bool, ◌&&◌, ltb}
+use Rattle.std.specs.Prelude.{ℕ, ◌+◌, ◌*◌, ◌/◌, ◌≤◌, ◌<◌}
 use Rattle.datum.specs.Calendar.{first_year}
 use Rattle.berlin.specs.declared.Moment.{Moment}
 use Rattle.berlin.specs.declared.Clock.{Clock}
@@ -18,9 +17,6 @@ pub record Proper (m : Moment) : Type 0 where
 pub record ProperClock (c : Clock) : Type 0 where
   pub second_lt : c.second < day_seconds
   pub nanos_le : c.nanos ≤ most_nanos
-
-abbrev pub is_inner_day : ℕ → Bool
-is_inner_day d = ltb 9495 d && ltb d 339675
 
 abbrev pub guessed_year : ℕ → ℕ
 guessed_year i = first_year + i * 400 / 146097

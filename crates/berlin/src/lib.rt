@@ -6,56 +6,63 @@
 // calendar.
 #![tactic(auto)]
 
-ghost use Rattle.std.specs.Prelude.{◌≡◌, ◌+◌, ◌-◌, ◌*◌, ◌%◌, ◌≤◌, ◌<◌, ltb, pos};
+ghost use Rattle.std.specs.Prelude.{◌≡◌, ◌+◌, ◌-◌, ◌*◌, ◌%◌, ◌≤◌, ◌<◌, pos, IfSome};
 ghost use Rattle.zaehlung.specs.Walk.{last};
 ghost use Rattle.datum.specs.Calendar.{weekday};
 ghost use Rattle.datum.specs.Floor.{floor_div, floor_mod};
-ghost use Rattle.berlin.specs.Berlin.{day_seconds, hours, o_clock, day_start, moment_of, seconds_of};
+ghost use Rattle.berlin.specs.Berlin.{day_seconds, first_second, hours, o_clock, day_start, moment_of, seconds_of};
 ghost use Rattle.berlin.specs.Berlin.{is_before, is_by_last, in_limits, read_instant, read_clock, last_sunday};
-ghost use Rattle.berlin.specs.Berlin.{offset_at};
-ghost use Rattle.berlin.specs.Berlin.{berlin_date, berlin_at, resolved_or, berlin_midnight, end_of_day_berlin};
+ghost use Rattle.berlin.specs.Berlin.{offset_at, berlin_date, berlin_at, berlin_midnight, end_of_day_berlin};
 ghost use Rattle.berlin.specs.Berlin.{tagesbeginn_utc, tag_des_beginns};
-ghost use Rattle.berlin.specs.Inside.{Proper, ProperClock, guessed_year, is_inner_day};
+ghost use Rattle.berlin.specs.Inside.{Proper, guessed_year};
 
 use datum::{Date, FIRST_YEAR};
+use std::marker::Model;
 use zaehlung::LAST;
 
 /// An instant: its UTC day, counted from 1 January 1970, the second of that day and the nanoseconds.
 ///
 /// 1 January 2026 00:00 in Berlin, 31 December 23:00 UTC, is day 20,453 and second 82,800.
-#[derive(Clone, Copy)]
+#[derive(Clone, Copy, PartialEq, Eq, PartialOrd, Ord)]
 pub struct Moment {
     pub utcday: u32,
     pub second: u32,
     pub nanos: u32,
 }
 
-/// What an instant reads as: 'seconds from 820,450,800 to 29,348,002,799', else refusal 4.
-#[derive(Clone, Copy)]
-pub enum Reading {
-    At(Moment),
-    NoInstant,
+impl Model for Moment {
+    ghost use Rattle.berlin.specs.Instant.{Instant};
+
+    ghost Value = { Instant };
+
+    ghost use Rattle.berlin.specs.Inside.{Proper};
+
+    ghost view = { λ m. record { utcday = m.utcday; second = m.second; nanos = m.nanos } };
+
+    ghost invariant = { λ m. Proper (record { utcday = m.utcday; second = m.second; nanos = m.nanos }) };
+
+    ghost inverse = { λ m. record { utcday = m.utcday; second = m.second; nanos = m.nanos } };
 }
 
 /// A local time: the second of the day and the nanoseconds. 13:00 is second 46,800.
-#[derive(Clone, Copy)]
+#[derive(Clone, Copy, PartialEq, Eq)]
 pub struct Clock {
     pub second: u32,
     pub nanos: u32,
 }
 
-/// What a clock reads as: hour to 23, minute and second to 59, else refusal 5.
-#[derive(Clone, Copy)]
-pub enum ClockReading {
-    At(Clock),
-    NoClock,
-}
+impl Model for Clock {
+    ghost use Rattle.berlin.specs.Instant.{TimeOfDay};
 
-/// The instant of a local time on a day; refusal 6 where the clock never shows it.
-#[derive(Clone, Copy)]
-pub enum Resolved {
-    At(Moment),
-    Absent,
+    ghost Value = { TimeOfDay };
+
+    ghost use Rattle.berlin.specs.Inside.{ProperClock};
+
+    ghost view = { λ c. record { second = c.second; nanos = c.nanos } };
+
+    ghost invariant = { λ c. ProperClock (record { second = c.second; nanos = c.nanos }) };
+
+    ghost inverse = { λ c. record { second = c.second; nanos = c.nanos } };
 }
 
 /// What the Berlin clock shows: the day, counted from 1 January 1970 too, and the second of that day.
@@ -66,17 +73,10 @@ pub struct Local {
 }
 
 /// It decides where the day begins: 'Strom begins at 00:00, Gas at 06:00 Berlin'.
-#[derive(Clone, Copy)]
+#[derive(Clone, Copy, PartialEq, Eq)]
 pub enum Sparte {
     Strom,
     Gas,
-}
-
-/// The day that an instant begins, by its index, or none: refusal 7.
-#[derive(Clone, Copy)]
-pub enum Beginn {
-    Day(u32),
-    NoBeginning,
 }
 
 /// The seconds of a minute.
@@ -122,7 +122,7 @@ const GASTAG_BEGINN: u32 = 6;
 /// The full hour of the clock: 13 is 13:00:00. From 0, midnight, to 23; 13 is second 46,800.
 pub fn o_clock(hour: u32) -> Clock
     requires { hour ≤ 23 }
-    ensures { (result ≡ o_clock hour) × ProperClock result }
+    ensures { result ≡ o_clock hour }
 {
     Clock {
         second: hour * HOUR,
@@ -133,23 +133,14 @@ pub fn o_clock(hour: u32) -> Clock
 /// Whether an instant is earlier than another: 'instants are compared', to the nanosecond.
 ///
 /// Two equal instants: no, either way. 9 January 2026 13:00 is before a nanosecond later.
+#[tactic(auto, unfolding(crate::specs::Berlin::is_before))]
 pub fn is_before(a: Moment, b: Moment) -> bool
-    requires { (a.second < day_seconds) × (b.second < day_seconds) }
     ensures { result ≡ is_before a b }
 {
-    if a.utcday < b.utcday {
-        return true;
-    }
-    if b.utcday < a.utcday {
-        return false;
-    }
-    if a.second < b.second {
-        return true;
-    }
-    if b.second < a.second {
-        return false;
-    }
-    a.nanos < b.nanos
+    // Reading a field says that the instant is inside its limits, so that a day more is more than any second.
+    let _ = &a.second;
+    let _ = &b.second;
+    a < b
 }
 
 /// Days since 1970, below zero too, and the second of the day.
@@ -159,29 +150,17 @@ pub struct Split {
     pub second: i64,
 }
 
-/// Division that rounds down, of any seconds: one second before 1970 is the last second of day -1. From 1970 on the
-/// machine's division rounds down as it is, and is cheaper for a number that is known not to be negative.
+/// Division that rounds down, of any seconds: one second before 1970 is the last second of day -1.
 ///
 /// 820,450,800, the first instant of the calendar, is second 82,800 of day 9,495.
+#[tactic(auto, unfolding(datum::specs::Floor::floor_div, datum::specs::Floor::floor_mod))]
 pub fn split_instant(s: i64) -> Split
     ensures { (result.utcday ≡ floor_div s day_seconds) × (result.second ≡ floor_mod s day_seconds) }
 {
-    if 0 <= s {
-        return Split {
-            utcday: s / DAY_SIGNED,
-            second: s % DAY_SIGNED,
-        };
+    Split {
+        utcday: s.div_euclid(DAY_SIGNED),
+        second: s.rem_euclid(DAY_SIGNED),
     }
-    let utcday = s / DAY_SIGNED;
-    let second = s % DAY_SIGNED;
-    if second < 0 {
-        let below = utcday - 1;
-        return Split {
-            utcday: below,
-            second: second + DAY_SIGNED,
-        };
-    }
-    Split { utcday, second }
 }
 
 /// Whether an instant, by its UTC day and second, is not after the calendar's last, 31 December 2899 23:00 UTC less a
@@ -192,65 +171,40 @@ pub fn is_by_last(utcday: u64, second: u64) -> bool
     requires { second < day_seconds }
     ensures { result ≡ is_by_last (utcday * day_seconds + second) }
 {
-    if utcday < LAST_UTC_DAY {
-        return true;
-    }
-    if LAST_UTC_DAY < utcday {
-        return false;
-    }
-    second < EDGE
-}
-
-/// Whether every instant of a UTC day is inside the limits, as on all but the first and the last: one comparison for
-/// nearly all calls.
-fn is_inner_day(utcday: u64) -> bool
-    ensures { result ≡ is_inner_day utcday }
-{
-    if utcday <= FIRST_UTC_DAY {
-        return false;
-    }
-    utcday < LAST_UTC_DAY
+    (utcday, second) < (LAST_UTC_DAY, EDGE)
 }
 
 /// Whether an instant, by its UTC day and second, has a Berlin day of the calendar: day 9,495 counts from second 82,800
 /// on, 31 December 1995 23:00 UTC.
+#[tactic(auto, unfolding(crate::specs::Berlin::in_limits))]
 fn in_limits(utcday: u64, second: u64) -> bool
     requires { second < day_seconds }
     ensures { result ≡ in_limits (utcday * day_seconds + second) }
 {
-    if is_inner_day(utcday) {
-        return true;
-    }
-    if utcday < FIRST_UTC_DAY {
-        return false;
-    }
-    if utcday == FIRST_UTC_DAY {
-        return EDGE <= second;
-    }
-    is_by_last(utcday, second)
+    // Every instant of a UTC day between the first and the last is inside: one comparison for nearly all calls.
+    FIRST_UTC_DAY < utcday && utcday < LAST_UTC_DAY
+        || (FIRST_UTC_DAY, EDGE) <= (utcday, second) && is_by_last(utcday, second)
 }
 
 /// The instant of a host's numbers: 'signed whole seconds since 1970-01-01T00:00Z and nanoseconds 0 to 999,999,999;
 /// seconds from 820,450,800 to 29,348,002,799'.
 ///
 /// Seconds of any sign are split first, and the limits are tested on day and second: -1 is second 86,399 of day -1, so
-/// none. 1,767,956,400 is 9 January 2026 11:00 UTC.
-pub fn read_instant(seconds: i64, nanos: u32) -> Reading
+/// none, which is refusal 4. 1,767,956,400 is 9 January 2026 11:00 UTC.
+#[tactic(auto, using(crate::proofs::Rules::read_rules))]
+pub fn read_instant(seconds: i64, nanos: u32) -> Option<Moment>
     ensures { result ≡ read_instant seconds nanos }
 {
     let at = split_instant(seconds);
     if at.utcday < 0 {
-        return Reading::NoInstant;
+        return None;
     }
     let utcday = at.utcday as u64;
     let second = at.second as u64;
-    if !in_limits(utcday, second) {
-        return Reading::NoInstant;
+    if !in_limits(utcday, second) || nanos > MOST_NANOS {
+        return None;
     }
-    if MOST_NANOS < nanos {
-        return Reading::NoInstant;
-    }
-    Reading::At(Moment {
+    Some(Moment {
         utcday: utcday as u32,
         second: second as u32,
         nanos,
@@ -259,23 +213,15 @@ pub fn read_instant(seconds: i64, nanos: u32) -> Reading
 
 /// The time of day of a host's numbers: '5, hour over 23, minute or second over 59, nanoseconds over 999,999,999'.
 ///
-/// 23:59:59 is second 86,399; 24:00 is no time of day.
-pub fn read_clock(hour: u8, minute: u8, second: u8, nanos: u32) -> ClockReading
+/// 23:59:59 is second 86,399; 24:00 is no time of day, which is refusal 5.
+#[tactic(auto, unfolding(crate::specs::Berlin::read_clock))]
+pub fn read_clock(hour: u8, minute: u8, second: u8, nanos: u32) -> Option<Clock>
     ensures { result ≡ read_clock hour minute second nanos }
 {
-    if 23 < hour {
-        return ClockReading::NoClock;
+    if hour > 23 || minute > 59 || second > 59 || nanos > MOST_NANOS {
+        return None;
     }
-    if 59 < minute {
-        return ClockReading::NoClock;
-    }
-    if 59 < second {
-        return ClockReading::NoClock;
-    }
-    if MOST_NANOS < nanos {
-        return ClockReading::NoClock;
-    }
-    ClockReading::At(Clock {
+    Some(Clock {
         second: (hour as u32) * HOUR + (minute as u32) * MINUTE + (second as u32),
         nanos,
     })
@@ -285,11 +231,9 @@ pub fn read_clock(hour: u8, minute: u8, second: u8, nanos: u32) -> ClockReading
 ///
 /// Day 20,462 and second 39,600, 9 January 2026 11:00 UTC: 1,767,956,400.
 pub fn seconds_of(at: Moment) -> i64
-    requires { Proper at }
     ensures { result ≡ pos (seconds_of at) }
 {
-    let seconds = (at.utcday as u64) * DAY_64 + (at.second as u64);
-    seconds as i64
+    (at.utcday as i64) * DAY_SIGNED + (at.second as i64)
 }
 
 /// The Sunday on or before a day.
@@ -319,6 +263,7 @@ const MARCH_TO_OCTOBER: u32 = 214;
 
 /// The last Sundays of March and October. The year is guessed by the average length of a year. Near the turn of a year
 /// the guess can be the year beside: there it is winter by either.
+#[tactic(auto, using(crate::proofs::Rules::switch_rules))]
 fn switches_by(day: u32) -> Switches
     requires { day ≤ last }
     ensures { (result.march ≡ last_sunday (guessed_year day) 3) × (result.october ≡ last_sunday (guessed_year day) 10) }
@@ -335,17 +280,19 @@ fn switches_by(day: u32) -> Switches
     }
 }
 
-/// Whether a clock shows a time of one day before it shows a time of another.
-fn is_shown_before(day: u32, second: u32, other: u32, until: u32) -> bool
-    ensures { result ≡ ltb (day_start day + second) (day_start other + until) }
+/// What a clock shows, in seconds since it showed the calendar's first midnight.
+fn since_start(day: u32, second: u32) -> u64
+    ensures { result ≡ day * day_seconds + second }
 {
-    (day as u64) * DAY_64 + (second as u64) < (other as u64) * DAY_64 + (until as u64)
+    (day as u64) * DAY_64 + (second as u64)
 }
 
 /// What a clock shows that is so many seconds ahead of UTC.
 fn on_clock(at: Moment, ahead: u32) -> Local
-    requires { (Proper at) × (hours 1 ≤ ahead) × (ahead ≤ hours 2) }
-    ensures { (result.berlinday * day_seconds + result.second ≡ seconds_of at + ahead) × (result.second < day_seconds) }
+    requires { (hours 1 ≤ ahead) × (ahead ≤ hours 2) }
+    ensures shown { (result.berlinday * day_seconds + result.second ≡ seconds_of at + ahead)
+        × (result.second < day_seconds) }
+    ensures limits { Proper at }
 {
     let second = at.second + ahead;
     if second < DAY {
@@ -361,15 +308,17 @@ fn on_clock(at: Moment, ahead: u32) -> Local
 }
 
 /// How far Berlin is ahead of UTC when a clock that never goes over to summer time shows a second of a day.
+#[tactic(auto, using(crate::proofs::Rules::offset_rules))]
 fn offset_at(day: u32, second: u32) -> u32
     requires { (day ≤ last) × (second < day_seconds) }
     ensures { (result ≡ offset_at (day_start day + second - hours 1)) × (hours 1 ≤ result) × (result ≤ hours 2) }
 {
+    let shown = since_start(day, second);
     let sundays = switches_by(day);
-    if is_shown_before(day, second, sundays.march, TWO) {
+    if shown < since_start(sundays.march, TWO) {
         return WINTER;
     }
-    if is_shown_before(day, second, sundays.october, TWO) {
+    if shown < since_start(sundays.october, TWO) {
         return SUMMER;
     }
     WINTER
@@ -379,8 +328,8 @@ fn offset_at(day: u32, second: u32) -> u32
 ///
 /// 31 January 2026 23:30 UTC: 1 February. By the clock that never goes over to summer time it is the same day, or in
 /// the hour before its midnight the day before.
+#[tactic(auto, using(crate::proofs::Rules::date_rules))]
 pub fn berlin_date(at: Moment) -> u32
-    requires { Proper at }
     ensures { (result ≡ berlin_date at) × (result ≤ last) }
 {
     let winter = on_clock(at, WINTER);
@@ -392,9 +341,11 @@ pub fn berlin_date(at: Moment) -> u32
     day + 1
 }
 
-/// The instant at which a clock that is so many seconds ahead of UTC shows a time.
+/// The instant at which a clock that is so many seconds ahead of UTC shows a time. By summer time it is no earlier than
+/// the calendar's first.
 fn behind(day: u32, at: Clock, ahead: u32) -> Moment
-    requires { (day ≤ last) × (at.second < day_seconds) × (ahead ≤ hours 2) }
+    requires { (day ≤ last) × (hours 1 ≤ ahead) × (ahead ≤ hours 2)
+        × (first_second ≤ day_start day + at.second - ahead) }
     ensures { result ≡ moment_of (day_start day + at.second - ahead) at.nanos }
 {
     let since_1970 = day + CALENDAR_START;
@@ -412,100 +363,81 @@ fn behind(day: u32, at: Clock, ahead: u32) -> Moment
     }
 }
 
-/// The instant at which the Berlin clock shows a time of a day.
+/// The instant at which the Berlin clock shows a time of a day, or none.
 ///
 /// 'A repeated local time means its earlier instant': 25 October 2026 02:30 is 00:30 UTC. 'An absent one, where the
 /// Rust panics, is refusal 6': 29 March 2026 02:30.
-pub fn berlin_at(day: u32, at: Clock) -> Resolved
-    requires { (day ≤ last) × ProperClock at }
+#[tactic(auto, using(crate::proofs::Rules::at_rules))]
+pub fn berlin_at(day: u32, at: Clock) -> Option<Moment>
+    requires { day ≤ last }
     ensures { result ≡ berlin_at day at }
 {
+    let shown = since_start(day, at.second);
     let sundays = switches_by(day);
-    if is_shown_before(day, at.second, sundays.march, TWO) {
-        return Resolved::At(behind(day, at, WINTER));
+    if shown < since_start(sundays.march, TWO) {
+        return Some(behind(day, at, WINTER));
     }
-    if is_shown_before(day, at.second, sundays.march, THREE) {
-        return Resolved::Absent;
+    if shown < since_start(sundays.march, THREE) {
+        return None;
     }
-    if is_shown_before(day, at.second, sundays.october, THREE) {
-        return Resolved::At(behind(day, at, SUMMER));
+    if shown < since_start(sundays.october, THREE) {
+        return Some(behind(day, at, SUMMER));
     }
-    Resolved::At(behind(day, at, WINTER))
-}
-
-/// The instant of a time that is never absent, such as midnight; 1 January 1970 00:00 UTC stands for none. Of midnight
-/// of 1 July 2027 it is 30 June 22:00 UTC.
-pub fn resolved_or(found: Resolved) -> Moment
-    ensures { result ≡ resolved_or found }
-{
-    match found {
-        Resolved::At(at) => at,
-        Resolved::Absent => Moment {
-            utcday: 0,
-            second: 0,
-            nanos: 0,
-        },
-    }
+    Some(behind(day, at, WINTER))
 }
 
 /// The instant at which a day begins in Berlin. The clock changes at 02:00 or 03:00, so midnight is never absent.
 ///
 /// 1 July 2027: 30 June 22:00 UTC.
+#[tactic(auto, using(crate::proofs::Proper::begin_rules))]
 pub fn berlin_midnight(day: u32) -> Moment
     requires { day ≤ last }
     ensures { result ≡ berlin_midnight day }
 {
-    resolved_or(berlin_at(day, o_clock(0)))
+    berlin_at(day, o_clock(0)).unwrap()
 }
 
 /// The last instant of a day in Berlin: 'An end of day is 23:59:59.999999999.'
 ///
 /// 31 December 2026: 22:59:59.999999999 UTC.
+#[tactic(auto, using(crate::proofs::Proper::begin_rules))]
 pub fn end_of_day_berlin(day: u32) -> Moment
     requires { day ≤ last }
     ensures { result ≡ end_of_day_berlin day }
 {
-    resolved_or(berlin_at(
-        day,
-        Clock {
-            second: DAY - 1,
-            nanos: MOST_NANOS,
-        },
-    ))
+    let end = Clock {
+        second: DAY - 1,
+        nanos: MOST_NANOS,
+    };
+    berlin_at(day, end).unwrap()
 }
 
 /// The instant at which a day begins in a Sparte: 'Strom begins at 00:00, Gas at 06:00 Berlin.'
 ///
 /// The Gas day 29 March 2026, on which the clock is put forward, begins at 04:00 UTC.
+#[tactic(auto, using(crate::proofs::Proper::begin_rules), unfolding(crate::specs::Berlin::tagesbeginn_utc))]
 pub fn tagesbeginn_utc(day: u32, sparte: Sparte) -> Moment
     requires { day ≤ last }
     ensures { result ≡ tagesbeginn_utc day sparte }
 {
     match sparte {
         Sparte::Strom => berlin_midnight(day),
-        Sparte::Gas => resolved_or(berlin_at(day, o_clock(GASTAG_BEGINN))),
+        Sparte::Gas => berlin_at(day, o_clock(GASTAG_BEGINN)).unwrap(),
     }
 }
 
 /// The day that an instant begins in a Sparte: the inverse of `tagesbeginn_utc`. An instant that begins none is
-/// refused, never rounded.
+/// refused with 7, never rounded.
 ///
 /// 31 December 2026 23:00 UTC begins 1 January 2027 in Strom; a nanosecond later begins no day.
-#[tactic(auto, using(crate::proofs::Rules::other_rules))]
-pub fn tag_des_beginns(at: Moment, sparte: Sparte) -> Beginn
-    requires { Proper at }
-    ensures { result ≡ tag_des_beginns at sparte }
+#[tactic(auto, unfolding(crate::specs::Berlin::tag_des_beginns))]
+pub fn tag_des_beginns(at: Moment, sparte: Sparte) -> Option<u32>
+    ensures { (result ≡ tag_des_beginns at sparte) × IfSome result (λ i. i ≤ last) }
 {
     let day = berlin_date(at);
     let begin = tagesbeginn_utc(day, sparte);
-    if begin.utcday != at.utcday {
-        return Beginn::NoBeginning;
+    if begin != at {
+        return None;
     }
-    if begin.second != at.second {
-        return Beginn::NoBeginning;
-    }
-    if begin.nanos != at.nanos {
-        return Beginn::NoBeginning;
-    }
-    Beginn::Day(day)
+    Some(day)
 }

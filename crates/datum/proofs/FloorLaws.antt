@@ -19,6 +19,7 @@ use mir.Facts.{to_z-of_z}
 use mir.ValLaws.{sfits_le}
 use Rattle.datum.specs.Floor.{floor_div, floor_mod}
 use Rattle.datum.proofs.Signed.{back, clash, below}
+use Rattle.std.specs.Int.{int_div_euclid, int_rem_euclid}
 
 pub record Steps (d : ℕ) : Type 0 where
   pub some : 0 < d
@@ -134,3 +135,14 @@ module _ (d : ℕ) (D : Steps d) where
     pub split_second : lt_z (back (rem_z (back s) (pos d))) (pos 0) ≡ false →
         back (rem_z (back s) (pos d)) ≡ floor_mod s d
     split_second h = rw (to_z-of_z f, to_z-of_z rem_fits) (floor_same s (test false h)).1
+
+-- std's division rounds down by a positive number, and its remainder is that of it
+pub div_floor : (z : ℤ) (n : ℕ) → int_div_euclid z (pos n) ≡ floor_div z n
+unfolding floor_div
+div_floor (pos a) n = refl
+div_floor (negsuc a) n = refl
+
+pub rem_floor : (z : ℤ) (n : ℕ) → int_rem_euclid z (pos n) ≡ floor_mod z n
+unfolding floor_mod
+rem_floor (pos a) n = refl
+rem_floor (negsuc a) n = refl

@@ -5,7 +5,6 @@ pub mod Signed
 pub mod FloorLaws
 pub mod Rules
 pub mod TagRules
-pub mod TagSteps
 pub mod MonthRules
 pub mod Months
 pub mod MonthStepRules

@@ -13,24 +13,23 @@ use mir.Syntax.{w8, w16, w64}
 use mir.Val.{Fits, SFits, to_z}
 use mir.Facts.{to_z-of_z}
 use Rattle.datum.specs.declared.Date.{Date}
-use Rattle.datum.specs.declared.Shifted.{Shifted}
-use Rattle.datum.specs.declared.Shifted.TheVariants.{On, Outside}
 use Rattle.datum.specs.Calendar.{is_leap, days_in_month}
 use Rattle.datum.specs.Floor.{floor_div, floor_mod}
 use Rattle.datum.specs.MonthShift.{ordinal_of, in_month, on_month, add_months, subtract_months}
 use Rattle.datum.proofs.Dates.{len_ge}
 use Rattle.datum.proofs.Signed.{back, clash, pos_fits, neg_fits, back_pos, sub_fits}
+use Rattle.std.specs.Prelude.{Option, Some, None}
 
 -- in_month: n is what `days_in_month` returned
 module _ (y m x : ℕ) (l : Bool) (n : ℕ) (a : 1996 ≤ y) (b : y ≤ 2899) (g : l ≡ is_leap y)
     (e : n ≡ days_in_month l m) where
-  pub cut : n < x → ◌≡◌ {A = Shifted} (On (record { year = y; month = m; day = n })) (in_month y m x)
+  pub cut : n < x → ◌≡◌ {A = Option Date} (Some (record { year = y; month = m; day = n })) (in_month y m x)
   unfolding in_month
   cut h =
       let q : n ≡ min x (days_in_month (is_leap y) m) =
       (let k : n ≡ days_in_month (is_leap y) m = rw g at e in omega arith) in rw (le-leb 1996 y a, le-leb y 2899 b, q)
 
-  pub kept : x ≤ n → ◌≡◌ {A = Shifted} (On (record { year = y; month = m; day = x })) (in_month y m x)
+  pub kept : x ≤ n → ◌≡◌ {A = Option Date} (Some (record { year = y; month = m; day = x })) (in_month y m x)
   unfolding in_month
   kept h =
       let q : min x (days_in_month (is_leap y) m) ≡ x =
@@ -39,7 +38,7 @@ module _ (y m x : ℕ) (l : Bool) (n : ℕ) (a : 1996 ≤ y) (b : y ≤ 2899) (g
 -- a day that every month has
 pub kept_in_all :
     (y m x : ℕ) → 1996 ≤ y → y ≤ 2899 → 1 ≤ m → m ≤ 12 → x ≤ 28 →
-    ◌≡◌ {A = Shifted} (On (record { year = y; month = m; day = x })) (in_month y m x)
+    ◌≡◌ {A = Option Date} (Some (record { year = y; month = m; day = x })) (in_month y m x)
 kept_in_all y m x a b c e h =
     kept y m x (is_leap y) (days_in_month (is_leap y) m) a b refl refl (omega (arith, len_ge (is_leap y) m c e))
 
@@ -55,14 +54,14 @@ pub record InRange (t y m : ℤ) : Type 0 where
 
 -- on_month: y and m are the parts of t that `split_months` returned
 module _ (t y m : ℤ) (x : ℕ) (f : SFits w64 t) (ey : y ≡ floor_div (back t) 12) (em : m ≡ floor_mod (back t) 12) where
-  early_at : (z : ℤ) → SFits w64 z → y ≡ floor_div z 12 → lt_z (back y) (pos 1996) ≡ true → Outside ≡ on_month z x
+  early_at : (z : ℤ) → SFits w64 z → y ≡ floor_div z 12 → lt_z (back y) (pos 1996) ≡ true → None ≡ on_month z x
   unfolding floor_div on_month in_month
   early_at (pos a) k e h =
       let l = ltb-true (a / 12) 1996 (rw (e, back_pos (a / 12) (omega (arith, k.sfits))) at h) in
       rw (lt-leb 1996 (a / 12) l)
   early_at (negsuc a) k e h = refl
 
-  pub early : lt_z (back y) (pos 1996) ≡ true → Outside ≡ on_month t x
+  pub early : lt_z (back y) (pos 1996) ≡ true → None ≡ on_month t x
   early = early_at t f (rw (to_z-of_z f) at ey)
 
   in_range_at :
@@ -82,14 +81,14 @@ module _ (t y m : ℤ) (x : ℕ) (f : SFits w64 t) (ey : y ≡ floor_div (back t
   in_range_at (negsuc a) k e g q h i =
       clash true refl (rw (e, to_z-of_z (neg_fits (a / 12) (omega (arith, k.sfits)))) at h)
 
-  late_at : (z : ℤ) → SFits w64 z → y ≡ floor_div z 12 → lt_z (pos 2899) (back y) ≡ true → Outside ≡ on_month z x
+  late_at : (z : ℤ) → SFits w64 z → y ≡ floor_div z 12 → lt_z (pos 2899) (back y) ≡ true → None ≡ on_month z x
   unfolding floor_div on_month in_month
   late_at (pos a) k e h =
       let l = ltb-true 2899 (a / 12) (rw (e, back_pos (a / 12) (omega (arith, k.sfits))) at h) in
       rw (le-leb 1996 (a / 12) (omega arith), lt-leb (a / 12) 2899 l)
   late_at (negsuc a) k e h = refl
 
-  pub late : lt_z (pos 2899) (back y) ≡ true → Outside ≡ on_month t x
+  pub late : lt_z (pos 2899) (back y) ≡ true → None ≡ on_month t x
   late = late_at t f (rw (to_z-of_z f) at ey)
 
   pub in_range_lem : lt_z (back y) (pos 1996) ≡ false → lt_z (pos 2899) (back y) ≡ false → InRange t y m
@@ -114,7 +113,8 @@ module _ {t y m : ℤ} (r : InRange t y m) where
   within = rw (r.year, month_back) (r.from, r.to, omega arith, omega arith)
 
   pub on_it :
-      (x : ℕ) (s : Shifted) → s ≡ in_month (nat_abs (back y)) (nat_abs (back (back m +ℤ pos 1))) x → s ≡ on_month t x
+      (x : ℕ) (s : Option Date) → s ≡ in_month (nat_abs (back y)) (nat_abs (back (back m +ℤ pos 1))) x →
+      s ≡ on_month t x
   unfolding on_month
   on_it x s e = rw r.is (rw (r.year, month_back) at e)
 
@@ -133,11 +133,11 @@ module _ (d : Date) (o : ℤ) (n : ℕ) (e : o ≡ pos (ordinal_of d)) (h : ordi
   pub subtract_fits : SFits w64 (back o -ℤ to_z w64 n)
   subtract_fits = rw (parts.0, parts.1) (sub_fits (ordinal_of d) n (omega arith) (omega arith))
 
-  pub add_is : (r : Shifted) → r ≡ on_month (back (back o +ℤ to_z w64 n)) d.day → r ≡ add_months d n
+  pub add_is : (r : Option Date) → r ≡ on_month (back (back o +ℤ to_z w64 n)) d.day → r ≡ add_months d n
   unfolding add_months
   add_is r p = rw (to_z-of_z add_fits, parts.0, parts.1) at p
 
-  pub subtract_is : (r : Shifted) → r ≡ on_month (back (back o -ℤ to_z w64 n)) d.day → r ≡ subtract_months d n
+  pub subtract_is : (r : Option Date) → r ≡ on_month (back (back o -ℤ to_z w64 n)) d.day → r ≡ subtract_months d n
   unfolding subtract_months
   subtract_is r p = rw (to_z-of_z subtract_fits, parts.0, parts.1) at p
 

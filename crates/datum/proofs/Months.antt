@@ -19,31 +19,28 @@ use native.Mathlib.Decide.{dec_le}
 use lib.Dec.{leb}
 use lib.IntN.{ℤ, pos, negsuc, ◌+ℤ◌, ◌-ℤ◌, pos-+ℤ-pos}
 use borrow.Author.Tests.{le-leb, lt-leb}
-use Rattle.zaehlung.specs.declared.Step.{Step}
-use Rattle.zaehlung.specs.declared.Step.TheVariants.{Day, Outside}
 use Rattle.zaehlung.specs.Walk.{last}
 use Rattle.datum.specs.declared.Date.{Date}
-use Rattle.datum.specs.declared.Shifted.{Shifted}
-use Rattle.datum.specs.declared.Shifted.TheVariants.{On, Outside as Left}
 use Rattle.datum.specs.Calendar.{is_leap, days_in_month, days_before, date_of}
 use Rattle.datum.specs.MonthShift.{ordinal_of, in_month, on_month, add_months, subtract_months}
 use Rattle.datum.proofs.Dates.{Valid, valid_is, is_valid, len_ge, index_below, index_date}
 use Rattle.datum.specs.Inside.{InsideShift}
 use Rattle.datum.specs.Monate.{to_step, months_later, months_earlier, M}
+use Rattle.std.specs.Prelude.{Option, Some, None}
 
 -- day x of the month numbered t, cut to the month's last
 abbrev pub day_of : ℕ → ℕ → Date
 day_of t x = record { year = t / 12; month = t % 12 + 1; day = min x (days_in_month (is_leap (t / 12)) (t % 12 + 1)) }
 
-pub on_in : (t x : ℕ) → 1996 ≤ t / 12 → t / 12 ≤ 2899 → on_month (pos t) x ≡ On (day_of t x)
+pub on_in : (t x : ℕ) → 1996 ≤ t / 12 → t / 12 ≤ 2899 → on_month (pos t) x ≡ Some (day_of t x)
 unfolding on_month in_month
 on_in t x a b = rw (le-leb 1996 (t / 12) a, le-leb (t / 12) 2899 b)
 
-pub on_out : (t x : ℕ) → 2899 < t / 12 → on_month (pos t) x ≡ Left
+pub on_out : (t x : ℕ) → 2899 < t / 12 → on_month (pos t) x ≡ None
 unfolding on_month in_month
 on_out t x b = rw (le-leb 1996 (t / 12) (omega arith), lt-leb (t / 12) 2899 b)
 
-pub on_before : (t x : ℕ) → t / 12 < 1996 → on_month (pos t) x ≡ Left
+pub on_before : (t x : ℕ) → t / 12 < 1996 → on_month (pos t) x ≡ None
 unfolding on_month in_month
 on_before t x b = rw (lt-leb 1996 (t / 12) b)
 
@@ -90,26 +87,26 @@ later_date i n h = added_date (date_of i) n (index_date i h).0.day_from
 pub earlier_date : (i n : ℕ) → i ≤ last → InsideShift (subtract_months (date_of i) n)
 earlier_date i n h = taken_date (date_of i) n (index_date i h).0.day_from
 
-pub to_step_inside : (s : Shifted) (e : ℕ) → InsideShift s → to_step s ≡ Day e → e ≤ last
-to_step_inside (On d) e v p = let q : days_before d ≡ e = cc in omega (arith, index_below d (valid_is d v))
-to_step_inside Left e v p = let z : ◌≡◌ {A = ℕ} 0 1 = cc in absurd (omega arith)
+pub to_step_inside : (s : Option Date) (e : ℕ) → InsideShift s → to_step s ≡ Some e → e ≤ last
+to_step_inside (Some d) e v p = let q : days_before d ≡ e = cc in omega (arith, index_below d (valid_is d v))
+to_step_inside None e v p = let z : ◌≡◌ {A = ℕ} 0 1 = cc in absurd (omega arith)
 
-pub later_inside : (i n e : ℕ) → i ≤ last → months_later i n ≡ Day e → e ≤ last
+pub later_inside : (i n e : ℕ) → i ≤ last → months_later i n ≡ Some e → e ≤ last
 unfolding months_later
 later_inside i n e h p = to_step_inside (add_months (date_of i) n) e (later_date i n h) p
 
-pub earlier_inside : (i n e : ℕ) → i ≤ last → months_earlier i n ≡ Day e → e ≤ last
+pub earlier_inside : (i n e : ℕ) → i ≤ last → months_earlier i n ≡ Some e → e ≤ last
 unfolding months_earlier
 earlier_inside i n e h p = to_step_inside (subtract_months (date_of i) n) e (earlier_date i n h) p
 
 -- both ends of M are days of a month
 either_inside :
-    (b : Bool) (s u : Shifted) (e : ℕ) → InsideShift s → InsideShift u → cond b (to_step s) (to_step u) ≡ Day e →
+    (b : Bool) (s u : Option Date) (e : ℕ) → InsideShift s → InsideShift u → cond b (to_step s) (to_step u) ≡ Some e →
     e ≤ last
 either_inside true s u e v w p = to_step_inside s e v p
 either_inside false s u e v w p = to_step_inside u e w p
 
-pub m_inside : (n i e : ℕ) → i ≤ last → M n i ≡ Day e → e ≤ last
+pub m_inside : (n i e : ℕ) → i ≤ last → M n i ≡ Some e → e ≤ last
 unfolding M
 m_inside n i e h p =
     let d = date_of i in
@@ -123,7 +120,7 @@ m_inside n i e h p =
     p
 
 -- the three ways through M, by what a shift by months gives; t is the number of the target month
-module _ (n i : ℕ) (d : Date) (s : Shifted) (g : d ≡ date_of i) (p : s ≡ add_months d n) where
+module _ (n i : ℕ) (d : Date) (s : Option Date) (g : d ≡ date_of i) (p : s ≡ add_months d n) where
   t : ℕ
   t = ordinal_of d + n
 
@@ -141,7 +138,7 @@ module _ (n i : ℕ) (d : Date) (s : Shifted) (g : d ≡ date_of i) (p : s ≡ a
   shifted = p ∙ add_on d n
 
   -- a shift that reaches a date stays inside the calendar's years, and reaches that day of the target month
-  reached : (e : Date) → s ≡ On e → (1996 ≤ t / 12) × (t / 12 ≤ 2899) × (e ≡ day_of t d.day)
+  reached : (e : Date) → s ≡ Some e → (1996 ≤ t / 12) × (t / 12 ≤ 2899) × (e ≡ day_of t d.day)
   reached e q =
       elim (dec_le 1996 (t / 12)) [
         | no a ↦ let z : ◌≡◌ {A = ℕ} 0 1 = cc (shifted, on_before t d.day (omega arith)) in absurd (omega arith)
@@ -152,13 +149,13 @@ module _ (n i : ℕ) (d : Date) (s : Shifted) (g : d ≡ date_of i) (p : s ≡ a
             ]
       ]
 
-  pub m_kept : (e : Date) → s ≡ On e → d.day ≤ e.day → Day (days_before e) ≡ M n i
+  pub m_kept : (e : Date) → s ≡ Some e → d.day ≤ e.day → Some (days_before e) ≡ M n i
   unfolding len
   m_kept e q h =
       let r = reached e q in
       let m = ap (λ (x : Date). x.day) r.2 in
       let k = m_is true (le-leb d.day len (omega arith)) in
-      let l : to_step (on_month (pos t) d.day) ≡ Day (days_before e) = ap to_step (sym shifted ∙ q) in
+      let l : to_step (on_month (pos t) d.day) ≡ Some (days_before e) = ap to_step (sym shifted ∙ q) in
       cc
 
   -- the first of the target month, and a month
@@ -170,8 +167,8 @@ module _ (n i : ℕ) (d : Date) (s : Shifted) (g : d ≡ date_of i) (p : s ≡ a
       omega arith
 
   pub m_cut :
-      (e : Date) (v : Shifted) (u : Step) →
-      s ≡ On e → e.day < d.day → v ≡ add_months (record { year = e.year; month = e.month; day = 1 }) 1 → u ≡
+      (e : Date) (v : Option Date) (u : Option ℕ) →
+      s ≡ Some e → e.day < d.day → v ≡ add_months (record { year = e.year; month = e.month; day = 1 }) 1 → u ≡
       to_step v → u ≡ M n i
   unfolding len
   m_cut e v u q h f g' =
@@ -182,7 +179,7 @@ module _ (n i : ℕ) (d : Date) (s : Shifted) (g : d ≡ date_of i) (p : s ≡ a
       let l = ap to_step (f ∙ add_on (record { year = e.year; month = e.month; day = 1 }) 1 ∙ o) in
       cc
 
-  pub m_out : i ≤ last → s ≡ Left → Outside ≡ M n i
+  pub m_out : i ≤ last → s ≡ None → None ≡ M n i
   unfolding t
   m_out h q =
       let y = (index_date i h).0.from in
@@ -198,6 +195,6 @@ module _ (n i : ℕ) (d : Date) (s : Shifted) (g : d ≡ date_of i) (p : s ≡ a
     where
       go :
           (b : Bool) → leb d.day len ≡ b →
-          to_step (on_month (pos t) d.day) ≡ Outside → to_step (on_month (pos (suc t)) 1) ≡ Outside → Outside ≡ M n i
+          to_step (on_month (pos t) d.day) ≡ None → to_step (on_month (pos (suc t)) 1) ≡ None → None ≡ M n i
       go true l e e' = cc (m_is true l)
       go false l e e' = cc (m_is false l)

@@ -6,10 +6,9 @@ use mathlib.Core.List.{[], ◌∷◌}
 use mathlib.Core.Path.{◌≡◌, refl}
 use Rattle.zaehlung.specs.Blocks.{start}
 use Rattle.datum.specs.declared.Date.{Date}
-use Rattle.datum.specs.declared.Index.TheVariants.{Day, NoDate}
-use Rattle.datum.specs.declared.Shifted.TheVariants.{On, Outside}
 use Rattle.datum.specs.Calendar.{is_leap, year_len, days_in_month, is_date, index_of}
 use Rattle.datum.specs.MonthShift.{in_month, on_month, add_months, subtract_months}
+use Rattle.std.specs.Prelude.{Some, None}
 
 abbrev on : ℕ → ℕ → ℕ → Date
 on y m d = record { year = y; month = m; day = d }
@@ -18,7 +17,7 @@ on y m d = record { year = y; month = m; day = d }
 pub edges :
     index_of (on 1996 1 1) ∷ index_of (on 2899 12 31) ∷ index_of (on 1995 12 31) ∷ index_of (on 2900 1 1) ∷
     index_of (on 2100 2 29) ∷ index_of (on 2000 2 30) ∷ []
-    ≡ Day 0 ∷ Day 330179 ∷ NoDate ∷ NoDate ∷ NoDate ∷ NoDate ∷ []
+    ≡ Some 0 ∷ Some 330179 ∷ None ∷ None ∷ None ∷ None ∷ []
 unfolding index_of is_date start year_len days_in_month is_leap
 edges = refl
 
@@ -35,7 +34,7 @@ pub shifts :
     add_months (on 2026 2 28) 1 ∷ add_months (on 2026 12 15) 2
     ∷ subtract_months (on 2026 1 15) 13 ∷ subtract_months (on 1996 1 31) 1 ∷ add_months (on 2899 12 1) 1 ∷
     subtract_months (on 1996 1 1) 4294967295 ∷ []
-    ≡ On (on 2026 2 28) ∷ On (on 2024 2 29) ∷ On (on 2026 6 30) ∷ On (on 2026 3 28) ∷ On (on 2027 2 15)
-    ∷ On (on 2024 12 15) ∷ Outside ∷ Outside ∷ Outside ∷ []
+    ≡ Some (on 2026 2 28) ∷ Some (on 2024 2 29) ∷ Some (on 2026 6 30) ∷ Some (on 2026 3 28) ∷ Some (on 2027 2 15)
+    ∷ Some (on 2024 12 15) ∷ None ∷ None ∷ None ∷ []
 unfolding add_months subtract_months on_month in_month days_in_month is_leap
 shifts = refl

@@ -15,7 +15,6 @@ use Rattle.zaehlung.specs.Walk.{bit, last}
 use Rattle.zaehlung.specs.Blocks.{start, at}
 use Rattle.zaehlung.proofs.BlockLaws.{at_sum, at_below}
 use Rattle.datum.specs.declared.Date.{Date}
-use Rattle.datum.specs.declared.Index.TheVariants.{Day, NoDate}
 use Rattle.datum.specs.Calendar.{is_leap, year_start, year_of, months, days_in_month, month_start, month_of, date_in}
 use Rattle.datum.specs.Calendar.{date_of, days_before, index_of, is_date}
 use Rattle.datum.specs.Number.{number_of, parts_of}
@@ -24,6 +23,7 @@ use Rattle.zaehlung.proofs.Tests.{and_left, and_right, and_yes, agree, agree_is}
 use Rattle.datum.proofs.Years.{closed, year_found, year_le, start_none}
 use Rattle.datum.proofs.Dates.{len_le, months_sum, month_first}
 use Rattle.datum.proofs.Dates.{valid_is, is_valid, len_ge, index_below, index_date, year_below}
+use Rattle.std.specs.Prelude.{Some, None}
 
 -- is_leap: what 4 and 16 say of a multiple of 25
 mult_25 : (y : ℕ) → y % 25 ≡ 0 → y ≡ 25 * (y / 25)
@@ -397,11 +397,11 @@ module _ (d : Date) (b : Bool) (g : b ≡ is_date d) where
   pub is_asked : b ≡ true → is_date d ≡ true
   is_asked t = sym g ∙ t
 
-  pub has_day : (r : ℕ) → b ≡ true → r ≡ days_before d → Day r ≡ index_of d
+  pub has_day : (r : ℕ) → b ≡ true → r ≡ days_before d → Some r ≡ index_of d
   unfolding index_of
   has_day r t e = rw (is_asked t, e)
 
-  pub no_date_lem : b ≡ false → NoDate ≡ index_of d
+  pub no_date_lem : b ≡ false → None ≡ index_of d
   unfolding index_of
   no_date_lem t = rw (sym g ∙ t)
 

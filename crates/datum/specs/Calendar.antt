@@ -15,12 +15,11 @@
 --   date_of i             = the date of the day with index i
 --   weekday i             = the weekday of that day, Monday 0 to Sunday 6
 -- Source: document 01, first paragraph; the Gregorian calendar.
-use Rattle.std.specs.Prelude.{ℕ, ◌+◌, ◌-◌, ◌%◌, Bool, not, ◌&&◌, ◌||◌, cond, List, [], ◌∷◌, eqb, leb, get_or}
+use Rattle.std.specs.Prelude.{ℕ, ◌+◌, ◌-◌, ◌%◌, Bool, not, ◌&&◌, ◌||◌, cond, List, [], ◌∷◌, eqb, leb, get_or, Option}
+use Rattle.std.specs.Prelude.{Some, None}
 use Rattle.zaehlung.specs.Walk.{bit}
 use Rattle.zaehlung.specs.Blocks.{start, at}
 use Rattle.datum.specs.declared.Date.{Date}
-use Rattle.datum.specs.declared.Index.{Index}
-use Rattle.datum.specs.declared.Index.TheVariants.{Day, NoDate}
 
 -- 'A date lies from 1 January 1996 to 31 December 2899 (330,180 days).'
 abbrev pub first_year : ℕ
@@ -58,8 +57,8 @@ is_date d =
 abbrev pub days_before : Date → ℕ
 days_before d = year_start (d.year - first_year) + month_start (is_leap d.year) d.month + (d.day - 1)
 
-unfoldable pub index_of : Date → Index
-index_of d = cond (is_date d) (Day (days_before d)) NoDate
+unfoldable pub index_of : Date → Option ℕ
+index_of d = cond (is_date d) (Some (days_before d)) None
 
 abbrev pub year_of : ℕ → ℕ × ℕ
 year_of i = at year_len 903 0 i

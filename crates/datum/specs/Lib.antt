@@ -4,4 +4,3 @@ pub mod Floor
 pub mod MonthShift
 pub mod Monate
 pub mod Inside
-pub mod Tage

@@ -52,20 +52,6 @@ pub struct Date {
     pub day: u8,
 }
 
-/// The index of a date, or that it is no date of the range.
-#[derive(Clone, Copy)]
-pub enum Index {
-    Day(u32),
-    NoDate,
-}
-
-/// A date shifted by months, or that it leaves the calendar.
-#[derive(Clone, Copy)]
-pub enum Shifted {
-    On(Date),
-    Outside,
-}
-
 /// Whether a year has a 29 February: every fourth year, of the full hundreds every fourth. Of the years that 25 divides
 /// only those are multiples of 4 that are full hundreds, and of these every fourth is one that 16 divides.
 ///
@@ -236,16 +222,16 @@ pub fn is_date(date: Date) -> bool
 
 /// The index of a date, counted from 1 January 1996.
 ///
-/// `NoDate` for three numbers that are no date of the range, as 29 February 2026.
+/// `None` for three numbers that are no date of the range, as 29 February 2026.
 ///
 /// 1 January 1996 is 0, 31 December 2899 is 330,179.
-pub fn index_of(date: Date) -> Index
+pub fn index_of(date: Date) -> Option<u32>
     ensures { result ≡ index_of date }
 {
     if is_date(date) {
-        return Index::Day(days_before(date));
+        return Some(days_before(date));
     }
-    Index::NoDate
+    None
 }
 
 /// The parts of an index's date: its year, the month in it and the day in that.
@@ -312,51 +298,47 @@ struct YearMonth {
 }
 
 /// The month numbered t from January of year 0: division that rounds down, below zero too.
+#[tactic(auto, using(crate::proofs::FloorLaws::div_floor, crate::proofs::FloorLaws::rem_floor))]
 fn split_months(t: i64) -> YearMonth
     ensures { (result.year ≡ floor_div t 12) × (result.month ≡ floor_mod t 12) }
 {
-    let year = t / MONTHS_64;
-    let month = t % MONTHS_64;
-    if month < 0 {
-        return YearMonth {
-            year: year - 1,
-            month: month + MONTHS_64,
-        };
+    YearMonth {
+        year: t.div_euclid(MONTHS_64),
+        month: t.rem_euclid(MONTHS_64),
     }
-    YearMonth { year, month }
 }
 
 /// The day in a month of the calendar; one that the month lacks becomes its last.
-fn in_month(year: u16, month: u8, day: u8) -> Shifted
+fn in_month(year: u16, month: u8, day: u8) -> Option<Date>
     requires { (first_year ≤ year) × (year ≤ last_year) × (1 ≤ month) × (month ≤ 12) }
     ensures { result ≡ in_month year month day }
 {
     if day <= SHORTEST_MONTH {
-        return Shifted::On(Date { year, month, day });
+        return Some(Date { year, month, day });
     }
     let longest = days_in_month(is_leap(year), month);
     if longest < day {
-        return Shifted::On(Date {
+        return Some(Date {
             year,
             month,
             day: longest,
         });
     }
-    Shifted::On(Date { year, month, day })
+    Some(Date { year, month, day })
 }
 
 /// The day in the month numbered t from January of year 0.
-fn on_month(t: i64, day: u8) -> Shifted
+fn on_month(t: i64, day: u8) -> Option<Date>
     ensures { result ≡ on_month t day }
 {
     let at = split_months(t);
     let year = at.year;
     let month = at.month;
     if year < FIRST_YEAR_64 {
-        return Shifted::Outside;
+        return None;
     }
     if LAST_YEAR_64 < year {
-        return Shifted::Outside;
+        return None;
     }
     in_month(year as u16, (month + 1) as u8, day)
 }
@@ -372,10 +354,10 @@ fn ordinal_of(date: Date) -> i64
 
 /// The date n months later, BGB §188: 'a day the target month lacks becomes its last'.
 ///
-/// `Outside` where the year passes 2899. With n = 0 the date itself.
+/// `None` where the year passes 2899. With n = 0 the date itself.
 ///
 /// 31 January 2026 and 1 month is 28 February 2026; 15 November 2026 and 3 months is 15 February 2027.
-pub fn add_months(date: Date, n: u32) -> Shifted
+pub fn add_months(date: Date, n: u32) -> Option<Date>
     requires { 1 ≤ date.month }
     ensures { result ≡ add_months date n }
 {
@@ -384,10 +366,10 @@ pub fn add_months(date: Date, n: u32) -> Shifted
 
 /// The date n months earlier, BGB §188: 'a day the target month lacks becomes its last'.
 ///
-/// `Outside` where the year lies before 1996, or before year 0. With n = 0 the date itself.
+/// `None` where the year lies before 1996, or before year 0. With n = 0 the date itself.
 ///
 /// 31 March 2024 less 1 month is 29 February 2024; 15 February 2027 less 3 months is 15 November 2026.
-pub fn subtract_months(date: Date, n: u32) -> Shifted
+pub fn subtract_months(date: Date, n: u32) -> Option<Date>
     requires { 1 ≤ date.month }
     ensures { result ≡ subtract_months date n }
 {

@@ -1,48 +1,42 @@
 // Months before and after a day, BGB §188, and M(n, d) of document 01.
-ghost use Rattle.std.specs.Prelude.{true, ◌≡◌, ◌≤◌};
-ghost use Rattle.zaehlung.specs.Walk.{last};
+ghost use Rattle.std.specs.Prelude.{true, ◌≡◌};
 ghost use Rattle.datum.specs.Calendar.{is_date, days_before};
 ghost use Rattle.datum.specs.Inside.{InsideShift};
 ghost use Rattle.datum.specs.Monate.{to_step, months_later, months_earlier, M};
-ghost use Rattle.datum.specs.Tage.{tag_at, tag_step};
 
-use super::tage::{Tag, TagStep};
-use super::{Date, Shifted};
+use super::Date;
+use super::tage::Tag;
 
 /// The day of the date that a shift reached.
-fn to_step(shifted: Shifted) -> TagStep
+fn to_step(shifted: Option<Date>) -> Option<Tag>
     requires { InsideShift shifted }
-    ensures { result ≡ tag_step (to_step shifted) }
+    ensures { result ≡ to_step shifted }
 {
-    match shifted {
-        Shifted::On(date) => TagStep::At(Tag {
-            index: super::days_before(date),
-            date,
-        }),
-        Shifted::Outside => TagStep::Outside,
-    }
+    let date = shifted?;
+    Some(Tag {
+        index: super::days_before(date),
+        date,
+    })
 }
 
 /// The day `n` months later: 'a day the target month lacks becomes its last (BGB §188)'.
 ///
-/// `Outside` past the calendar's last day. With `n = 0` the day itself.
+/// `None` past the calendar's last day. With `n = 0` the day itself.
 ///
 /// From 31 January 2026 with 1: 28 February 2026.
-pub fn months_later(day: Tag, n: u32) -> TagStep
-    requires { (day ≡ tag_at day.index) × (day.index ≤ last) }
-    ensures { result ≡ tag_step (months_later day.index n) }
+pub fn months_later(day: Tag, n: u32) -> Option<Tag>
+    ensures { result ≡ months_later day n }
 {
     to_step(super::add_months(day.date, n))
 }
 
 /// The day `n` months earlier: 'a day the target month lacks becomes its last (BGB §188)'.
 ///
-/// `Outside` before the calendar's first day. With `n = 0` the day itself.
+/// `None` before the calendar's first day. With `n = 0` the day itself.
 ///
 /// From 31 March 2024 with 1: 29 February 2024.
-pub fn months_earlier(day: Tag, n: u32) -> TagStep
-    requires { (day ≡ tag_at day.index) × (day.index ≤ last) }
-    ensures { result ≡ tag_step (months_earlier day.index n) }
+pub fn months_earlier(day: Tag, n: u32) -> Option<Tag>
+    ensures { result ≡ months_earlier day n }
 {
     to_step(super::subtract_months(day.date, n))
 }
@@ -50,19 +44,17 @@ pub fn months_earlier(day: Tag, n: u32) -> TagStep
 /// M(n, d) of document 01 for a date of the range: 'd plus n months, or, if the day was cut to the month's last, the
 /// first of the next month'.
 ///
-/// `Outside` past the calendar's last day, which the first of the next month may be where n months later is not.
+/// `None` past the calendar's last day, which the first of the next month may be where n months later is not.
 ///
 /// 31 January 2026 and 1 month is 1 March 2026, 28 January and 1 month 28 February.
 #[tactic(auto, using(crate::proofs::MonthStepRules::date_shift_rules))]
-pub fn months_or_first_date(date: Date, n: u32) -> Shifted
+pub fn months_or_first_date(date: Date, n: u32) -> Option<Date>
     requires { is_date date ≡ true }
     ensures { (to_step result ≡ M n (days_before date)) × InsideShift result }
 {
-    let Shifted::On(target) = super::add_months(date, n) else {
-        return Shifted::Outside;
-    };
+    let target = super::add_months(date, n)?;
     if date.day <= target.day {
-        return Shifted::On(target);
+        return Some(target);
     }
     let first = Date {
         year: target.year,
@@ -74,12 +66,11 @@ pub fn months_or_first_date(date: Date, n: u32) -> Shifted
 
 /// M(n, d) of document 01 for a day taken apart.
 ///
-/// `Outside` past the calendar's last day. With `n = 0` the day itself: nothing is cut.
+/// `None` past the calendar's last day. With `n = 0` the day itself: nothing is cut.
 ///
 /// From 31 January 2026 with 1: 1 March 2026. From 28 January with 1: 28 February.
-pub fn months_or_first(day: Tag, n: u32) -> TagStep
-    requires { (day ≡ tag_at day.index) × (day.index ≤ last) }
-    ensures { result ≡ tag_step (M n day.index) }
+pub fn months_or_first(day: Tag, n: u32) -> Option<Tag>
+    ensures { result ≡ M n day }
 {
     to_step(months_or_first_date(day.date, n))
 }

@@ -1,27 +1,41 @@
 // A day taken apart, its index beside its date, and a few days later or earlier without taking it apart again.
 ghost use Rattle.std.specs.Prelude.{◌≡◌, ◌+◌, ◌-◌, ◌≤◌, ◌<◌};
 ghost use Rattle.zaehlung.specs.Walk.{last};
-ghost use Rattle.datum.specs.Calendar.{is_leap, year_of, days_in_month, date_of};
-ghost use Rattle.datum.specs.Tage.{tag_at};
+ghost use Rattle.datum.specs.Calendar.{is_leap, year_of, days_in_month, index_of, date_of};
 
 use super::{Date, YearDay};
+use std::marker::Model;
 
 /// The days that every month has: so many are counted on into the next month, or back into the one before, and no
 /// further.
 const NEAR: u32 = super::SHORTEST_MONTH as u32;
 
-/// A day of the calendar: its index and its date.
+/// A day of the calendar, taken apart: its index beside its date. A clause sees the index alone, which says which day
+/// it is; that the date is that day's is true of every `Tag`.
 #[derive(Clone, Copy)]
 pub struct Tag {
     pub index: u32,
     pub date: Date,
 }
 
-/// What a step reaches: a day, taken apart, or none, because the step leaves the calendar.
-#[derive(Clone, Copy)]
-pub enum TagStep {
-    At(Tag),
-    Outside,
+impl Model for Tag {
+    ghost use Rattle.std.specs.Prelude.{ℕ, ◌≡◌, ◌≤◌};
+    ghost use Rattle.std.specs.Coded.{coded_ℕ};
+    ghost use Rattle.zaehlung.specs.Walk.{last};
+    ghost use Rattle.datum.specs.Calendar.{date_of};
+    ghost use Rattle.std.proofs.Common.{ap, sym};
+
+    ghost Value = { ℕ };
+
+    ghost coded = { coded_ℕ };
+
+    ghost view = { λ t. t.index };
+
+    ghost invariant = { λ t. (t.date ≡ date_of t.index) × (t.index ≤ last) };
+
+    ghost inverse = { λ i. record { index = i; date = date_of i } };
+
+    ghost inverse_ok = { λ a h. ap (λ d. record { index = a.index; date = d }) (sym h.0) };
 }
 
 /// The day of an index, taken apart.
@@ -29,7 +43,7 @@ pub enum TagStep {
 /// Of 59: index 59, 29 February 1996.
 pub fn tag_at(index: u32) -> Tag
     requires { index ≤ last }
-    ensures { result ≡ tag_at index }
+    ensures { result ≡ index }
 {
     Tag {
         index,
@@ -37,12 +51,21 @@ pub fn tag_at(index: u32) -> Tag
     }
 }
 
+/// The day of a date, which stands beside its index: none where there is no such date in the calendar.
+///
+/// Of 29 February 1996: index 59. Of 30 February: none.
+pub fn tag_of(date: Date) -> Option<Tag>
+    ensures { result ≡ index_of date }
+{
+    let index = super::index_of(date)?;
+    Some(Tag { index, date })
+}
+
 /// The year of a day, counted from 1996, and the day in it, counted from 0.
 ///
 /// Of 1 March 2026: year 30, day 59.
 pub fn year_day(tag: Tag) -> YearDay
-    requires { (tag ≡ tag_at tag.index) × (tag.index ≤ last) }
-    ensures { (result.year ≡ (year_of tag.index).0) × (result.day ≡ (year_of tag.index).1) × (result.year ≤ 903) }
+    ensures { (result.year ≡ (year_of tag).0) × (result.day ≡ (year_of tag).1) × (result.year ≤ 903) × (tag ≤ last) }
 {
     let year = (tag.date.year - super::FIRST_YEAR) as u32;
     YearDay {
@@ -53,8 +76,7 @@ pub fn year_day(tag: Tag) -> YearDay
 
 /// The first of January of a day's year.
 pub fn new_year(tag: Tag) -> Tag
-    requires { (tag ≡ tag_at tag.index) × (tag.index ≤ last) }
-    ensures { (result ≡ tag_at result.index) × (result.index ≡ tag.index - (year_of tag.index).1) }
+    ensures { result ≡ tag - (year_of tag).1 }
 {
     Tag {
         index: tag.index - year_day(tag).day,
@@ -66,23 +88,23 @@ pub fn new_year(tag: Tag) -> Tag
     }
 }
 
-/// The days of a day's month.
+/// The days of a date's month.
 ///
 /// Of 29 February 1996: 29.
-pub fn month_length(tag: Tag) -> u8
-    ensures { (result ≡ days_in_month (is_leap tag.date.year) tag.date.month) × (result ≤ 31) }
+pub fn month_length(date: Date) -> u8
+    ensures { (result ≡ days_in_month (is_leap date.year) date.month) × (result ≤ 31) }
 {
-    super::days_in_month(super::is_leap(tag.date.year), tag.date.month)
+    super::days_in_month(super::is_leap(date.year), date.month)
 }
 
 /// The day `days` days later, in the same month.
 ///
 /// From 28 December 2026 with 3: 31 December.
 pub fn later_in_month(tag: Tag, days: u8) -> Tag
-    requires tag_value { (tag ≡ tag_at tag.index) × (days ≤ 28) × (tag.index + days ≤ last) }
-    requires days_bound { tag.date.day + days ≤ days_in_month (is_leap tag.date.year) tag.date.month }
-    ensures value { result ≡ tag_at (tag.index + days) }
-    ensures year_value { (result.date.year ≡ tag.date.year) × (result.date.month ≡ tag.date.month) }
+    requires near { (days ≤ 28) × (tag + days ≤ last) }
+    requires in_month { (date_of tag).day + days ≤ days_in_month (is_leap (date_of tag).year) (date_of tag).month }
+    ensures value { result ≡ tag + days }
+    ensures same_month { ((date_of result).year ≡ (date_of tag).year) × ((date_of result).month ≡ (date_of tag).month) }
 {
     Tag {
         index: tag.index + (days as u32),
@@ -100,10 +122,10 @@ pub fn later_in_month(tag: Tag, days: u8) -> Tag
 /// From 30 December 2026 with 3: 2 January 2027.
 #[tactic(auto, using(crate::proofs::TagRules::later_rules))]
 pub fn into_next_month(tag: Tag, length: u8, days: u8) -> Tag
-    requires tag_value { (tag ≡ tag_at tag.index) × (days ≤ 28) × (tag.index + days ≤ last) }
-    requires length_len { length ≡ days_in_month (is_leap tag.date.year) tag.date.month }
-    requires length_len_bound { length < tag.date.day + days }
-    ensures { result ≡ tag_at (tag.index + days) }
+    requires near { (days ≤ 28) × (tag + days ≤ last) }
+    requires length_value { length ≡ days_in_month (is_leap (date_of tag).year) (date_of tag).month }
+    requires past_month { length < (date_of tag).day + days }
+    ensures { result ≡ tag + days }
 {
     let index = tag.index + (days as u32);
     let day = tag.date.day + days - length;
@@ -131,10 +153,10 @@ pub fn into_next_month(tag: Tag, length: u8, days: u8) -> Tag
 ///
 /// From 4 January 2027 with 3: 1 January.
 pub fn earlier_in_month(tag: Tag, days: u8) -> Tag
-    requires tag_value { (tag ≡ tag_at tag.index) × (tag.index ≤ last) × (days ≤ 28) × (days ≤ tag.index) }
-    requires days_lt_day { days < tag.date.day }
-    ensures value { result ≡ tag_at (tag.index - days) }
-    ensures year_value { (result.date.year ≡ tag.date.year) × (result.date.month ≡ tag.date.month) }
+    requires near { (days ≤ 28) × (days ≤ tag) }
+    requires in_month { days < (date_of tag).day }
+    ensures value { result ≡ tag - days }
+    ensures same_month { ((date_of result).year ≡ (date_of tag).year) × ((date_of result).month ≡ (date_of tag).month) }
 {
     Tag {
         index: tag.index - (days as u32),
@@ -151,9 +173,9 @@ pub fn earlier_in_month(tag: Tag, days: u8) -> Tag
 ///
 /// From 2 January 2027 with 3: 30 December 2026.
 pub fn into_month_before(tag: Tag, days: u8) -> Tag
-    requires tag_value { (tag ≡ tag_at tag.index) × (tag.index ≤ last) × (days ≤ 28) × (days ≤ tag.index) }
-    requires day_le_days { tag.date.day ≤ days }
-    ensures { result ≡ tag_at (tag.index - days) }
+    requires near { (days ≤ 28) × (days ≤ tag) }
+    requires before_month { (date_of tag).day ≤ days }
+    ensures { result ≡ tag - days }
 {
     let index = tag.index - (days as u32);
     let year = tag.date.year;
@@ -182,10 +204,10 @@ pub fn into_month_before(tag: Tag, days: u8) -> Tag
 
 /// The day `days` days later, up to four weeks.
 fn later(tag: Tag, days: u8) -> Tag
-    requires { (tag ≡ tag_at tag.index) × (days ≤ 28) × (tag.index + days ≤ last) }
-    ensures { result ≡ tag_at (tag.index + days) }
+    requires { (days ≤ 28) × (tag + days ≤ last) }
+    ensures { result ≡ tag + days }
 {
-    let length = month_length(tag);
+    let length = month_length(tag.date);
     if tag.date.day + days <= length {
         return later_in_month(tag, days);
     }
@@ -194,8 +216,8 @@ fn later(tag: Tag, days: u8) -> Tag
 
 /// The day `days` days earlier, up to four weeks.
 fn earlier(tag: Tag, days: u8) -> Tag
-    requires { (tag ≡ tag_at tag.index) × (tag.index ≤ last) × (days ≤ 28) × (days ≤ tag.index) }
-    ensures { result ≡ tag_at (tag.index - days) }
+    requires { (days ≤ 28) × (days ≤ tag) }
+    ensures { result ≡ tag - days }
 {
     if days < tag.date.day {
         return earlier_in_month(tag, days);
@@ -207,8 +229,8 @@ fn earlier(tag: Tag, days: u8) -> Tag
 ///
 /// After 31 December 2026: 1 January 2027.
 pub fn day_after(tag: Tag) -> Tag
-    requires { (tag ≡ tag_at tag.index) × (tag.index < last) }
-    ensures { result ≡ tag_at (tag.index + 1) }
+    requires { tag < last }
+    ensures { result ≡ tag + 1 }
 {
     later(tag, 1)
 }
@@ -217,8 +239,8 @@ pub fn day_after(tag: Tag) -> Tag
 ///
 /// Before 1 January 2027: 31 December 2026.
 pub fn day_before(tag: Tag) -> Tag
-    requires { (tag ≡ tag_at tag.index) × (tag.index ≤ last) × (0 < tag.index) }
-    ensures { result ≡ tag_at (tag.index - 1) }
+    requires { 0 < tag }
+    ensures { result ≡ tag - 1 }
 {
     earlier(tag, 1)
 }
@@ -227,7 +249,7 @@ pub fn day_before(tag: Tag) -> Tag
 ///
 /// Of 10,961 from 30 December 2025: 4 January 2026.
 pub fn date_near(tag: Tag, index: u32) -> Date
-    requires { (tag ≡ tag_at tag.index) × (tag.index ≤ last) × (index ≤ last) }
+    requires { index ≤ last }
     ensures { result ≡ date_of index }
 {
     if index < tag.index {

@@ -1,7 +1,7 @@
 // Reading from an input that comes in pieces, for the programs.
 #![tactic(auto)]
 
-ghost use Rattle.std.specs.Prelude.{ℕ, ◌<◌, ◌≤◌, length, take, IfOk, OnErr};
+ghost use Rattle.std.specs.Prelude.{ℕ, ◌<◌, ◌≤◌, length, take, IfOk, OnErr, MatchBool};
 ghost use Rattle.std.specs.Io.KnownBytes.{Consumes, IsAtEnd};
 ghost use Rattle.std.specs.Io.{ReadsAtMost};
 
@@ -22,6 +22,7 @@ pub fn read_full<R: Read>(input: &mut R, buf: &mut [u8]) -> io::Result<usize>
         Consumes (R.remaining input.old) (R.remaining input.new) (take n buf.new)) }
 {
     let mut done = 0;
+    // No iterator: a read gives any number of bytes.
     while done < buf.len() {
         let n = input.read(&mut buf[done..])?;
         if n == 0 {
@@ -30,6 +31,17 @@ pub fn read_full<R: Read>(input: &mut R, buf: &mut [u8]) -> io::Result<usize>
         done += n;
     }
     Ok(done)
+}
+
+/// Reads until the buffer is full, and returns whether it is: `false` only where the input has ended before. A buffer
+/// of length 0 is full. For a read that fails `read_full` says what has come.
+pub fn fills<R: Read>(input: &mut R, buf: &mut [u8]) -> io::Result<bool>
+    // A buffer that is full has these bytes of the input, and no others were taken from it.
+    ensures { IfOk result (λ full. MatchBool full
+        (Consumes (R.remaining input.old) (R.remaining input.new) buf.new)
+        (IsAtEnd (R.remaining input.new))) }
+{
+    Ok(read_full(input, buf)? == buf.len())
 }
 
 #[cfg(test)]
@@ -56,6 +68,17 @@ mod tests {
         assert_eq!(rt; read_full(&mut input, &mut buf)?, 1);
         assert_eq!(rt; buf[0], b'e');
         assert_eq!(rt; read_full(&mut input, &mut buf)?, 0);
+        Ok(())
+    }
+
+    #[test]
+    fn tells_whether_it_is_full(rt: HostRuntime) -> Result<(), Fail> {
+        let mut input = b"ab".as_slice().chain(b"cde".as_slice());
+        let mut buf = [0u8; 4];
+        assert!(rt; fills(&mut input, &mut buf)?);
+        assert_eq!(rt; buf, *b"abcd");
+        assert!(rt; !fills(&mut input, &mut buf)?);
+        assert!(rt; fills(&mut input, &mut [])?);
         Ok(())
     }
 

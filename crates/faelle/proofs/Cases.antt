@@ -26,10 +26,11 @@ use Rattle.fristen.specs.Fristen.{contrl_due_at, nth_werktag_at}
 use Rattle.fristen.specs.FristShape.{same_day_at, due_at_of}
 use Rattle.vorlauf.specs.Verdict.{closes, reaches, check_of, fruehester_termin_nach_tag_vor_dem_letzten_werktag}
 use Rattle.vorlauf.specs.Span.{span_of}
+use Rattle.std.specs.Prelude.{Result, Ok, Err}
 use Rattle.antwortsatz.specs.declared.Answer.{Answer}
-use Rattle.antwortsatz.specs.Refusals.{local_time_absent}
-use Rattle.antwortsatz.specs.Answers.{zero_date, refused, of_kind, dated, at_instant, judged, spanned}
-use Rattle.antworten.specs.Reading.{on_code}
+use Rattle.antwortsatz.specs.declared.Refusal.{Refusal}
+use Rattle.antwortsatz.specs.declared.Refusal.TheVariants.{LocalTimeAbsent}
+use Rattle.antwortsatz.specs.Answers.{zero_date, of_kind, dated, at_instant, judged, spanned}
 use Rattle.antworten.specs.Kalender.{is_werktag_answer, add_werktage_answer}
 use Rattle.antworten.specs.Uhrzeit.{berlin_at_answer, tagesbeginn_utc_answer}
 use Rattle.antworten_frist.specs.Frist.{contrl_due_at_answer, frist_due_at_answer}
@@ -42,7 +43,7 @@ abbrev on : ℕ → ℕ → Date
 on m d = record { year = 2026; month = m; day = d }
 
 pub cases :
-    ◌≡◌ {A = Date × List Answer} (
+    ◌≡◌ {A = Date × List (Result Answer Refusal)} (
       easter_sunday 2026,
       is_werktag_answer (reason BdewMaKo) (on 11 18)
           ∷ add_werktage_answer w (on 4 2) 1
@@ -63,22 +64,22 @@ pub cases :
           ∷ [],
     ) (
       on 4 5,
-      of_kind 16
-          ∷ dated (on 4 7)
-          ∷ dated (on 4 4)
-          ∷ judged 1 0 (on 1 12)
-          ∷ spanned 0 (on 1 13) zero_date
-          ∷ judged 1 1 (on 1 10)
-          ∷ judged 0 0 zero_date
-          ∷ judged 1 2 (on 2 28)
-          ∷ spanned 0 (on 3 1) zero_date
-          ∷ of_kind 2
-          ∷ at_instant 0 (pos 1774972799) 0
-          ∷ at_instant 0 (pos 1775080800) 0
-          ∷ refused local_time_absent
-          ∷ at_instant 0 (pos 1792888200) 0
-          ∷ at_instant 0 (pos 1774756800) 0
-          ∷ at_instant 0 (pos 1768215600) 0
+      Ok (of_kind 16)
+          ∷ Ok (dated (on 4 7))
+          ∷ Ok (dated (on 4 4))
+          ∷ Ok (judged 1 0 (on 1 12))
+          ∷ Ok (spanned 0 (on 1 13) zero_date)
+          ∷ Ok (judged 1 1 (on 1 10))
+          ∷ Ok (judged 0 0 zero_date)
+          ∷ Ok (judged 1 2 (on 2 28))
+          ∷ Ok (spanned 0 (on 3 1) zero_date)
+          ∷ Ok (of_kind 2)
+          ∷ Ok (at_instant 0 (pos 1774972799) 0)
+          ∷ Ok (at_instant 0 (pos 1775080800) 0)
+          ∷ Err LocalTimeAbsent
+          ∷ Ok (at_instant 0 (pos 1792888200) 0)
+          ∷ Ok (at_instant 0 (pos 1774756800) 0)
+          ∷ Ok (at_instant 0 (pos 1768215600) 0)
           ∷ [],
     )
 unfolding start at is_leap days_in_month year_len is_date index_of date_in date_of floor_div floor_mod
@@ -89,7 +90,7 @@ unfolding start at is_leap days_in_month year_len is_date index_of date_in date_
     berlin_midnight end_of_day_berlin tagesbeginn_utc
     instant_later contrl_seconds in_window toleranz_in formatumstellung_toleranz contrl_due_at nth_werktag_at
     same_day_at due_at_of closes reaches check_of fruehester_termin_nach_tag_vor_dem_letzten_werktag span_of
-    refused of_kind dated at_instant judged spanned on_code
+    of_kind dated at_instant judged spanned
     is_werktag_answer add_werktage_answer berlin_at_answer tagesbeginn_utc_answer
     contrl_due_at_answer frist_due_at_answer vorlauf_check_answer vorlauf_span_answer
 cases = refl

@@ -2,9 +2,10 @@
 // `no`.
 #![tactic(auto)]
 
-use antwortsatz::{Answer, LOCAL_TIME_ABSENT};
+use antwortsatz::{Answer, Refusal};
 use datum::Date;
 use std::io;
+use werktag::Reason;
 
 // Berlin times of 2026, in seconds since 1970-01-01T00:00Z.
 const MARCH_31_11_59_59: i64 = 1774951199;
@@ -42,9 +43,6 @@ const REGELFALL: u8 = 0;
 
 const GAS: u8 = 1;
 
-// Its reason: the fourteenth holiday of the list, which begins with 3.
-const BUSS_UND_BETTAG: u8 = 16;
-
 fn on(month: u8, day: u8) -> Date {
     Date {
         year: 2026,
@@ -53,251 +51,168 @@ fn on(month: u8, day: u8) -> Date {
     }
 }
 
-// Whether the bytes that a call left are those of an answer.
-fn is_answer(left: &[u8; 32], a: Answer) -> bool {
-    let bytes = antwortsatz::bytes_of(a);
-    check::same(left, &bytes)
+// Whether a call returns 0 and leaves the bytes of this answer.
+fn gives<F: FnOnce(&mut [u8]) -> u8>(call: F, a: Answer) -> bool
+    requires { F.IsAlwaysCallable call }
+{
+    let mut left = [1u8; 32];
+    call(&mut left) == 0 && left == antwortsatz::bytes_of(Ok(a))
+}
+
+// Whether a call returns the number of this refusal and leaves its bytes.
+fn refuses<F: FnOnce(&mut [u8]) -> u8>(call: F, refusal: Refusal) -> bool
+    requires { F.IsAlwaysCallable call }
+{
+    let mut left = [1u8; 32];
+    call(&mut left) == refusal.number() && left == antwortsatz::bytes_of(Err(refusal))
 }
 
 // Easter is 5 April.
 fn case_a() -> bool {
     let easter = datum::date_of(werktag::easter_sunday(2026));
-    if easter.month != 4 {
-        return false;
-    }
-    easter.day == 5
+    easter.month == 4 && easter.day == 5
 }
 
 // 18 November is no Werktag: Buß- und Bettag.
 fn case_b() -> bool {
-    let mut left = [1u8; 32];
-    if mako_fristen::mf_is_werktag(2026, 11, 18, &mut left) != 0 {
-        return false;
-    }
-    is_answer(&left, antwortsatz::of_kind(BUSS_UND_BETTAG))
+    gives(
+        |left| mako_fristen::mf_is_werktag(2026, 11, 18, left),
+        antwortsatz::of_kind(Reason::BussUndBettag.number()),
+    )
 }
 
 // 2 April plus 1 Werktag is 7 April.
 fn case_c() -> bool {
-    let mut left = [1u8; 32];
-    if mako_fristen::mf_add_werktage(2026, 4, 2, 1, &mut left) != 0 {
-        return false;
-    }
-    is_answer(&left, antwortsatz::dated(on(4, 7)))
+    gives(
+        |left| mako_fristen::mf_add_werktage(2026, 4, 2, 1, left),
+        antwortsatz::dated(on(4, 7)),
+    )
 }
 
 // 4 April plus 0 is 4 April.
 fn case_d() -> bool {
-    let mut left = [1u8; 32];
-    if mako_fristen::mf_add_werktage(2026, 4, 4, 0, &mut left) != 0 {
-        return false;
-    }
-    is_answer(&left, antwortsatz::dated(on(4, 4)))
+    gives(
+        |left| mako_fristen::mf_add_werktage(2026, 4, 4, 0, left),
+        antwortsatz::dated(on(4, 4)),
+    )
 }
 
 // 10 January against 12 January: TooLate, 0, 12 January; span from 13 January.
 fn case_e() -> bool {
-    let mut left = [1u8; 32];
-    if mako_fristen::mf_vorlauf_check(
-        LATEST_WERKTAGE_BEFORE,
-        1,
-        0,
-        2026,
-        1,
-        10,
-        2026,
-        1,
-        12,
-        &mut left,
-    ) != 0
-    {
-        return false;
-    }
-    if !is_answer(&left, antwortsatz::judged(1, 0, on(1, 12))) {
-        return false;
-    }
-    if mako_fristen::mf_vorlauf_span(LATEST_WERKTAGE_BEFORE, 1, 0, 2026, 1, 10, &mut left) != 0 {
-        return false;
-    }
-    is_answer(
-        &left,
+    let shape = LATEST_WERKTAGE_BEFORE;
+    gives(
+        |left| mako_fristen::mf_vorlauf_check(shape, 1, 0, 2026, 1, 10, 2026, 1, 12, left),
+        antwortsatz::judged(1, 0, on(1, 12)),
+    ) && gives(
+        |left| mako_fristen::mf_vorlauf_span(shape, 1, 0, 2026, 1, 10, left),
         antwortsatz::spanned(0, on(1, 13), antwortsatz::zero_date()),
     )
 }
 
 // 8 January: 9 January TooLate, 1, 10 January; 10 January Ok.
 fn case_f() -> bool {
-    let mut left = [1u8; 32];
-    if mako_fristen::mf_vorlauf_check(
-        TAG_VOR_DEM_LETZTEN_WERKTAG_VOR,
-        0,
-        0,
-        2026,
-        1,
-        8,
-        2026,
-        1,
-        9,
-        &mut left,
-    ) != 0
-    {
-        return false;
-    }
-    if !is_answer(&left, antwortsatz::judged(1, 1, on(1, 10))) {
-        return false;
-    }
-    if mako_fristen::mf_vorlauf_check(
-        TAG_VOR_DEM_LETZTEN_WERKTAG_VOR,
-        0,
-        0,
-        2026,
-        1,
-        8,
-        2026,
-        1,
-        10,
-        &mut left,
-    ) != 0
-    {
-        return false;
-    }
-    is_answer(&left, antwortsatz::judged(0, 0, antwortsatz::zero_date()))
+    let shape = TAG_VOR_DEM_LETZTEN_WERKTAG_VOR;
+    gives(
+        |left| mako_fristen::mf_vorlauf_check(shape, 0, 0, 2026, 1, 8, 2026, 1, 9, left),
+        antwortsatz::judged(1, 1, on(1, 10)),
+    ) && gives(
+        |left| mako_fristen::mf_vorlauf_check(shape, 0, 0, 2026, 1, 8, 2026, 1, 10, left),
+        antwortsatz::judged(0, 0, antwortsatz::zero_date()),
+    )
 }
 
 // 31 January: 28 February TooLate, 2, 28 February; span from 1 March.
 fn case_g() -> bool {
-    let mut left = [1u8; 32];
-    if mako_fristen::mf_vorlauf_check(
-        LATEST_MONATE_BEFORE,
-        1,
-        0,
-        2026,
-        1,
-        31,
-        2026,
-        2,
-        28,
-        &mut left,
-    ) != 0
-    {
-        return false;
-    }
-    if !is_answer(&left, antwortsatz::judged(1, 2, on(2, 28))) {
-        return false;
-    }
-    if mako_fristen::mf_vorlauf_span(LATEST_MONATE_BEFORE, 1, 0, 2026, 1, 31, &mut left) != 0 {
-        return false;
-    }
-    is_answer(
-        &left,
+    let shape = LATEST_MONATE_BEFORE;
+    gives(
+        |left| mako_fristen::mf_vorlauf_check(shape, 1, 0, 2026, 1, 31, 2026, 2, 28, left),
+        antwortsatz::judged(1, 2, on(2, 28)),
+    ) && gives(
+        |left| mako_fristen::mf_vorlauf_span(shape, 1, 0, 2026, 1, 31, left),
         antwortsatz::spanned(0, on(3, 1), antwortsatz::zero_date()),
     )
 }
 
 // Window 1 and 1 from 10 January: empty.
 fn case_h() -> bool {
-    let mut left = [1u8; 32];
-    if mako_fristen::mf_vorlauf_span(WINDOW_WERKTAGE_BEFORE, 1, 1, 2026, 1, 10, &mut left) != 0 {
-        return false;
-    }
-    is_answer(&left, antwortsatz::of_kind(2))
+    gives(
+        |left| mako_fristen::mf_vorlauf_span(WINDOW_WERKTAGE_BEFORE, 1, 1, 2026, 1, 10, left),
+        antwortsatz::of_kind(2),
+    )
 }
 
 // Received 31 March 11:59:59 is due 17:59:59; received 12:00:00, 2 April 00:00.
 fn case_i() -> bool {
-    let mut left = [1u8; 32];
-    if mako_fristen::mf_contrl_due_at(MARCH_31_11_59_59, 0, REGELFALL, &mut left) != 0 {
-        return false;
-    }
-    if !is_answer(&left, antwortsatz::at_instant(0, MARCH_31_17_59_59, 0)) {
-        return false;
-    }
-    if mako_fristen::mf_contrl_due_at(MARCH_31_12_00, 0, REGELFALL, &mut left) != 0 {
-        return false;
-    }
-    is_answer(&left, antwortsatz::at_instant(0, APRIL_2, 0))
+    gives(
+        |left| mako_fristen::mf_contrl_due_at(MARCH_31_11_59_59, 0, REGELFALL, left),
+        antwortsatz::at_instant(0, MARCH_31_17_59_59, 0),
+    ) && gives(
+        |left| mako_fristen::mf_contrl_due_at(MARCH_31_12_00, 0, REGELFALL, left),
+        antwortsatz::at_instant(0, APRIL_2, 0),
+    )
 }
 
 // 29 March 02:30 is absent; 25 October 02:30 is 00:30 UTC.
 fn case_j() -> bool {
-    let mut left = [1u8; 32];
-    if mako_fristen::mf_berlin_at(2026, 3, 29, 2, 30, 0, 0, &mut left) != LOCAL_TIME_ABSENT {
-        return false;
-    }
-    if !is_answer(&left, antwortsatz::refused(LOCAL_TIME_ABSENT)) {
-        return false;
-    }
-    if mako_fristen::mf_berlin_at(2026, 10, 25, 2, 30, 0, 0, &mut left) != 0 {
-        return false;
-    }
-    is_answer(&left, antwortsatz::at_instant(0, OCTOBER_25_02_30, 0))
+    refuses(
+        |left| mako_fristen::mf_berlin_at(2026, 3, 29, 2, 30, 0, 0, left),
+        Refusal::LocalTimeAbsent,
+    ) && gives(
+        |left| mako_fristen::mf_berlin_at(2026, 10, 25, 2, 30, 0, 0, left),
+        antwortsatz::at_instant(0, OCTOBER_25_02_30, 0),
+    )
 }
 
 // Gas day 29 March begins 04:00 UTC.
 fn case_k() -> bool {
-    let mut left = [1u8; 32];
-    if mako_fristen::mf_tagesbeginn_utc(2026, 3, 29, GAS, &mut left) != 0 {
-        return false;
-    }
-    is_answer(&left, antwortsatz::at_instant(0, MARCH_29_06_00, 0))
+    gives(
+        |left| mako_fristen::mf_tagesbeginn_utc(2026, 3, 29, GAS, left),
+        antwortsatz::at_instant(0, MARCH_29_06_00, 0),
+    )
 }
 
 // `SameDayAt` 12:00 received 9 January 12:00: 12 January 12:00.
 fn case_l() -> bool {
-    let mut left = [1u8; 32];
-    if mako_fristen::mf_frist_due_at(SAME_DAY_AT, 0, 12, 0, 0, 0, JANUARY_9_12_00, 0, &mut left)
-        != 0
-    {
-        return false;
-    }
-    is_answer(&left, antwortsatz::at_instant(0, JANUARY_12_12_00, 0))
+    gives(
+        |left| mako_fristen::mf_frist_due_at(SAME_DAY_AT, 0, 12, 0, 0, 0, JANUARY_9_12_00, 0, left),
+        antwortsatz::at_instant(0, JANUARY_12_12_00, 0),
+    )
+}
+
+// Whether the announcement for 12 January at an instant has an answer of this kind.
+fn is_announced(seconds: i64, nanos: u32, kind: u8) -> bool {
+    gives(
+        |left| mako_fristen::mf_eog_ankuendigung_fristgerecht(seconds, nanos, 2026, 1, 12, left),
+        antwortsatz::of_kind(kind),
+    )
 }
 
 // Announcement for 12 January: 9 January 13:00 yes, a nanosecond later no, 12 January 00:00 neither.
 fn case_m() -> bool {
-    let mut left = [1u8; 32];
-    if mako_fristen::mf_eog_ankuendigung_fristgerecht(JANUARY_9_13_00, 0, 2026, 1, 12, &mut left)
-        != 0
-    {
-        return false;
-    }
-    if !is_answer(&left, antwortsatz::of_kind(1)) {
-        return false;
-    }
-    if mako_fristen::mf_eog_ankuendigung_fristgerecht(JANUARY_9_13_00, 1, 2026, 1, 12, &mut left)
-        != 0
-    {
-        return false;
-    }
-    if !is_answer(&left, antwortsatz::of_kind(0)) {
-        return false;
-    }
-    if mako_fristen::mf_eog_ankuendigung_fristgerecht(JANUARY_12, 0, 2026, 1, 12, &mut left) != 0 {
-        return false;
-    }
-    is_answer(&left, antwortsatz::of_kind(2))
-}
-
-fn print_case(rt: &impl Print, letter: char, ok: bool) -> io::Result<()> {
-    if ok {
-        println!(rt; "{letter} ok")
-    } else {
-        println!(rt; "{letter} no")
-    }
+    is_announced(JANUARY_9_13_00, 0, 1)
+        && is_announced(JANUARY_9_13_00, 1, 0)
+        && is_announced(JANUARY_12, 0, 2)
 }
 
 fn main(rt: HostRuntime) -> io::Result<()> {
-    print_case(&rt, 'A', case_a())?;
-    print_case(&rt, 'B', case_b())?;
-    print_case(&rt, 'C', case_c())?;
-    print_case(&rt, 'D', case_d())?;
-    print_case(&rt, 'E', case_e())?;
-    print_case(&rt, 'F', case_f())?;
-    print_case(&rt, 'G', case_g())?;
-    print_case(&rt, 'H', case_h())?;
-    print_case(&rt, 'I', case_i())?;
-    print_case(&rt, 'J', case_j())?;
-    print_case(&rt, 'K', case_k())?;
-    print_case(&rt, 'L', case_l())?;
-    print_case(&rt, 'M', case_m())
+    let cases = [
+        ('A', case_a()),
+        ('B', case_b()),
+        ('C', case_c()),
+        ('D', case_d()),
+        ('E', case_e()),
+        ('F', case_f()),
+        ('G', case_g()),
+        ('H', case_h()),
+        ('I', case_i()),
+        ('J', case_j()),
+        ('K', case_k()),
+        ('L', case_l()),
+        ('M', case_m()),
+    ];
+    for (letter, ok) in cases {
+        let word = if ok { "ok" } else { "no" };
+        println!(rt; "{letter} {word}")?;
+    }
+    Ok(())
 }

@@ -10,40 +10,20 @@ const INPUT_BYTES: usize = 65537;
 
 // Whether the input is at its end: a read that fails is no end, but an error.
 fn is_at_end(input: &mut impl Read) -> io::Result<bool> {
-    let mut byte = [0u8; 1];
-    let n = input.read(&mut byte)?;
-    Ok(n == 0)
-}
-
-fn answer(rt: &impl Print, questions: &[u8], answers: &mut [u8]) -> io::Result<()> {
-    if mako_fristen::mf_questions(questions, answers) == 0 {
-        rt.write_all(answers)?;
-    }
-    Ok(())
-}
-
-// Answers the input. One that fills the slice for the questions is too long, and its end need not be waited for.
-fn answer_input(
-    rt: &impl Print,
-    input: &mut impl Read,
-    questions: &mut [u8],
-    answers: &mut [u8],
-) -> io::Result<()> {
-    let n = eingabe::read_full(input, questions)?;
-    if n == questions.len() {
-        return Ok(());
-    }
-    if !is_at_end(input)? {
-        return Ok(());
-    }
-    if n <= answers.len() {
-        answer(rt, &questions[..n], &mut answers[..n])?;
-    }
-    Ok(())
+    Ok(input.read(&mut [0u8; 1])? == 0)
 }
 
 fn main(rt: HostRuntime) -> io::Result<()> {
+    let mut input = rt.stdin();
     let mut questions = [0u8; INPUT_BYTES];
     let mut answers = [0u8; INPUT_BYTES];
-    answer_input(&rt, &mut rt.stdin(), &mut questions, &mut answers)
+    let n = eingabe::read_full(&mut input, &mut questions)?;
+    // An input that fills the slice for the questions is too long, and its end need not be waited for.
+    if n == INPUT_BYTES || !is_at_end(&mut input)? {
+        return Ok(());
+    }
+    if mako_fristen::mf_questions(&questions[..n], &mut answers[..n]) == 0 {
+        rt.write_all(&answers[..n])?;
+    }
+    Ok(())
 }

@@ -44,12 +44,11 @@ pub fn date_at(bytes: &[u8], at: usize) -> Date
 
 /// The question of 32 bytes. Any bytes are one: 32 times 00 is a CONTRL of the Regelfall, received at the beginning of
 /// 1970, which is refused with 4.
+#[tactic(auto, unfolding(crate::specs::Record::question_of))]
 pub fn question_of(bytes: &[u8]) -> Question
     requires { length bytes.now ≡ 32 }
     ensures { result ≡ question_of bytes.now }
 {
-    let transmission = date_at(bytes, 12);
-    let anchor = date_at(bytes, 16);
     Question {
         operation: bytes[0],
         code: bytes[1],
@@ -57,8 +56,8 @@ pub fn question_of(bytes: &[u8]) -> Question
         byte3: bytes[3],
         count: zahlen::u32_at(bytes, 4),
         count2: zahlen::u32_at(bytes, 8),
-        transmission,
-        anchor,
+        transmission: date_at(bytes, 12),
+        anchor: date_at(bytes, 16),
         seconds: zahlen::i64_at(bytes, 20),
         nanos: zahlen::u32_at(bytes, 28),
     }
@@ -66,14 +65,9 @@ pub fn question_of(bytes: &[u8]) -> Question
 
 /// Whether a file may have these lengths. It may not "if the question bytes are no multiple of 32 or exceed 65,536, or
 /// the answers differ in length". A file of no questions is one.
+#[tactic(auto, unfolding(crate::specs::File::is_file))]
 pub fn is_file(questions: usize, answers: usize) -> bool
     ensures { result ≡ is_file questions answers }
 {
-    if questions % QUESTION_BYTES != 0 {
-        return false;
-    }
-    if MOST_BYTES < questions {
-        return false;
-    }
-    answers == questions
+    questions.is_multiple_of(QUESTION_BYTES) && questions <= MOST_BYTES && answers == questions
 }

@@ -1,4 +1,3 @@
-pub mod Instants
 pub mod Rules
 pub mod NeverAbsent
 pub mod OutsideValues

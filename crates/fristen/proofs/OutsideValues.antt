@@ -2,7 +2,7 @@
 -- that document 01 names. The seconds are those of the IANA time zone database for Europe/Berlin.
 -- Assumes nothing.
 use Prim.Native.Nat.{ℕ}
-use mathlib.Core.Bool.{Bool, true, false}
+use mathlib.Core.Bool.{Bool}
 use mathlib.Core.List.{[], ◌∷◌}
 use mathlib.Core.Path.{◌≡◌, refl}
 use Rattle.zaehlung.specs.Blocks.{start, at}
@@ -15,8 +15,6 @@ use Rattle.werktag.specs.Werktag.{is_fixed, is_buss_und_bettag, is_easter_feast,
 use Rattle.berlin.specs.declared.Moment.{Moment}
 use Rattle.berlin.specs.Berlin.{o_clock, moment_of, is_before, in_limits, last_sunday, year_at, offset_at, berlin_at}
 use Rattle.berlin.specs.Berlin.{berlin_midnight, end_of_day_berlin}
-use Rattle.fristen.specs.declared.Due.{Due}
-use Rattle.fristen.specs.declared.Due.TheVariants.{At, Absent, Outside}
 use Rattle.fristen.specs.declared.ContrlAnlass.TheVariants.{Regelfall, StromUtilmdOderOrders, GasAlocat}
 use Rattle.fristen.specs.declared.FristShape.TheVariants.{SameDayAt, SameDay}
 use Rattle.fristen.specs.Fristen.{noon, instant_later, contrl_seconds, in_window, toleranz_in}
@@ -24,11 +22,15 @@ use Rattle.fristen.specs.Fristen.{formatumstellung_toleranz}
 use Rattle.fristen.specs.Fristen.{contrl_due_at, nth_werktag_at, next_werktag_at, end_of_werktag_after}
 use Rattle.fristen.specs.Fristen.{deadline_at_werktage}
 use Rattle.fristen.specs.Fristen.{add_hours, aperak_strom_due_at, aperak_strom_allgemein_due_at, is_initial}
-use Rattle.fristen.specs.Fristen.{aperak_gas_due_at}
+use Rattle.fristen.specs.Fristen.{gas_prozess, aperak_gas_due_at}
 use Rattle.fristen.specs.FristShape.{same_day_at, due_at_of}
+use Rattle.std.specs.Prelude.{Result, Ok, Err}
+use Rattle.fristen.specs.declared.NoDue.{NoDue}
+use Rattle.fristen.specs.declared.NoDue.TheVariants.{Absent, Outside}
+use Rattle.fristen.specs.declared.GasProzess.TheVariants.{Initialprozess, Folgeprozess}
 
-abbrev due : ℕ → Due
-due s = At (moment_of s 0)
+abbrev due : ℕ → Result Moment NoDue
+due s = Ok (moment_of s 0)
 
 abbrev m : ℕ → Moment
 m s = moment_of s 0
@@ -66,7 +68,7 @@ contrl_days = refl
 pub strom :
     aperak_strom_due_at (m 1736157600) ∷ aperak_strom_due_at (m 1736586000) ∷ aperak_strom_due_at (m 1736672400) ∷
     aperak_strom_due_at (m 29348002799) ∷ []
-    ≡ due 1736160300 ∷ due 1736679600 ∷ due 1736675100 ∷ Outside ∷ []
+    ≡ due 1736160300 ∷ due 1736679600 ∷ due 1736675100 ∷ Err Outside ∷ []
 unfolding aperak_strom_due_at day_after instant_later in_limits berlin_at offset_at year_at last_sunday date_of date_in
     at start
     year_len days_in_month is_leap
@@ -80,19 +82,22 @@ pub werktage :
     nth_werktag_at werktag (m 1736514000) 0 (o_clock 11)
     ∷ deadline_at_werktage werktag (m 1736121600) 5 ∷ deadline_at_werktage werktag (m 1736121600) 0 ∷ []
     ≡ due 1736247600 ∷ due 1736762400 ∷ due 1736762400
-    ∷ At (moment_of 1736809199 999999999) ∷ At (moment_of 1736204399 999999999) ∷ []
+    ∷ Ok (moment_of 1736809199 999999999) ∷ Ok (moment_of 1736204399 999999999) ∷ []
 unfolding nth_werktag_at end_of_werktag_after add up is_werktag is_fixed is_buss_und_bettag is_easter_feast any
     easter_index easter_sunday end_of_day_berlin berlin_at offset_at year_at last_sunday date_of date_in at start
     year_len
     days_in_month is_leap
 werktage = refl
 
--- Monday 6 January 2025 10:00 UTC: 44001, Anmeldung NN, has the end of Thursday 9 January; 44051, 'Ende MSB', is a
--- follow-up
+-- 44001, Anmeldung NN, opens a process; 44051, 'Ende MSB', is a follow-up
+pub gas_processes : gas_prozess 44001 ∷ gas_prozess 44051 ∷ [] ≡ Initialprozess ∷ Folgeprozess ∷ []
+unfolding gas_prozess is_initial any
+gas_processes = refl
+
+-- Monday 6 January 2025 10:00 UTC: 44001 has the end of Thursday 9 January; 44051 Tuesday 12:00
 pub gas :
     aperak_gas_due_at werktag 44001 (m 1736157600) ∷ aperak_gas_due_at werktag 44051 (m 1736157600) ∷ []
-    ≡ record { initial = true; due = At (moment_of 1736463599 999999999) } ∷
-    record { initial = false; due = due 1736247600 } ∷ []
+    ≡ Ok (moment_of 1736463599 999999999) ∷ due 1736247600 ∷ []
 unfolding aperak_gas_due_at is_initial nth_werktag_at end_of_werktag_after add up is_werktag is_fixed
     is_buss_und_bettag is_easter_feast any easter_index easter_sunday end_of_day_berlin berlin_at offset_at year_at
     last_sunday date_of
@@ -103,7 +108,7 @@ gas = refl
 pub added_hours :
     add_hours (m 1788944400) 6 ∷ add_hours (m 29348002799) 0 ∷ add_hours (m 29348002799) 1 ∷
     add_hours (m 820450800) 4294967295 ∷ []
-    ≡ due 1788966000 ∷ due 29348002799 ∷ Outside ∷ Outside ∷ []
+    ≡ due 1788966000 ∷ due 29348002799 ∷ Err Outside ∷ Err Outside ∷ []
 unfolding instant_later in_limits
 added_hours = refl
 
@@ -114,7 +119,7 @@ pub shapes :
     ∷ due_at_of werktag (SameDayAt (record { second = 9000; nanos = 0 })) (m 1774742400) ∷
     due_at_of werktag SameDay (m 1767956400) ∷ []
     ≡ due 1768215600 ∷ due 1767956400
-    ∷ Absent ∷ At (moment_of 1767999599 999999999) ∷ []
+    ∷ Err Absent ∷ Ok (moment_of 1767999599 999999999) ∷ []
 unfolding due_at_of same_day_at is_before nth_werktag_at add up is_werktag is_fixed is_buss_und_bettag
     is_easter_feast any easter_index easter_sunday end_of_day_berlin berlin_at offset_at year_at last_sunday date_of
     date_in at start

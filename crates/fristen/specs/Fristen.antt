@@ -30,10 +30,11 @@
 --   aperak_gas_initialprozess_due_at w m = when that of an initial process is due
 --   gas_initialprozess_pids              = the Gas Prüfidentifikatoren that open a process; is_initial pid, whether pid
 --                                          is one
---   aperak_gas_due_at w pid m            = whether it does, and when the APERAK is due
+--   gas_prozess pid                      = which of the two windows a Prüfidentifikator has
+--   aperak_gas_due_at w pid m            = when the APERAK is due
 -- Source: CONTRL AHB 1.0 Kap. 2.3.1 and 2.4.1; APERAK AHB 1.1 Kap. 2.3.1 and 2.4.1; GPKE; as document 01, 'lib.rs,
 -- messages', and the original's comments quote them.
-use Rattle.std.specs.Prelude.{ℕ, ◌+◌, Bool, false, not, ◌&&◌, cond, List, [], ◌∷◌, eqb}
+use Rattle.std.specs.Prelude.{ℕ, ◌+◌, Bool, false, not, ◌&&◌, cond, List, [], ◌∷◌, eqb, Result, Ok, Err, ok_or}
 use Rattle.zaehlung.specs.Walk.{on_step, day_after, add}
 use Rattle.datum.specs.Calendar.{days_before, date_of, weekday}
 use Rattle.zaehlung.specs.Lists.{any}
@@ -42,11 +43,12 @@ use Rattle.berlin.specs.declared.Clock.{Clock}
 use Rattle.berlin.specs.Berlin.{hours, minutes, o_clock, moment_of, seconds_of, is_before, in_limits, berlin_date}
 use Rattle.berlin.specs.Berlin.{berlin_at}
 use Rattle.berlin.specs.Berlin.{on_resolved, berlin_midnight, end_of_day_berlin}
-use Rattle.fristen.specs.declared.Due.{Due}
-use Rattle.fristen.specs.declared.Due.TheVariants.{At, Absent, Outside}
-use Rattle.fristen.specs.declared.GasDue.{GasDue}
+use Rattle.fristen.specs.declared.GasProzess.{GasProzess}
+use Rattle.fristen.specs.declared.GasProzess.TheVariants.{Initialprozess, Folgeprozess}
 use Rattle.fristen.specs.declared.ContrlAnlass.{ContrlAnlass}
 use Rattle.fristen.specs.declared.ContrlAnlass.TheVariants.{Regelfall, StromUtilmdOderOrders, GasAlocat}
+use Rattle.fristen.specs.declared.NoDue.{NoDue}
+use Rattle.fristen.specs.declared.NoDue.TheVariants.{Absent, Outside}
 
 -- CONTRL AHB 1.0 Kap. 2.3.1 and 2.4.1, 'unverzüglich, jedoch spätestens 6 Stunden nach Erhalt'
 abbrev pub contrl_frist : ℕ
@@ -81,11 +83,11 @@ abbrev pub is_saturday : ℕ → Bool
 is_saturday d = eqb (weekday d) 5
 
 -- '8, the due instant's day leaves the calendar'
-unfoldable pub instant_later : Moment → ℕ → Due
-instant_later m t = let s = seconds_of m + t in cond (in_limits s) (At (moment_of s m.nanos)) Outside
+unfoldable pub instant_later : Moment → ℕ → Result Moment NoDue
+instant_later m t = let s = seconds_of m + t in cond (in_limits s) (Ok (moment_of s m.nanos)) (Err Outside)
 
-abbrev pub clock_on : ℕ → Clock → Due
-clock_on d c = on_resolved Absent (berlin_at d c) At
+abbrev pub clock_on : ℕ → Clock → Result Moment NoDue
+clock_on d c = ok_or (berlin_at d c) Absent
 
 -- '6 hours; 45 minutes for `GasAlocat`; `StromUtilmdOderOrders` 15 minutes, 6 hours if received on Saturday'
 unfoldable pub contrl_seconds : ℕ → ContrlAnlass → ℕ
@@ -112,12 +114,11 @@ unfoldable pub formatumstellung_toleranz : Moment → Moment
 formatumstellung_toleranz m = toleranz_in (date_of (berlin_date m)).year m
 
 -- 'the tolerance test on the due instant', never on the receipt
-abbrev pub tolerated_due : Due → Due
-tolerated_due (At m) = At (formatumstellung_toleranz m)
-tolerated_due Absent = Absent
-tolerated_due Outside = Outside
+abbrev pub tolerated_due : Result Moment NoDue → Result Moment NoDue
+tolerated_due (Ok m) = Ok (formatumstellung_toleranz m)
+tolerated_due (Err e) = Err e
 
-unfoldable pub contrl_due_at : Moment → ContrlAnlass → Due
+unfoldable pub contrl_due_at : Moment → ContrlAnlass → Result Moment NoDue
 contrl_due_at m a = tolerated_due (instant_later m (contrl_seconds (receipt_day m) a))
 
 -- '`nth_werktag_at` with 0 equals 1'
@@ -125,43 +126,43 @@ abbrev pub at_least_one : ℕ → ℕ
 at_least_one n = cond (eqb n 0) 1 n
 
 -- 'spätester ÜZ ist .. Uhr des n. WT nach dem ÜT'
-abbrev pub nth_werktag_on : (ℕ → Bool) → ℕ → ℕ → Clock → Due
-nth_werktag_on w d n c = on_step Outside (add w d n) (λ e. clock_on e c)
+abbrev pub nth_werktag_on : (ℕ → Bool) → ℕ → ℕ → Clock → Result Moment NoDue
+nth_werktag_on w d n c = on_step (Err Outside) (add w d n) (λ e. clock_on e c)
 
-unfoldable pub nth_werktag_at : (ℕ → Bool) → Moment → ℕ → Clock → Due
+unfoldable pub nth_werktag_at : (ℕ → Bool) → Moment → ℕ → Clock → Result Moment NoDue
 nth_werktag_at w m n c = nth_werktag_on w (receipt_day m) (at_least_one n) c
 
-abbrev pub next_werktag_at : (ℕ → Bool) → Moment → Clock → Due
+abbrev pub next_werktag_at : (ℕ → Bool) → Moment → Clock → Result Moment NoDue
 next_werktag_at w m c = nth_werktag_at w m 1 c
 
 -- 'bis zum Ablauf des n. Werktags nach Eingang'
-unfoldable pub end_of_werktag_after : (ℕ → Bool) → Moment → ℕ → Due
-end_of_werktag_after w m n = on_step Outside (add w (receipt_day m) n) (λ d. At (end_of_day_berlin d))
+unfoldable pub end_of_werktag_after : (ℕ → Bool) → Moment → ℕ → Result Moment NoDue
+end_of_werktag_after w m n = on_step (Err Outside) (add w (receipt_day m) n) (λ d. Ok (end_of_day_berlin d))
 
 -- 'Ablauf des n. WT' and 'spätester ÜT ist der n. WT' are one Frist
-abbrev pub deadline_at_werktage : (ℕ → Bool) → Moment → ℕ → Due
+abbrev pub deadline_at_werktage : (ℕ → Bool) → Moment → ℕ → Result Moment NoDue
 deadline_at_werktage w m n = end_of_werktag_after w m n
 
-abbrev pub add_hours : Moment → ℕ → Due
+abbrev pub add_hours : Moment → ℕ → Result Moment NoDue
 add_hours m n = instant_later m (hours n)
 
 -- 'Saturday gives Sunday 12:00'; 'Sundays and holidays get 45 minutes'
-unfoldable pub aperak_strom_due_at : Moment → Due
+unfoldable pub aperak_strom_due_at : Moment → Result Moment NoDue
 aperak_strom_due_at m =
     cond (is_saturday (receipt_day m))
-    (on_step Outside (day_after (receipt_day m)) (λ d. clock_on d noon))
+    (on_step (Err Outside) (day_after (receipt_day m)) (λ d. clock_on d noon))
     (instant_later m aperak_strom_utilmd_orders)
 
 -- '12:00 of the first Werktag after the receipt day'
-abbrev pub aperak_strom_allgemein_due_at : (ℕ → Bool) → Moment → Due
+abbrev pub aperak_strom_allgemein_due_at : (ℕ → Bool) → Moment → Result Moment NoDue
 aperak_strom_allgemein_due_at w m = next_werktag_at w m noon
 
 -- the same, by another section of the APERAK AHB
-abbrev pub aperak_gas_folgeprozess_due_at : (ℕ → Bool) → Moment → Due
+abbrev pub aperak_gas_folgeprozess_due_at : (ℕ → Bool) → Moment → Result Moment NoDue
 aperak_gas_folgeprozess_due_at w m = next_werktag_at w m noon
 
 -- 'end of the third Werktag after the receipt day'
-abbrev pub aperak_gas_initialprozess_due_at : (ℕ → Bool) → Moment → Due
+abbrev pub aperak_gas_initialprozess_due_at : (ℕ → Bool) → Moment → Result Moment NoDue
 aperak_gas_initialprozess_due_at w m = end_of_werktag_after w m 3
 
 -- 'Gas initial (44001, 44016, 44039, 44042)'
@@ -171,9 +172,9 @@ gas_initialprozess_pids = 44001 ∷ 44016 ∷ 44039 ∷ 44042 ∷ []
 unfoldable pub is_initial : ℕ → Bool
 is_initial pid = any (eqb pid) gas_initialprozess_pids
 
-unfoldable pub aperak_gas_due_at : (ℕ → Bool) → ℕ → Moment → GasDue
+unfoldable pub gas_prozess : ℕ → GasProzess
+gas_prozess pid = cond (is_initial pid) Initialprozess Folgeprozess
+
+unfoldable pub aperak_gas_due_at : (ℕ → Bool) → ℕ → Moment → Result Moment NoDue
 aperak_gas_due_at w pid m =
-    record {
-      initial = is_initial pid;
-      due = cond (is_initial pid) (aperak_gas_initialprozess_due_at w m) (aperak_gas_folgeprozess_due_at w m);
-    }
+    cond (is_initial pid) (aperak_gas_initialprozess_due_at w m) (aperak_gas_folgeprozess_due_at w m)

@@ -1,3 +1,2 @@
 pub mod Fristen
 pub mod FristShape
-pub mod Inside

@@ -2,38 +2,35 @@
 // order.
 //
 // A due instant is counted in seconds from the receipt, or is a local time on a day that is counted in Werktage from
-// the Berlin day of the receipt. Each promise is one equation with a definition of specs/, and that the instant is
-// proper.
+// the Berlin day of the receipt. Each promise is one equation with a definition of specs/. Four functions are another
+// under the name that the original has: the general Strom APERAK, the two of Gas, and `deadline_at_werktage`.
 #![tactic(auto)]
 
-ghost use Rattle.std.specs.Prelude.{◌≡◌, ◌+◌, ◌*◌, ◌≤◌, ◌<◌};
+ghost use Rattle.std.specs.Prelude.{◌≡◌, true, ◌+◌, ◌*◌, ◌≤◌, ◌<◌, cond, Some, None};
 ghost use Rattle.zaehlung.specs.Walk.{last};
+ghost use Rattle.datum.specs.Calendar.{first_year, last_year, days_before, is_date};
 ghost use Rattle.werktag.specs.Werktag.{is_werktag};
-ghost use Rattle.berlin.specs.Berlin.{day_seconds};
-ghost use Rattle.berlin.specs.Inside.{Proper, ProperClock};
-ghost use Rattle.datum.specs.Calendar.{first_year, last_year};
+ghost use Rattle.berlin.specs.Berlin.{day_seconds, berlin_midnight};
 ghost use Rattle.fristen.specs.Fristen.{receipt_day, instant_later, clock_on, is_saturday, contrl_seconds};
-ghost use Rattle.fristen.specs.Fristen.{contrl_due_at, in_window};
-ghost use Rattle.fristen.specs.Fristen.{toleranz_in, formatumstellung_toleranz, aperak_strom_due_at};
-ghost use Rattle.fristen.specs.Fristen.{aperak_strom_allgemein_due_at, aperak_gas_folgeprozess_due_at};
-ghost use Rattle.fristen.specs.Fristen.{aperak_gas_initialprozess_due_at, is_initial, aperak_gas_due_at};
-ghost use Rattle.fristen.specs.Fristen.{next_werktag_at};
-ghost use Rattle.fristen.specs.Fristen.{at_least_one, nth_werktag_on, nth_werktag_at, end_of_werktag_after, add_hours};
-ghost use Rattle.fristen.specs.Fristen.{deadline_at_werktage};
-ghost use Rattle.fristen.specs.FristShape.{same_day_at, same_day, due_at_of};
-ghost use Rattle.fristen.specs.Inside.{ProperDue, ProperShape};
+ghost use Rattle.fristen.specs.Fristen.{contrl_due_at, in_window, toleranz_in, formatumstellung_toleranz};
+ghost use Rattle.fristen.specs.Fristen.{aperak_strom_due_at, aperak_strom_allgemein_due_at};
+ghost use Rattle.fristen.specs.Fristen.{aperak_gas_folgeprozess_due_at, aperak_gas_initialprozess_due_at};
+ghost use Rattle.fristen.specs.Fristen.{is_initial, gas_prozess, aperak_gas_due_at, nth_werktag_on};
+ghost use Rattle.fristen.specs.Fristen.{nth_werktag_at, next_werktag_at, end_of_werktag_after};
+ghost use Rattle.fristen.specs.Fristen.{deadline_at_werktage, add_hours};
+ghost use Rattle.fristen.specs.FristShape.{same_day_at, due_at_of};
 
-use berlin::{Clock, DAY, HOUR, MINUTE, Moment, Resolved};
+use berlin::{Clock, DAY, HOUR, MINUTE, Moment};
 use datum::Date;
 use werktag::HolidayCalendar;
-use zaehlung::{LAST, Step};
+use zaehlung::LAST;
 
-/// A due instant; that no clock shows its time (refusal 6, `SameDayAt` only); or that its day leaves the calendar
-/// (refusal 8).
-#[derive(Clone, Copy)]
-pub enum Due {
-    At(Moment),
+/// Why there is no due instant.
+#[derive(Clone, Copy, PartialEq, Eq)]
+pub enum NoDue {
+    /// No clock shows its time (refusal 6, `SameDayAt` only).
     Absent,
+    /// Its day leaves the calendar (refusal 8).
     Outside,
 }
 
@@ -45,51 +42,30 @@ const DAY_HOURS: u32 = DAY / HOUR;
 
 /// The instant that many days and seconds later, with the nanoseconds of the receipt. No count of hours in 32 bits is
 /// more than 178,956,970 days.
-fn instant_later(from: Moment, days: u32, seconds: u32) -> Due
-    requires { Proper from × (days ≤ 178956970) × (seconds < day_seconds) }
-    ensures { (result ≡ instant_later from (days * day_seconds + seconds)) × ProperDue result }
+#[tactic(auto, unfolding(crate::specs::Fristen::instant_later, berlin::specs::Berlin::in_limits))]
+fn instant_later(from: Moment, days: u32, seconds: u32) -> Result<Moment, NoDue>
+    requires { (days ≤ 178956970) × (seconds < day_seconds) }
+    ensures { result ≡ instant_later from (days * day_seconds + seconds) }
 {
-    let second = from.second + seconds;
-    let due = Moment {
-        utcday: from.utcday + days + second / DAY,
-        second: second % DAY,
+    let since_midnight = from.second + seconds;
+    let utcday = from.utcday + days + since_midnight / DAY;
+    let second = since_midnight % DAY;
+    if !berlin::is_by_last(utcday as u64, second as u64) {
+        return Err(NoDue::Outside);
+    }
+    Ok(Moment {
+        utcday,
+        second,
         nanos: from.nanos,
-    };
-    if berlin::is_by_last(due.utcday as u64, due.second as u64) {
-        return Due::At(due);
-    }
-    Due::Outside
+    })
 }
 
-/// A due instant, taken apart and put together again: copied whole, what a call just wrote part by part would have to
-/// wait for memory.
-fn in_parts(due: Due) -> Due
-    ensures { result ≡ due }
+/// The clock on a day.
+fn clock_on(day: u32, at: Clock) -> Result<Moment, NoDue>
+    requires { day ≤ last }
+    ensures { result ≡ clock_on day at }
 {
-    match due {
-        Due::At(at) => Due::At(Moment {
-            utcday: at.utcday,
-            second: at.second,
-            nanos: at.nanos,
-        }),
-        Due::Absent => Due::Absent,
-        Due::Outside => Due::Outside,
-    }
-}
-
-/// The clock on a day, its instant put together part by part.
-fn clock_on(day: u32, at: Clock) -> Due
-    requires { (day ≤ last) × ProperClock at }
-    ensures { (result ≡ clock_on day at) × ProperDue result }
-{
-    match berlin::berlin_at(day, at) {
-        Resolved::At(due) => Due::At(Moment {
-            utcday: due.utcday,
-            second: due.second,
-            nanos: due.nanos,
-        }),
-        Resolved::Absent => Due::Absent,
-    }
+    berlin::berlin_at(day, at).ok_or(NoDue::Absent)
 }
 
 /// Monday is 0.
@@ -116,7 +92,7 @@ const WINDOW_OPENS: u32 = 18;
 
 /// What the CONTRL answers, which decides its window: any interchange or APERAK not named by a shorter one; a Strom
 /// UTILMD or ORDERS; a GABi-Gas ALOCAT from the NB to the MGV.
-#[derive(Clone, Copy)]
+#[derive(Clone, Copy, PartialEq, Eq)]
 pub enum ContrlAnlass {
     Regelfall,
     StromUtilmdOderOrders,
@@ -125,8 +101,8 @@ pub enum ContrlAnlass {
 
 /// How long after its receipt a CONTRL is due, before the tolerance. The receipt's day counts for a Strom UTILMD or
 /// ORDERS alone.
+#[tactic(auto, unfolding(crate::specs::Fristen::contrl_seconds))]
 fn contrl_seconds(received: Moment, anlass: ContrlAnlass) -> u32
-    requires { Proper received }
     ensures { (result ≡ contrl_seconds (receipt_day received) anlass) × (result < day_seconds) }
 {
     match anlass {
@@ -145,72 +121,55 @@ fn contrl_seconds(received: Moment, anlass: ContrlAnlass) -> u32
 /// hours if received on Saturday'. 'the Saturday test is on the receipt, the tolerance test on the due instant'.
 ///
 /// Regelfall, received 31 March 2026 11:59:59 Berlin: 17:59:59. Received 12:00:00: 2 April 00:00.
-pub fn contrl_due_at(received: Moment, anlass: ContrlAnlass) -> Due
-    requires { Proper received }
-    ensures { (result ≡ contrl_due_at received anlass) × ProperDue result }
+#[tactic(auto, unfolding(crate::specs::Fristen::contrl_due_at))]
+pub fn contrl_due_at(received: Moment, anlass: ContrlAnlass) -> Result<Moment, NoDue>
+    ensures { result ≡ contrl_due_at received anlass }
 {
-    let seconds = contrl_seconds(received, anlass);
-    match instant_later(received, 0, seconds) {
-        Due::At(due) => Due::At(formatumstellung_toleranz(due)),
-        Due::Absent => Due::Absent,
-        Due::Outside => Due::Outside,
-    }
+    let due = instant_later(received, 0, contrl_seconds(received, anlass))?;
+    Ok(formatumstellung_toleranz(due))
 }
 
 /// Whether an instant lies in the window from 18:00 of one day to the midnight that begins the other.
-#[tactic(auto, using(crate::proofs::Rules::window_rules))]
+#[tactic(auto, using(berlin::proofs::Proper::never_absent), unfolding(crate::specs::Fristen::in_window))]
 fn in_window(at: Moment, von: u32, bis: u32) -> bool
-    requires { Proper at × (von ≤ last) × (bis ≤ last) }
+    requires { (von ≤ last) × (bis ≤ last) }
     ensures { result ≡ in_window von bis at }
 {
-    let Resolved::At(from) = berlin::berlin_at(von, berlin::o_clock(WINDOW_OPENS)) else {
-        return false;
-    };
-    if berlin::is_before(at, from) {
-        return false;
+    let opens = berlin::berlin_at(von, berlin::o_clock(WINDOW_OPENS)).unwrap();
+    !berlin::is_before(at, opens) && berlin::is_before(at, berlin::berlin_midnight(bis))
+}
+
+/// The end of the window from one date to the other, if an instant lies in it.
+fn window_end(at: Moment, von: Date, bis: Date) -> Option<Moment>
+    requires { (is_date von ≡ true) × (is_date bis ≡ true) }
+    ensures { let end = days_before bis in
+        result ≡ cond (in_window (days_before von) end at) (Some (berlin_midnight end)) None }
+{
+    let end = datum::days_before(bis);
+    if !in_window(at, datum::days_before(von), end) {
+        return None;
     }
-    berlin::is_before(at, berlin::berlin_midnight(bis))
+    Some(berlin::berlin_midnight(end))
 }
 
 /// The tolerance in a year.
+#[tactic(auto, using(crate::proofs::Rules::date_rules), unfolding(crate::specs::Fristen::toleranz_in))]
 fn toleranz_in(year: u16, due: Moment) -> Moment
-    requires { Proper due × (first_year ≤ year) × (year ≤ last_year) }
-    ensures { (result ≡ toleranz_in year due) × Proper result }
+    requires { (first_year ≤ year) × (year ≤ last_year) }
+    ensures { result ≡ toleranz_in year due }
 {
-    let march = datum::days_before(Date {
-        year,
-        month: 3,
-        day: 31,
-    });
-    let april = datum::days_before(Date {
-        year,
-        month: 4,
-        day: 2,
-    });
-    if in_window(due, march, april) {
-        return berlin::berlin_midnight(april);
+    let on = |month: u8, day: u8| Date { year, month, day };
+    if let Some(end) = window_end(due, on(3, 31), on(4, 2)) {
+        return end;
     }
-    let september = datum::days_before(Date {
-        year,
-        month: 9,
-        day: 30,
-    });
-    let october = datum::days_before(Date {
-        year,
-        month: 10,
-        day: 2,
-    });
-    if in_window(due, september, october) {
-        return berlin::berlin_midnight(october);
-    }
-    due
+    window_end(due, on(9, 30), on(10, 2)).unwrap_or(due)
 }
 
 /// 'Abweichungen von diesen Fristen sind von den Marktpartnern zu akzeptieren im Zeitraum der Formatumstellung': what
 /// is due in a window is due at its end. A window lies in one year.
+#[tactic(auto, using(datum::proofs::Dates::index_date), unfolding(crate::specs::Fristen::formatumstellung_toleranz))]
 fn formatumstellung_toleranz(due: Moment) -> Moment
-    requires { Proper due }
-    ensures { (result ≡ formatumstellung_toleranz due) × Proper result }
+    ensures { result ≡ formatumstellung_toleranz due }
 {
     let date = datum::date_of(berlin::berlin_date(due));
     toleranz_in(date.year, due)
@@ -223,14 +182,14 @@ const APERAK_STROM_UTILMD_ORDERS: u32 = 45 * MINUTE;
 /// spätestens bis zum Sonntag, 12 Uhr'. Sundays and holidays get 45 minutes.
 ///
 /// Received on Saturday, 11 January 2025: Sunday, 12 January 12:00. On that Sunday at 10:00: 10:45.
-pub fn aperak_strom_due_at(received: Moment) -> Due
-    requires { Proper received }
-    ensures { (result ≡ aperak_strom_due_at received) × ProperDue result }
+#[tactic(auto, unfolding(crate::specs::Fristen::aperak_strom_due_at, zaehlung::specs::Walk::day_after))]
+pub fn aperak_strom_due_at(received: Moment) -> Result<Moment, NoDue>
+    ensures { result ≡ aperak_strom_due_at received }
 {
     let day = berlin::berlin_date(received);
     if is_saturday(day) {
         if LAST <= day {
-            return Due::Outside;
+            return Err(NoDue::Outside);
         }
         return clock_on(day + 1, berlin::o_clock(NOON));
     }
@@ -241,9 +200,11 @@ pub fn aperak_strom_due_at(received: Moment) -> Due
 /// receipt day is never that Werktag.
 ///
 /// Received on Monday, 6 January 2025, a holiday: Tuesday, 7 January 12:00.
-pub fn aperak_strom_allgemein_due_at(received: Moment, cal: HolidayCalendar) -> Due
-    requires { Proper received }
-    ensures { (result ≡ aperak_strom_allgemein_due_at (is_werktag cal) received) × ProperDue result }
+pub fn aperak_strom_allgemein_due_at(
+    received: Moment,
+    cal: HolidayCalendar,
+) -> Result<Moment, NoDue>
+    ensures { result ≡ aperak_strom_allgemein_due_at (is_werktag cal) received }
 {
     next_werktag_at(received, berlin::o_clock(NOON), cal)
 }
@@ -252,9 +213,11 @@ pub fn aperak_strom_allgemein_due_at(received: Moment, cal: HolidayCalendar) -> 
 /// nach Eingang des Geschäftsvorfalls'. The receipt day is never that Werktag.
 ///
 /// Received on Friday, 10 January 2025: Monday, 13 January 12:00.
-pub fn aperak_gas_folgeprozess_due_at(received: Moment, cal: HolidayCalendar) -> Due
-    requires { Proper received }
-    ensures { (result ≡ aperak_gas_folgeprozess_due_at (is_werktag cal) received) × ProperDue result }
+pub fn aperak_gas_folgeprozess_due_at(
+    received: Moment,
+    cal: HolidayCalendar,
+) -> Result<Moment, NoDue>
+    ensures { result ≡ aperak_gas_folgeprozess_due_at (is_werktag cal) received }
 {
     next_werktag_at(received, berlin::o_clock(NOON), cal)
 }
@@ -263,9 +226,11 @@ pub fn aperak_gas_folgeprozess_due_at(received: Moment, cal: HolidayCalendar) ->
 /// Geschäftsvorfalls', so the whole third Werktag.
 ///
 /// Received on Monday, 6 January 2025: the end of Thursday, 9 January.
-pub fn aperak_gas_initialprozess_due_at(received: Moment, cal: HolidayCalendar) -> Due
-    requires { Proper received }
-    ensures { (result ≡ aperak_gas_initialprozess_due_at (is_werktag cal) received) × ProperDue result }
+pub fn aperak_gas_initialprozess_due_at(
+    received: Moment,
+    cal: HolidayCalendar,
+) -> Result<Moment, NoDue>
+    ensures { result ≡ aperak_gas_initialprozess_due_at (is_werktag cal) received }
 {
     end_of_werktag_after(received, 3, cal)
 }
@@ -274,89 +239,80 @@ pub fn aperak_gas_initialprozess_due_at(received: Moment, cal: HolidayCalendar) 
 /// Anmeldung MSB (Anwendungsübersicht der Prüfidentifikatoren 4.0, 'ZO-F').
 const GAS_INITIALPROZESS_PIDS: [u32; 4] = [44001, 44016, 44039, 44042];
 
+#[tactic(auto, unfolding(crate::specs::Fristen::is_initial, zaehlung::specs::Lists::any))]
 fn is_initial(pid: u32) -> bool
     ensures { result ≡ is_initial pid }
 {
-    let mut i = 0;
-    while i < 4 {
-        let initial = GAS_INITIALPROZESS_PIDS[i];
-        i += 1;
-        if pid == initial {
-            return true;
-        }
+    GAS_INITIALPROZESS_PIDS.contains(&pid)
+}
+
+/// Which of the two Gas windows a process has.
+#[derive(Clone, Copy, PartialEq, Eq)]
+pub enum GasProzess {
+    Initialprozess,
+    Folgeprozess,
+}
+
+/// Which process a Prüfidentifikator belongs to: 'Gas initial (44001, 44016, 44039, 44042)'. Any other number is a
+/// follow-up.
+#[tactic(auto, unfolding(crate::specs::Fristen::gas_prozess))]
+pub fn gas_prozess(pid: u32) -> GasProzess
+    ensures { result ≡ gas_prozess pid }
+{
+    if is_initial(pid) {
+        return GasProzess::Initialprozess;
     }
-    false
+    GasProzess::Folgeprozess
 }
 
-/// A Gas due instant, and whether it is an initial process's, which decides the kind of the answer.
-#[derive(Clone, Copy)]
-pub struct GasDue {
-    pub initial: bool,
-    pub due: Due,
-}
-
-/// Which of the two Gas windows a Prüfidentifikator has, and when the APERAK is due: 'Gas initial (44001, 44016, 44039,
-/// 44042)'. Any other number is a follow-up.
+/// When the Gas APERAK is due, by its Prüfidentifikator.
 ///
 /// Received on Monday, 6 January 2025: 44001, Anmeldung NN, the end of Thursday, 9 January; 44051, Ende MSB, Tuesday, 7
 /// January 12:00.
-pub fn aperak_gas_due_at(pid: u32, received: Moment, cal: HolidayCalendar) -> GasDue
-    requires { Proper received }
-    ensures { (result ≡ aperak_gas_due_at (is_werktag cal) pid received) × ProperDue result.due }
+#[tactic(auto, unfolding(crate::specs::Fristen::aperak_gas_due_at, crate::specs::Fristen::gas_prozess))]
+pub fn aperak_gas_due_at(pid: u32, received: Moment, cal: HolidayCalendar) -> Result<Moment, NoDue>
+    ensures { result ≡ aperak_gas_due_at (is_werktag cal) pid received }
 {
-    if is_initial(pid) {
-        let due = aperak_gas_initialprozess_due_at(received, cal);
-        return GasDue { initial: true, due };
-    }
-    let due = aperak_gas_folgeprozess_due_at(received, cal);
-    GasDue {
-        initial: false,
-        due,
+    match gas_prozess(pid) {
+        GasProzess::Initialprozess => aperak_gas_initialprozess_due_at(received, cal),
+        GasProzess::Folgeprozess => aperak_gas_folgeprozess_due_at(received, cal),
     }
 }
 
 /// The clock on the first Werktag strictly after the receipt day.
 ///
 /// Friday, 10 January 2025 14:00 and the clock 11:00: Monday, 13 January 11:00. The receipt day is never that Werktag.
-pub fn next_werktag_at(received: Moment, at: Clock, cal: HolidayCalendar) -> Due
-    requires { Proper received × ProperClock at }
-    ensures { (result ≡ next_werktag_at (is_werktag cal) received at) × ProperDue result }
+pub fn next_werktag_at(received: Moment, at: Clock, cal: HolidayCalendar) -> Result<Moment, NoDue>
+    ensures { result ≡ next_werktag_at (is_werktag cal) received at }
 {
     nth_werktag_at(received, 1, at, cal)
 }
 
-/// 0 reads as 1, since the ÜT itself is not 'nach dem ÜT'.
-fn at_least_one(n: u32) -> u32
-    ensures { result ≡ at_least_one n }
-{
-    if n == 0 {
-        return 1;
-    }
-    n
-}
-
 /// The clock on the n-th Werktag after a day; with `n = 0` on the day itself.
-fn nth_werktag_on(day: u32, n: u32, at: Clock, cal: HolidayCalendar) -> Due
-    requires { (day ≤ last) × ProperClock at }
-    ensures { (result ≡ nth_werktag_on (is_werktag cal) day n at) × ProperDue result }
+#[tactic(auto, using(zaehlung::proofs::Laws::add_inside))]
+fn nth_werktag_on(day: u32, n: u32, at: Clock, cal: HolidayCalendar) -> Result<Moment, NoDue>
+    requires { day ≤ last }
+    ensures { result ≡ nth_werktag_on (is_werktag cal) day n at }
 {
-    let Step::Day(due) = schritte::nth_werktag_after(day, n, cal) else {
-        return Due::Outside;
-    };
+    let due = schritte::nth_werktag_after(day, n, cal).ok_or(NoDue::Outside)?;
     clock_on(due, at)
 }
 
 /// The clock on the n-th Werktag strictly after the receipt day: 'spätester ÜZ ist .. Uhr des n. WT nach dem ÜT'.
 ///
-/// With `n = 0`: as with 1.
+/// With `n = 0`: as with 1, since the ÜT itself is not 'nach dem ÜT'.
 ///
 /// Friday, 10 January 2025, two Werktage and the clock 11:00: Tuesday, 14 January 11:00.
-pub fn nth_werktag_at(received: Moment, n: u32, at: Clock, cal: HolidayCalendar) -> Due
-    requires { Proper received × ProperClock at }
-    ensures { (result ≡ nth_werktag_at (is_werktag cal) received n at) × ProperDue result }
+#[tactic(auto, unfolding(crate::specs::Fristen::nth_werktag_at))]
+pub fn nth_werktag_at(
+    received: Moment,
+    n: u32,
+    at: Clock,
+    cal: HolidayCalendar,
+) -> Result<Moment, NoDue>
+    ensures { result ≡ nth_werktag_at (is_werktag cal) received n at }
 {
-    let day = berlin::berlin_date(received);
-    in_parts(nth_werktag_on(day, at_least_one(n), at, cal))
+    nth_werktag_on(berlin::berlin_date(received), n.max(1), at, cal)
 }
 
 /// The end of the n-th Werktag after the receipt day: GeLi Gas, 'bis zum Ablauf des n. Werktags nach Eingang'.
@@ -364,23 +320,24 @@ pub fn nth_werktag_at(received: Moment, n: u32, at: Clock, cal: HolidayCalendar)
 /// With `werktage = 0`: the end of the receipt day, Werktag or not.
 ///
 /// Monday, 6 January 2025 and 3 Werktage: the end of Thursday, 9 January.
-pub fn end_of_werktag_after(received: Moment, werktage: u32, cal: HolidayCalendar) -> Due
-    requires { Proper received }
-    ensures { (result ≡ end_of_werktag_after (is_werktag cal) received werktage) × ProperDue result }
+#[tactic(auto, using(zaehlung::proofs::Laws::add_inside), unfolding(crate::specs::Fristen::end_of_werktag_after))]
+pub fn end_of_werktag_after(
+    received: Moment,
+    werktage: u32,
+    cal: HolidayCalendar,
+) -> Result<Moment, NoDue>
+    ensures { result ≡ end_of_werktag_after (is_werktag cal) received werktage }
 {
     let day = berlin::berlin_date(received);
-    let Step::Day(due) = schritte::nth_werktag_after(day, werktage, cal) else {
-        return Due::Outside;
-    };
-    Due::At(berlin::end_of_day_berlin(due))
+    let due = schritte::nth_werktag_after(day, werktage, cal).ok_or(NoDue::Outside)?;
+    Ok(berlin::end_of_day_berlin(due))
 }
 
 /// That many hours later, weekends and holidays or not. They are hours that pass, not hours on the clock.
 ///
 /// Saturday, 28 March 2026 23:00 and 6 hours: Sunday 06:00, since the clock is put forward that night.
-pub fn add_hours(from: Moment, hours: u32) -> Due
-    requires { Proper from }
-    ensures { (result ≡ add_hours from hours) × ProperDue result }
+pub fn add_hours(from: Moment, hours: u32) -> Result<Moment, NoDue>
+    ensures { result ≡ add_hours from hours }
 {
     instant_later(from, hours / DAY_HOURS, hours % DAY_HOURS * HOUR)
 }
@@ -389,16 +346,19 @@ pub fn add_hours(from: Moment, hours: u32) -> Due
 /// ÜT'.
 ///
 /// With `werktage = 0`: the end of the receipt day. Monday, 6 January 2025 and 5: the end of Monday, 13 January.
-pub fn deadline_at_werktage(from: Moment, werktage: u32, cal: HolidayCalendar) -> Due
-    requires { Proper from }
-    ensures { (result ≡ deadline_at_werktage (is_werktag cal) from werktage) × ProperDue result }
+pub fn deadline_at_werktage(
+    from: Moment,
+    werktage: u32,
+    cal: HolidayCalendar,
+) -> Result<Moment, NoDue>
+    ensures { result ≡ deadline_at_werktage (is_werktag cal) from werktage }
 {
     end_of_werktag_after(from, werktage, cal)
 }
 
 /// The shape of an answer's Frist: 'spätester ÜZ ist .. Uhr des n. WT nach dem ÜT'; 'bis zum Ablauf des n. Werktags
 /// nach Eingang'; 'spätester ÜZ ist .. Uhr am ÜT'; 'am selben Tag wie ..'.
-#[derive(Clone, Copy)]
+#[derive(Clone, Copy, PartialEq, Eq)]
 pub enum FristShape {
     WerktagAt { werktage: u32, at: Clock },
     EndOfWerktag(u32),
@@ -408,31 +368,16 @@ pub enum FristShape {
 
 /// The clock on the receipt day. From that time on, and on a day that is no Werktag, it is the clock on the first
 /// Werktag after it, the second window of GPKE Teil 2. The clock is resolved on the receipt day in any case.
-#[tactic(auto, using(crate::proofs::Rules::same_rules))]
-fn same_day_at(received: Moment, at: Clock, cal: HolidayCalendar) -> Due
-    requires { Proper received × ProperClock at }
-    ensures { (result ≡ same_day_at (is_werktag cal) received at) × ProperDue result }
+#[tactic(auto, unfolding(crate::specs::FristShape::same_day_at, crate::specs::Fristen::nth_werktag_at))]
+fn same_day_at(received: Moment, at: Clock, cal: HolidayCalendar) -> Result<Moment, NoDue>
+    ensures { result ≡ same_day_at (is_werktag cal) received at }
 {
     let day = berlin::berlin_date(received);
-    let Resolved::At(same_day) = berlin::berlin_at(day, at) else {
-        return Due::Absent;
-    };
-    if !werktag::is_werktag_at(day, cal) {
-        return nth_werktag_on(day, 1, at, cal);
-    }
-    if berlin::is_before(received, same_day) {
-        return Due::At(same_day);
+    let same_day = clock_on(day, at)?;
+    if werktag::is_werktag_at(day, cal) && berlin::is_before(received, same_day) {
+        return Ok(same_day);
     }
     nth_werktag_on(day, 1, at, cal)
-}
-
-/// The end of the receipt day.
-fn same_day(received: Moment) -> Due
-    requires { Proper received }
-    ensures { (result ≡ same_day received) × ProperDue result }
-{
-    let day = berlin::berlin_date(received);
-    Due::At(berlin::end_of_day_berlin(day))
 }
 
 impl FristShape {
@@ -440,15 +385,15 @@ impl FristShape {
     ///
     /// `SameDayAt` 12:00, received on Friday, 9 January 2026 at 12:00: Monday, 12 January 12:00; a second earlier, the
     /// same day.
-    pub fn due_at(self, received: Moment, cal: HolidayCalendar) -> Due
-        requires { Proper received × ProperShape self }
-        ensures { (result ≡ due_at_of (is_werktag cal) self received) × ProperDue result }
+    #[tactic(auto, unfolding(crate::specs::FristShape::due_at_of))]
+    pub fn due_at(self, received: Moment, cal: HolidayCalendar) -> Result<Moment, NoDue>
+        ensures { result ≡ due_at_of (is_werktag cal) self received }
     {
         match self {
             FristShape::WerktagAt { werktage, at } => nth_werktag_at(received, werktage, at, cal),
             FristShape::EndOfWerktag(n) => end_of_werktag_after(received, n, cal),
             FristShape::SameDayAt(at) => same_day_at(received, at, cal),
-            FristShape::SameDay => same_day(received),
+            FristShape::SameDay => Ok(berlin::end_of_day_berlin(berlin::berlin_date(received))),
         }
     }
 }

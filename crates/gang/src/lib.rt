@@ -3,14 +3,17 @@
 // over; the list is asked from Monday to Friday alone.
 #![tactic(auto)]
 
-ghost use Rattle.std.specs.Prelude.{◌≡◌, ◌+◌, ◌-◌, ◌%◌, ◌≤◌, ◌<◌};
+ghost use Rattle.std.specs.Prelude.{ℕ, Bool, Option, MatchOption, Some, None, IfSome, ◌≡◌, ◌+◌, ◌-◌, ◌%◌, ◌≤◌, ◌<◌};
 ghost use Rattle.zaehlung.specs.Walk.{last, bit, add, sub, between};
-ghost use Rattle.datum.specs.Tage.{tag_at, tag_step};
+ghost use Rattle.zaehlung.proofs.Laws.{add_none, add_inside, sub_none, sub_inside};
+ghost use Rattle.datum.specs.Calendar.{weekday};
+ghost use Rattle.werktag.specs.declared.HolidayCalendar.{HolidayCalendar};
 ghost use Rattle.werktag.specs.Werktag.{is_werktag};
-ghost use Rattle.gang.specs.Stand.{Stands, to_weekday, from_weekday};
+ghost use Rattle.gang.specs.Stand.{to_weekday, from_weekday};
 
-use datum::tage::{Tag, TagStep};
-use werktag::HolidayCalendar;
+use datum::tage::Tag;
+use std::marker::Model;
+use werktag::{HolidayCalendar, Kalendertag};
 use zaehlung::LAST;
 
 /// The days of a week, and weekdays, Monday being 0.
@@ -22,14 +25,42 @@ const FRIDAY: u32 = 4;
 
 const SUNDAY: u32 = 6;
 
-/// What a walk knows of the day at which it stands: the day taken apart, its weekday, the days of its month, and Easter
-/// Sunday's index where the month needs it.
+/// What a walk knows of the day at which it stands: the day as the list's tests need it, and the days of its month. A
+/// clause sees the day's index.
 #[derive(Clone, Copy)]
 pub struct Stand {
-    pub tag: Tag,
-    pub wday: u32,
+    pub day: Kalendertag,
     pub length: u8,
-    pub easter: u32,
+}
+
+impl Model for Stand {
+    ghost use Rattle.std.specs.Prelude.{ℕ, ◌≡◌};
+    ghost use Rattle.std.specs.Coded.{coded_ℕ};
+    ghost use Rattle.datum.specs.Calendar.{is_leap, days_in_month, date_of};
+    ghost use Rattle.std.proofs.Common.{ap, sym};
+
+    ghost Value = { ℕ };
+
+    ghost coded = { coded_ℕ };
+
+    ghost view = { λ s. s.day };
+
+    ghost invariant = { λ s. s.length ≡ days_in_month (is_leap (date_of s.day).year) (date_of s.day).month };
+
+    ghost inverse = { λ i. record { day = i; length = days_in_month (is_leap (date_of i).year) (date_of i).month } };
+
+    ghost inverse_ok = { λ a h. ap (λ n. record { day = a.day; length = n }) (sym h) };
+}
+
+impl Stand {
+    /// The index of the day at which a walk stands.
+    pub fn index(self) -> u32
+        ensures { (result ≡ self) × (result ≤ last) }
+    {
+        let day = self.day;
+        let tag = day.tag;
+        tag.index
+    }
 }
 
 /// The weekday some days later, up to a week.
@@ -88,148 +119,186 @@ fn from_weekday(wday: u32) -> u8
 
 /// A walk begins: the one time that its day's weekday, month and Easter are looked up.
 pub fn stand_at(tag: Tag) -> Stand
-    requires { (tag ≡ tag_at tag.index) × (tag.index ≤ last) }
-    ensures { (Stands result) × (result.tag ≡ tag) }
+    ensures { result ≡ tag }
 {
     Stand {
-        tag,
-        wday: datum::weekday(tag.index),
-        length: datum::tage::month_length(tag),
-        easter: werktag::easter_for(tag.date.year, tag.date.month),
+        day: Kalendertag::of(tag),
+        length: datum::tage::month_length(tag.date),
     }
 }
 
 /// Some days on, up to a week: in the month by the parts that are known, past its last day with the next month's length
 /// and Easter.
-#[tactic(auto, using(crate::proofs::Rules::stand_rules))]
 pub fn on(stand: Stand, days: u8) -> Stand
-    requires { (Stands stand) × (days ≤ 7) × (stand.tag.index + days ≤ last) }
-    ensures { (Stands result) × (result.tag.index ≡ stand.tag.index + days) }
+    requires { (days ≤ 7) × (stand + days ≤ last) }
+    ensures { result ≡ stand + days }
 {
-    let wday = weekday_later(stand.wday, days);
-    if stand.tag.date.day + days <= stand.length {
-        return Stand {
-            tag: datum::tage::later_in_month(stand.tag, days),
+    let length = stand.length;
+    let day = stand.day;
+    let tag = day.tag;
+    let wday = weekday_later(day.wday, days);
+    if tag.date.day + days <= length {
+        let tag = datum::tage::later_in_month(tag, days);
+        let day = Kalendertag {
+            tag,
             wday,
-            length: stand.length,
-            easter: stand.easter,
+            easter: day.easter,
         };
+        return Stand { day, length };
     }
-    let tag = datum::tage::into_next_month(stand.tag, stand.length, days);
+    let tag = datum::tage::into_next_month(tag, length, days);
+    let easter = werktag::easter_for(tag.date.year, tag.date.month);
     Stand {
-        tag,
-        wday,
-        length: datum::tage::month_length(tag),
-        easter: werktag::easter_for(tag.date.year, tag.date.month),
+        day: Kalendertag { tag, wday, easter },
+        length: datum::tage::month_length(tag.date),
     }
 }
 
 /// Some days back, up to a week.
 pub fn back(stand: Stand, days: u8) -> Stand
-    requires { (Stands stand) × (days ≤ 7) × (days ≤ stand.tag.index) }
-    ensures { (Stands result) × (result.tag.index ≡ stand.tag.index - days) }
+    requires { (days ≤ 7) × (days ≤ stand) }
+    ensures { result ≡ stand - days }
 {
-    let wday = weekday_earlier(stand.wday, days);
-    if days < stand.tag.date.day {
-        return Stand {
-            tag: datum::tage::earlier_in_month(stand.tag, days),
+    let day = stand.day;
+    let tag = day.tag;
+    let wday = weekday_earlier(day.wday, days);
+    if days < tag.date.day {
+        let tag = datum::tage::earlier_in_month(tag, days);
+        let day = Kalendertag {
+            tag,
             wday,
+            easter: day.easter,
+        };
+        return Stand {
+            day,
             length: stand.length,
-            easter: stand.easter,
         };
     }
-    let tag = datum::tage::into_month_before(stand.tag, days);
+    let tag = datum::tage::into_month_before(tag, days);
+    let easter = werktag::easter_for(tag.date.year, tag.date.month);
     Stand {
-        tag,
-        wday,
-        length: datum::tage::month_length(tag),
-        easter: werktag::easter_for(tag.date.year, tag.date.month),
+        day: Kalendertag { tag, wday, easter },
+        length: datum::tage::month_length(tag.date),
     }
 }
 
 /// Whether a walk stands at a Werktag.
 pub fn at_werktag(stand: Stand, cal: HolidayCalendar) -> bool
-    requires { Stands stand }
-    ensures { result ≡ is_werktag cal stand.tag.index }
+    ensures { result ≡ is_werktag cal stand }
 {
-    if FRIDAY < stand.wday {
-        return false;
-    }
-    werktag::is_open_weekday(stand.tag, stand.wday, stand.easter, cal)
+    let day = stand.day;
+    day.wday <= FRIDAY && werktag::is_open_weekday(day, cal)
 }
 
-/// 1 where a walk stands at a Werktag, else 0.
-pub fn werktage_at(stand: Stand, cal: HolidayCalendar) -> u32
-    requires { Stands stand }
-    ensures { (result ≡ bit (is_werktag cal stand.tag.index)) × (result ≤ 1) }
-{
-    if at_werktag(stand, cal) {
-        return 1;
-    }
-    0
+/// The direction of a walk over Werktage: `step` is what it reaches after a number of Werktage, and `left` the days
+/// that the calendar still has in it.
+pub trait Richtung {
+    ghost step: { (ℕ → Bool) → ℕ → ℕ → Option ℕ };
+
+    ghost left: { ℕ → ℕ };
+
+    /// The next day from Monday to Friday, or none where the calendar ends before it. Between the two no day is a
+    /// Werktag, so from there on a walk of any Werktage goes as from here.
+    fn next_weekday(stand: Stand) -> Option<Stand>
+        ensures found { IfSome result (λ s. (weekday s < 5) × (left s < left stand)) }
+        ensures turn { (cal : HolidayCalendar) (m : ℕ) → 0 < m → MatchOption result
+            (step (is_werktag cal) stand m ≡ None)
+            (λ s. step (is_werktag cal) stand m ≡ step (is_werktag cal) s (m - bit (is_werktag cal s))) };
+
+    // A walk of no Werktage stays where it is.
+    ghost none: { (w : ℕ → Bool) (d : ℕ) → step w d 0 ≡ Some d };
+
+    // No walk leaves the calendar and reaches a day.
+    ghost within: { (w : ℕ → Bool) (d n e : ℕ) → d ≤ last → step w d n ≡ Some e → e ≤ last };
 }
 
-/// The `n`-th Werktag after `from`, from weekday to weekday.
-///
-/// Thursday 2 April 2026 and 1 Werktag, over Easter: Tuesday 7 April.
-pub fn add_werktage(from: Tag, n: u32, cal: HolidayCalendar) -> TagStep
-    requires { (from ≡ tag_at from.index) × (from.index ≤ last) }
-    ensures { result ≡ tag_step (add (is_werktag cal) from.index n) }
-{
-    let mut at = stand_at(from);
-    let mut remaining = n;
-    while 0 < remaining {
-        let days = to_weekday(at.wday);
+/// Forward: to the Werktage after a day.
+pub struct Vor;
+
+/// Back: to the Werktage before it.
+pub struct Zurueck;
+
+impl Richtung for Vor {
+    ghost step = { add };
+
+    ghost left = { λ d. last - d };
+
+    ghost none = { add_none };
+
+    ghost within = { add_inside };
+
+    fn next_weekday(stand: Stand) -> Option<Stand> {
+        let day = stand.day;
+        let days = to_weekday(day.wday);
         let ahead = days as u32;
-        if LAST - at.tag.index < ahead {
-            return TagStep::Outside;
+        if LAST - stand.index() < ahead {
+            return None;
         }
-        at = on(at, days);
-        if werktag::is_open_weekday(at.tag, at.wday, at.easter, cal) {
-            remaining -= 1;
-        }
+        Some(on(stand, days))
     }
-    let tag = at.tag;
-    TagStep::At(tag)
 }
 
-/// The `n`-th Werktag before `from`, from weekday to weekday.
+impl Richtung for Zurueck {
+    ghost step = { sub };
+
+    ghost left = { λ d. d };
+
+    ghost none = { sub_none };
+
+    ghost within = { sub_inside };
+
+    fn next_weekday(stand: Stand) -> Option<Stand> {
+        let day = stand.day;
+        let days = from_weekday(day.wday);
+        if stand.index() < (days as u32) {
+            return None;
+        }
+        Some(back(stand, days))
+    }
+}
+
+/// The next Werktag in a direction, from weekday to weekday.
+fn next_werktag<R: Richtung>(stand: Stand, cal: HolidayCalendar) -> Option<Stand>
+    ensures { (m : ℕ) → 0 < m → MatchOption result (R.step (is_werktag cal) stand m ≡ None)
+        (λ s. R.step (is_werktag cal) stand m ≡ R.step (is_werktag cal) s (m - 1)) }
+{
+    let mut at = R::next_weekday(stand)?;
+    while !werktag::is_open_weekday(at.day, cal) {
+        at = R::next_weekday(at)?;
+    }
+    Some(at)
+}
+
+/// The `n`-th Werktag from a day on in a direction; with `n = 0` the day itself.
 ///
-/// Tuesday 7 April 2026 less 1 Werktag: Thursday 2 April.
-pub fn sub_werktage(from: Tag, n: u32, cal: HolidayCalendar) -> TagStep
-    requires { (from ≡ tag_at from.index) × (from.index ≤ last) }
-    ensures { result ≡ tag_step (sub (is_werktag cal) from.index n) }
+/// Forward from Thursday 2 April 2026 with 1, over Easter: Tuesday 7 April. Back from there with 1: the Thursday.
+pub fn nth_werktag<R: Richtung>(from: Tag, n: u32, cal: HolidayCalendar) -> Option<Tag>
+    ensures { result ≡ R.step (is_werktag cal) from n }
 {
     let mut at = stand_at(from);
-    let mut remaining = n;
-    while 0 < remaining {
-        let days = from_weekday(at.wday);
-        if at.tag.index < (days as u32) {
-            return TagStep::Outside;
-        }
-        at = back(at, days);
-        if werktag::is_open_weekday(at.tag, at.wday, at.easter, cal) {
-            remaining -= 1;
-        }
+    for _ in 0..n {
+        at = next_werktag::<R>(at, cal)?;
     }
-    let tag = at.tag;
-    TagStep::At(tag)
+    let day = at.day;
+    Some(day.tag)
 }
 
 /// The Werktage after `from` up to and including the day `to`, from weekday to weekday.
 pub fn werktage_between(from: Tag, to: u32, cal: HolidayCalendar) -> u32
-    requires { (from ≡ tag_at from.index) × (from.index ≤ to) × (to ≤ last) }
-    ensures { result ≡ between (is_werktag cal) from.index to }
+    requires { (from ≤ to) × (to ≤ last) }
+    ensures { result ≡ between (is_werktag cal) from to }
 {
     let mut at = stand_at(from);
     let mut count: u32 = 0;
-    while at.tag.index < to {
-        let days = to_weekday(at.wday);
-        if to - at.tag.index < (days as u32) {
+    // No iterator: a step is one to three days.
+    while at.index() < to {
+        let day = at.day;
+        let days = to_weekday(day.wday);
+        if to - at.index() < (days as u32) {
             return count;
         }
         at = on(at, days);
-        if werktag::is_open_weekday(at.tag, at.wday, at.easter, cal) {
+        if werktag::is_open_weekday(at.day, cal) {
             count += 1;
         }
     }

@@ -4,29 +4,29 @@
 --   weekday_rules   `weekday_or_none`
 --   may_rules       `himmelfahrt`
 --   listed_is       `weekday_holidays`
---   known_rules     `holiday_year`
---   before_rules    `one_before`
---   number_rules    `number_before`: b is what place i of the list adds
---   count_rules     `werktage_in`: a and b are weekdays, m the holidays among them
---   year_of_rules   `werktage_in_year`: j is what `holiday_year` returned
+--   known_rules     `HolidayYear::new`
+--   number_rules    `number_before`: m is the number so far, b what place i of the list adds
+--   count_rules     `HolidayYear::werktage`: v is the year, j its fields, a and b are weekdays, m the holidays among
+--                   them
 -- Assumes nothing.
 use Prim.Native.Nat.{ℕ, ◌+◌, ◌-◌, ◌%◌, ◌≤◌, ◌<◌}
 use mathlib.Core.Bool.{Bool, true, false, ◌&&◌}
 use mathlib.Core.List.{List, [], ◌∷◌, map}
-use mathlib.Core.Path.{◌≡◌, refl, sym, ap, ap₂, ◌∙◌}
+use mathlib.Core.Path.{◌≡◌, refl, sym, ap, ap₂, ◌∙◌, subst}
 use native.Mathlib.Omega.{arith}
-use native.Mathlib.Numerals.{add-one}
 use lib.Dec.{eqb, ltb}
 use lib.ListN.{length, get_or, drop, drop_of_length-le}
 use lib.Seq.{drop-cons}
+use native.Mathlib.Numerals.{add-one}
+use Rattle.std.specs.Int.{from_bool}
 use mir.Syntax.{w32}
 use mir.Val.{Fits}
-use borrow.Author.Tests.{eq-eqb, ne_eqb, le-leb, lt-leb, lt-ltb, le-ltb}
+use borrow.Author.Tests.{eq-eqb, ne_eqb, le-leb, lt-leb, le-ltb}
 use Rattle.zaehlung.specs.Walk.{bit, among}
 use Rattle.zaehlung.specs.Lists.{each, below}
 use Rattle.zaehlung.proofs.Tests.{and_yes, and_no}
 use Rattle.zaehlung.proofs.Every.{split}
-use Rattle.zaehlung.proofs.Count.{count_le}
+use Rattle.zaehlung.proofs.Count.{bit_small, count_le}
 use Rattle.zaehlung.proofs.Striking.{count_strikes}
 use Rattle.datum.specs.Calendar.{is_leap, year_len, year_start, weekday}
 use Rattle.datum.proofs.Years.{year_len_bounds}
@@ -36,29 +36,29 @@ use Rattle.werktag.specs.Easter.{easter_index}
 use Rattle.werktag.specs.Werktag.{is_werktag}
 use Rattle.werktag.proofs.Easter.{easter_is}
 use Rattle.jahre.specs.declared.Year.{Year}
-use Rattle.jahre.specs.declared.HolidayYear.{HolidayYear}
+use Rattle.jahre.specs.declared.HolidayYear.TheInside.{Inside}
+use Rattle.jahre.specs.CalendarYear.{CalendarYear}
 use Rattle.jahre.specs.Year.{year_numbers, on_weekday, weekdays, bettag_in, himmelfahrt_in, holidays}
 use Rattle.jahre.specs.Year.{no_day, or_no_day, himmelfahrt_or, weekday_holidays, holiday_year}
 use Rattle.jahre.proofs.Days.{Usual, usual}
 use Rattle.jahre.proofs.Counts.{in_year, count_weekdays, year_among}
+
+as_bit : (b : Bool) → from_bool b ≡ bit b
+as_bit true = refl
+as_bit false = refl
 
 -- year_numbers
 module _ (k s i : ℕ) (p : s ≡ year_start k) (index : i ≡ easter_index (1996 + k)) where
   pub in_its_year : s ≤ i
   in_its_year = omega (arith, index, easter_is k)
 
-  module _ (f : ℕ) (b : Bool) (g : f ≡ weekday s) (t : b ≡ is_leap (1996 + k)) where
-    numbers : (l : ℕ) → l ≡ bit b → ◌≡◌ {A = Year} (record { first = f; leaps = l; easter = i - s }) (year_numbers k)
-    unfolding year_numbers
-    numbers l u = rw (u, t, g, index, p)
+  pub numbers :
+      (f l : ℕ) → f ≡ weekday s → l ≡ from_bool (is_leap (1996 + k)) →
+      ◌≡◌ {A = Year} (record { first = f; leaps = l; easter = i - s }) (year_numbers k)
+  unfolding year_numbers
+  numbers f l g u = rw (u, g, index, p) (rw (as_bit (is_leap (1996 + k))))
 
-    pub leap_year : b ≡ true → ◌≡◌ {A = Year} (record { first = f; leaps = 1; easter = i - s }) (year_numbers k)
-    leap_year z = numbers 1 (rw z)
-
-    pub common_year : b ≡ false → ◌≡◌ {A = Year} (record { first = f; leaps = 0; easter = i - s }) (year_numbers k)
-    common_year z = numbers 0 (rw z)
-
-pub ruleset year_rules = (in_its_year, leap_year, common_year)
+pub ruleset year_rules = (in_its_year, numbers)
 
 -- weekday_or_none
 module _ (f x : ℕ) where
@@ -137,7 +137,7 @@ module _ (y : Year) where
         ← feast_on f e s 60 (omega arith),
       ))
 
--- holiday_year, and what a caller of `werktage_in` knows by it
+-- HolidayYear::new
 module _ (k : ℕ) (y : Year) (h : k ≤ 903) (e : y ≡ year_numbers k) where
   is_usual : Usual y
   is_usual = rw e (usual k (omega arith))
@@ -159,33 +159,24 @@ module _ (k : ℕ) (y : Year) (h : k ≤ 903) (e : y ≡ year_numbers k) where
 
   pub known :
       (cal : HolidayCalendar) (xs : List ℕ) → xs ≡ weekday_holidays y →
-      ◌≡◌ {A = HolidayYear} (record { year = k; first = y.first; holidays = xs }) (holiday_year cal k)
+      ◌≡◌ {A = Inside} (record { cal = cal; year = k; first = y.first; holidays = xs }) (holiday_year cal k)
   unfolding holiday_year
   known BdewMaKo xs l = rw (l, e)
 
 pub ruleset known_rules = (first_small, leaps_small, easter_late, easter_small, easter_sunday_lem, known)
 
--- one_before
-module _ (n x : ℕ) where
-  pub one_more : x < n → 1 ≡ bit (ltb x n)
-  one_more h = rw (lt-ltb x n h)
-
-  pub none_more : n ≤ x → 0 ≡ bit (ltb x n)
-  none_more h = rw (le-ltb x n h)
-
-pub ruleset before_rules = (one_more, none_more)
-
 -- number_before
 module _
     (n i m : ℕ) (days : List ℕ) (l : length days ≡ 20) (e : m + below (drop i days) n ≡ below days n) where
   pub number_more :
-      (b : ℕ) → i < 20 → b ≡ bit (ltb (get_or days i 0) n) → m + b + below (drop (i + 1) days) n ≡ below days n
+      (b : ℕ) → i < 20 → b ≡ from_bool (ltb (get_or days i 0) n) →
+      m + b + below (drop (i + 1) days) n ≡ below days n
   unfolding below
   number_more b h q =
       let c = drop-cons days i 0 (omega arith) in
       let a = ap (λ (xs : List ℕ). below xs n) c in
       let s = ap (λ (j : ℕ). below (drop j days) n) (add-one i) in
-      omega arith
+      omega (arith, q, as_bit (ltb (get_or days i 0) n))
 
   pub number_all : 20 ≤ i → m ≡ below days n
   unfolding below
@@ -194,12 +185,12 @@ module _
       let q = ap (λ (xs : List ℕ). below xs n) (drop_of_length-le days b) in
       omega arith
 
-pub number_none : (n : ℕ) (days : List ℕ) → 0 + below (drop 0 days) n ≡ below days n
-number_none n days = omega arith
+pub number_few : (m i b : ℕ) (p : Bool) → m ≤ i → b ≡ from_bool p → m + b ≤ i + 1
+number_few m i b p h e = omega (arith, as_bit p, bit_small p)
 
-pub ruleset number_rules = (number_none, number_more, number_all)
+pub ruleset number_rules = (number_more, number_all, number_few)
 
--- werktage_in: among the days before n the holidays on weekdays are those that the year has in its list
+-- werktage: among the days before n the holidays on weekdays are those that the year has in its list
 bit_each : (f n x : ℕ) → n ≤ 366 → bit (ltb (or_no_day f x) n) ≡ bit (ltb x n && on_weekday f x)
 unfolding or_no_day
 bit_each f n x h =
@@ -219,23 +210,31 @@ known_is :
 unfolding holiday_year
 known_is BdewMaKo k = (refl, refl)
 
-module _ (cal : HolidayCalendar) (j : HolidayYear) (h : j.year ≤ 903) (e : j ≡ holiday_year cal j.year) where
+module _
+    (v : CalendarYear) (j : Inside) (view : ◌≡◌ {A = CalendarYear} (record { calendar = j.cal; year = j.year }) v)
+    (h : j.year ≤ 903) (e : j ≡ holiday_year j.cal j.year) where
   first_of : j.first ≡ (year_numbers j.year).first
-  first_of = ap (λ (x : HolidayYear). x.first) e ∙ (known_is cal j.year).0
+  first_of = ap (λ (x : Inside). x.first) e ∙ (known_is j.cal j.year).0
 
   holidays_of : j.holidays ≡ weekday_holidays (year_numbers j.year)
-  holidays_of = ap (λ (x : HolidayYear). x.holidays) e ∙ (known_is cal j.year).1
+  holidays_of = ap (λ (x : Inside). x.holidays) e ∙ (known_is j.cal j.year).1
 
-  pub first_few : j.first ≤ 400
-  first_few = omega (arith, first_of, (usual j.year (omega arith)).first_to)
+  same_year : j.year ≡ v.year
+  same_year = ap (λ (x : CalendarYear). x.year) view
 
   pub all_twenty : length j.holidays ≡ 20
   unfolding weekday_holidays holidays
   all_twenty = rw holidays_of
 
-  module _ (n : ℕ) (g : n ≤ year_len j.year) where
+  pub first_few : j.first ≤ 400
+  first_few = omega (arith, first_of, (usual j.year (omega arith)).first_to)
+
+  module _ (n : ℕ) (g : n ≤ year_len v.year) where
+    in_year_days : n ≤ year_len j.year
+    in_year_days = rw same_year g
+
     pub days_on : j.first + n ≤ 400
-    days_on = omega (arith, first_of, (usual j.year (omega arith)).first_to, year_len_bounds j.year)
+    days_on = omega (arith, first_of, (usual j.year (omega arith)).first_to, in_year_days, year_len_bounds j.year)
 
     pub days_fit : Fits w32 (j.first + n)
     days_fit = record { fits = omega (arith, days_on) }
@@ -250,7 +249,7 @@ module _ (cal : HolidayCalendar) (j : HolidayYear) (h : j.year ≤ 903) (e : j �
         struck =
             s ∙ ap (λ (xs : List ℕ). below xs n) holidays_of
             ∙ rw first_of
-            (below_each _ n (holidays (year_numbers j.year)) (omega (arith, year_len_bounds j.year)))
+            (below_each _ n (holidays (year_numbers j.year)) (omega (arith, in_year_days, year_len_bounds j.year)))
 
         pub no_more : m ≤ a - b
         no_more =
@@ -259,16 +258,20 @@ module _ (cal : HolidayCalendar) (j : HolidayYear) (h : j.year ≤ 903) (e : j �
             let s = count_strikes f (holidays y) n (usual j.year (omega arith)).once_each in
             omega (arith, rw first_of at struck, rw first_of at p, rw first_of at q, count_weekdays y.first n)
 
-        pub counts : a - b - m ≡ among (is_werktag cal) (year_start j.year) n
+        pub counts : a - b - m ≡ among (is_werktag v.calendar) (year_start v.year) n
         unfolding in_year
-        counts = rw (p, q, struck, first_of) (sym (year_among cal j.year n (omega arith) g))
+        counts =
+            let c : a - b - m ≡ among (is_werktag j.cal) (year_start j.year) n =
+            rw (p, q, struck, first_of) (sym (year_among j.cal j.year n (omega arith) in_year_days)) in
+            let P : CalendarYear → Type 0 = λ x. a - b - m ≡ among (is_werktag x.calendar) (year_start x.year) n in
+            subst P view c
 
         pub counts_few : a - b - m ≤ n
         counts_few = omega (arith, count_weekdays j.first n, count_le (on_weekday j.first) n)
 
 pub ruleset count_rules = (
-  first_few,
   all_twenty,
+  first_few,
   days_on,
   days_fit,
   no_fewer,
@@ -276,27 +279,3 @@ pub ruleset count_rules = (
   counts,
   counts_few,
 )
-
--- werktage_in_year
-module _ (cal : HolidayCalendar) (k : ℕ) (j : HolidayYear) (e : j ≡ holiday_year cal k) where
-  same_year : j.year ≡ k
-  unfolding holiday_year
-  same_year = ap (λ (x : HolidayYear). x.year) e ∙ by cal
-    where
-      by : (cal : HolidayCalendar) → (holiday_year cal k).year ≡ k
-      by BdewMaKo = refl
-
-  pub year_within : k ≤ 903 → j.year ≤ 903
-  year_within h = omega (arith, same_year)
-
-  pub year_known : j ≡ holiday_year cal j.year
-  year_known = e ∙ ap (holiday_year cal) (sym same_year)
-
-  pub days_within : (n : ℕ) → n ≤ year_len k → n ≤ year_len j.year
-  days_within n h = rw same_year h
-
-  pub of_year :
-      (r n : ℕ) → r ≡ among (is_werktag cal) (year_start j.year) n → r ≡ among (is_werktag cal) (year_start k) n
-  of_year r n p = rw same_year at p
-
-pub ruleset year_of_rules = (year_within, year_known, days_within, of_year)

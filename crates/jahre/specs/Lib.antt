@@ -1,1 +1,2 @@
+pub mod CalendarYear
 pub mod Year

@@ -12,7 +12,7 @@
 --   or_no_day f r      = day r, if it is a weekday, else no_day
 --   himmelfahrt_or l e = Christi Himmelfahrt, unless it falls on 1 May
 --   weekday_holidays y = the holidays, with no day in the places of Saturdays and Sundays
---   holiday_year cal k = the year 1996 + k as a count inside it needs it
+--   holiday_year cal k = the fields of the year 1996 + k as a count inside it needs it
 -- Source: document 01, 'lib.rs, calendar', with each date as a day of the year.
 -- Assumes nothing.
 use Rattle.std.specs.Prelude.{ℕ, ◌+◌, ◌-◌, ◌/◌, ◌%◌, Bool, not, cond, List, [], ◌∷◌, ◌++◌, map, eqb, leb}
@@ -22,7 +22,7 @@ use Rattle.werktag.specs.declared.HolidayCalendar.{HolidayCalendar}
 use Rattle.werktag.specs.declared.HolidayCalendar.TheVariants.{BdewMaKo}
 use Rattle.werktag.specs.Easter.{easter_index}
 use Rattle.jahre.specs.declared.Year.{Year}
-use Rattle.jahre.specs.declared.HolidayYear.{HolidayYear}
+use Rattle.jahre.specs.declared.HolidayYear.TheInside.{Inside}
 
 unfoldable pub year_numbers : ℕ → Year
 year_numbers k =
@@ -71,7 +71,7 @@ himmelfahrt_or l e = cond (eqb (e + 39) (120 + l)) no_day (e + 39)
 unfoldable pub weekday_holidays : Year → List ℕ
 weekday_holidays y = map (or_no_day y.first) (holidays y)
 
-unfoldable pub holiday_year : HolidayCalendar → ℕ → HolidayYear
+unfoldable pub holiday_year : HolidayCalendar → ℕ → Inside
 holiday_year BdewMaKo k =
     let y = year_numbers k in
-    record { year = k; first = y.first; holidays = weekday_holidays y }
+    record { cal = BdewMaKo; year = k; first = y.first; holidays = weekday_holidays y }

@@ -7,8 +7,9 @@ ghost use Rattle.zaehlung.specs.Walk.{bit, among};
 ghost use Rattle.zaehlung.specs.Lists.{below};
 ghost use Rattle.datum.specs.Calendar.{year_len, year_start};
 ghost use Rattle.werktag.specs.Werktag.{is_werktag};
-ghost use Rattle.jahre.specs.Year.{year_numbers, weekdays, or_no_day, himmelfahrt_or, weekday_holidays, holiday_year};
+ghost use Rattle.jahre.specs.Year.{year_numbers, weekdays, or_no_day, himmelfahrt_or, weekday_holidays};
 
+use std::marker::Model;
 use werktag::HolidayCalendar;
 
 /// A year's own numbers: the weekday of its 1 January, its leap days, and Easter Sunday as a day of the year.
@@ -19,13 +20,27 @@ pub struct Year {
     pub easter: u32,
 }
 
-/// A year as a count inside it needs it: which one, the weekday of its 1 January, and its holidays on weekdays, in
-/// document 01's order; in the place of one that is a Saturday or Sunday stands `NO_DAY`.
-#[derive(Clone, Copy)]
+/// A year of a calendar as a count inside it needs it: with the weekday of its 1 January, and its holidays on weekdays,
+/// in document 01's order; in the place of one that is a Saturday or Sunday stands `NO_DAY`.
+#[derive(Drop)]
 pub struct HolidayYear {
-    pub year: u32,
-    pub first: u32,
-    pub holidays: [u32; 20],
+    cal: HolidayCalendar,
+    year: u32,
+    first: u32,
+    holidays: [u32; 20],
+}
+
+impl Model for HolidayYear {
+    ghost use Rattle.std.specs.Prelude.{◌≡◌, ◌≤◌};
+    ghost use Rattle.jahre.specs.CalendarYear.{CalendarYear};
+
+    ghost Value = { CalendarYear };
+
+    ghost use Rattle.jahre.specs.Year.{holiday_year};
+
+    ghost view = { λ a. record { calendar = a.cal; year = a.year } };
+
+    ghost invariant = { λ a. (a.year ≤ 903) × (a ≡ holiday_year a.cal a.year) };
 }
 
 /// The days of a week, and those from Monday to Friday.
@@ -36,38 +51,28 @@ const WEEKDAYS: u32 = 5;
 /// 1 May of a common year.
 const TAG_DER_ARBEIT: u32 = 120;
 
-/// The holidays of a year.
-const HOLIDAYS: usize = 20;
-
-/// A day that no year has.
+/// A day that no year has. It stands for no day: with an `Option` in its place a count takes twice as long.
 const NO_DAY: u32 = 366;
 
 /// The numbers of the year 1996 + k.
 ///
 /// 2026 begins on a Thursday, has no leap day, and Easter Sunday, 5 April, is its day 94.
+#[tactic(auto, using(crate::proofs::Rules::year_rules))]
 fn year_numbers(k: u32) -> Year
     requires { k ≤ 903 }
     ensures { result ≡ year_numbers k }
 {
     let year = datum::FIRST_YEAR + (k as u16);
     let start = datum::year_start(k);
-    let easter = werktag::easter_sunday(year) - start;
-    let first = datum::weekday(start);
-    if datum::is_leap(year) {
-        return Year {
-            first,
-            leaps: 1,
-            easter,
-        };
-    }
     Year {
-        first,
-        leaps: 0,
-        easter,
+        first: datum::weekday(start),
+        leaps: u32::from(datum::is_leap(year)),
+        easter: werktag::easter_sunday(year) - start,
     }
 }
 
 /// How many of `m` days from a Monday on are weekdays: less the Saturdays, less the Sundays.
+#[tactic(auto, unfolding(crate::specs::Year::weekdays))]
 fn weekdays_of(m: u32) -> u32
     requires { m ≤ 400 }
     ensures { (result ≡ weekdays m) × (result ≤ 400) }
@@ -78,6 +83,7 @@ fn weekdays_of(m: u32) -> u32
 /// A day of a year that begins on weekday `first`, if it is a weekday.
 ///
 /// In 2026, which begins on a Thursday: 6 January, day 5, is a Tuesday; 8 March, day 66, a Sunday and so no day.
+#[tactic(auto, using(crate::proofs::Rules::weekday_rules))]
 fn weekday_or_none(first: u32, day: u32) -> u32
     requires { (first < 7) × (day ≤ 366) }
     ensures { result ≡ or_no_day first day }
@@ -89,7 +95,7 @@ fn weekday_or_none(first: u32, day: u32) -> u32
 }
 
 /// Christi Himmelfahrt, a Thursday, unless it falls on 1 May, a holiday already.
-#[tactic(auto, using(crate::proofs::Rules::on_may))]
+#[tactic(auto, using(crate::proofs::Rules::may_rules))]
 fn himmelfahrt(leaps: u32, easter: u32) -> u32
     requires { (leaps ≤ 1) × (easter ≤ 116) }
     ensures { result ≡ himmelfahrt_or leaps easter }
@@ -102,6 +108,7 @@ fn himmelfahrt(leaps: u32, easter: u32) -> u32
 
 /// The holidays of a year that are weekdays, each in its place. Only the fixed days need a test: Buß- und Bettag is a
 /// Wednesday, and what moves with Easter Sunday stays on its weekday, Pfingstsonntag on a Sunday.
+#[tactic(auto, using(crate::proofs::Rules::listed_is))]
 fn weekday_holidays(year: Year) -> [u32; 20]
     requires first_bound { (year.first < 7) × (year.leaps ≤ 1) × (2 ≤ year.easter) × (year.easter ≤ 116) }
     requires easter_value { (year.first + year.easter) % 7 ≡ 6 }
@@ -134,58 +141,48 @@ fn weekday_holidays(year: Year) -> [u32; 20]
     ]
 }
 
-/// The year 1996 + k as a count inside it needs it.
-pub fn holiday_year(k: u32, cal: HolidayCalendar) -> HolidayYear
-    requires { k ≤ 903 }
-    ensures { result ≡ holiday_year cal k }
+/// How many of a year's holidays lie before day `n`. A chain that filters and counts them takes five times as long.
+fn number_before(days: &[u32; 20], n: u32) -> u32
+    requires { length days.now ≡ 20 }
+    ensures { result ≡ below days.now n }
 {
-    match cal {
-        HolidayCalendar::BdewMaKo => {
-            let numbers = year_numbers(k);
-            let holidays = weekday_holidays(numbers);
-            HolidayYear {
-                year: k,
-                first: numbers.first,
-                holidays,
-            }
-        }
-    }
-}
-
-/// 1 for a day before day `n`, else 0.
-fn one_before(day: u32, n: u32) -> u32
-    ensures { (result ≡ bit (ltb day n)) × (result ≤ 1) }
-{
-    if day < n {
-        return 1;
-    }
-    0
-}
-
-/// How many of twenty days lie before day `n`.
-fn number_before(days: [u32; 20], n: u32) -> u32
-    requires { length days ≡ 20 }
-    ensures { result ≡ below days n }
-{
-    let mut i = 0;
     let mut before = 0;
-    while i < HOLIDAYS {
-        before += one_before(days[i], n);
-        i += 1;
+    for day in days {
+        before += u32::from(*day < n);
     }
     before
 }
 
-/// The Werktage among the first `n` days of a year that is known: the weekdays, less the holidays among them.
-///
-/// The first 97 days of 2026, up to 7 April, have 65.
-pub fn werktage_in(known: HolidayYear, n: u32, cal: HolidayCalendar) -> u32
-    requires { (known.year ≤ 903) × (known ≡ holiday_year cal known.year) × (n ≤ year_len known.year) }
-    ensures { (result ≡ among (is_werktag cal) (year_start known.year) n) × (result ≤ n) }
-{
-    let first = known.first;
-    let holidays = known.holidays;
-    weekdays_of(first + n) - weekdays_of(first) - number_before(holidays, n)
+impl HolidayYear {
+    /// The year 1996 + k of a calendar.
+    #[tactic(auto, using(crate::proofs::Rules::known_rules))]
+    pub fn new(k: u32, cal: HolidayCalendar) -> HolidayYear
+        requires { k ≤ 903 }
+        ensures { result ≡ record { calendar = cal; year = k } }
+    {
+        match cal {
+            HolidayCalendar::BdewMaKo => {
+                let numbers = year_numbers(k);
+                HolidayYear {
+                    cal,
+                    year: k,
+                    first: numbers.first,
+                    holidays: weekday_holidays(numbers),
+                }
+            }
+        }
+    }
+
+    /// The Werktage among its first `n` days: the weekdays, less the holidays among them.
+    ///
+    /// The first 97 days of 2026, up to 7 April, have 65.
+    #[tactic(auto, using(crate::proofs::Rules::count_rules))]
+    pub fn werktage(&self, n: u32) -> u32
+        requires { n ≤ year_len self.now.year }
+        ensures { (result ≡ among (is_werktag self.now.calendar) (year_start self.now.year) n) × (result ≤ n) }
+    {
+        weekdays_of(self.first + n) - weekdays_of(self.first) - number_before(&self.holidays, n)
+    }
 }
 
 /// The same of the year 1996 + k.
@@ -193,5 +190,5 @@ pub fn werktage_in_year(k: u32, n: u32, cal: HolidayCalendar) -> u32
     requires { (k ≤ 903) × (n ≤ year_len k) }
     ensures { (result ≡ among (is_werktag cal) (year_start k) n) × (result ≤ n) }
 {
-    werktage_in(holiday_year(k, cal), n, cal)
+    HolidayYear::new(k, cal).werktage(n)
 }

@@ -1,18 +1,20 @@
 -- What the proofs of this crate's functions cite, with premises in the form in which they stand there.
---   entry_rules   `entry_of`: entry k of the table, and that it is no large number
---   year_rules    `year_of_werktag`: xs is the table, k a year
+--   is_before         `werktage_before_year`: entry k of the table, and that it is no large number
+--   parted, is_year   `year_of_werktag`: the entries below n are the first ones, and k is how many they are
 -- Source: document 02, F-3.
 -- Assumes nothing.
-use Prim.Native.Nat.{ℕ, zero, suc, ◌+◌, ◌-◌, ◌*◌, ◌/◌, ◌≤◌, ◌<◌}
-use mathlib.Core.List.{List}
+use Prim.Native.Nat.{ℕ, suc, ◌+◌, ◌-◌, ◌≤◌, ◌<◌}
+use mathlib.Core.Bool.{true, false}
 use mathlib.Core.Path.{◌≡◌}
 use native.Mathlib.Omega.{arith}
 use native.Mathlib.Decide.{dec_le}
-use lib.ListN.{length, get_or}
-use mir.Syntax.{w32}
-use mir.Val.{Fits}
+use lib.Dec.{ltb}
+use lib.ListN.{get_or}
+use borrow.Author.Tests.{ltb-true, ltb-false, lt-ltb}
+use Rattle.std.specs.List.Sorted.{IsPartitionedBy, IsPartitionPoint}
+use Rattle.std.proofs.lemmas.List.{get_or_default}
 use Rattle.zaehlung.specs.Walk.{last, count}
-use Rattle.zaehlung.proofs.Count.{count_le}
+use Rattle.zaehlung.proofs.Count.{count_le, count_mono}
 use Rattle.zaehlung.proofs.BlockLaws.{start_mono}
 use Rattle.datum.specs.Calendar.{year_len, year_start}
 use Rattle.datum.proofs.Years.{start_all}
@@ -23,56 +25,57 @@ use Rattle.jahresindex.specs.Werktage.{werktage}
 use Rattle.jahresindex.specs.Entries.{entries}
 use Rattle.jahresindex.proofs.Table.{entry_is, all_is}
 
-module _ (xs : List ℕ) (t : xs ≡ entries) (k : ℕ) (h : k ≤ 904) where
-  pub in_table : k < length xs
-  in_table = rw t (omega arith)
+pub is_before :
+    (cal : HolidayCalendar) (k : ℕ) → k ≤ 904 →
+    (get_or entries k 0 ≡ count (is_werktag cal) (year_start k)) × (get_or entries k 0 ≤ 330180)
+is_before cal k h =
+    let e = entry_is cal k h in
+    (e, omega (arith, count_le (is_werktag cal) (year_start k), start_mono year_len k 904 h, start_all))
 
-  pub entry_at : (cal : HolidayCalendar) → get_or xs k 0 ≡ count (is_werktag cal) (year_start k)
-  entry_at cal = rw t (entry_is cal k h)
+-- the entries rise, so those below n are the first ones
+rises : (i j d : ℕ) → i ≤ j → j ≤ 904 → get_or entries i d ≤ get_or entries j d
+rises i j d h g =
+    let w = is_werktag BdewMaKo in
+    let e = get_or_default entries i d 0 (omega arith) in
+    let f = get_or_default entries j d 0 (omega arith) in
+    let m = count_mono w (year_start i) (year_start j) (start_mono year_len i j h) in
+    omega (arith, entry_is BdewMaKo i (omega arith), entry_is BdewMaKo j g)
 
-  pub entry_few : get_or xs k 0 ≤ 330180
-  entry_few =
-      let w = is_werktag BdewMaKo in
-      omega (arith, entry_at BdewMaKo, count_le w (year_start k), start_mono year_len k 904 h, start_all)
+pub parted : (n : ℕ) → IsPartitionedBy (λ y. ltb y n) entries
+parted n i j d h l t =
+    lt-ltb (get_or entries i d) n (omega (arith, rises i j d h (omega arith), ltb-true (get_or entries j d) n t))
 
-pub ruleset entry_rules = (in_table, entry_at, entry_few)
+-- k is how many they are: the first entry is 0, the last all Werktage
+module _
+    (cal : HolidayCalendar) (n k : ℕ) (m : 1 ≤ n) (g : n ≤ count (is_werktag cal) (suc last)) (b : k ≤ 905)
+    (p : IsPartitionPoint (λ y. ltb y n ≡ true) (λ y. ltb y n ≡ false) entries k) where
+  pub some_before : 1 ≤ k
+  some_before =
+      elim (dec_le 1 k) [
+        | yes y ↦ y
+        | no y ↦ absurd (omega (arith, ltb-false 0 n (p.1 0 0 (omega arith) (omega arith))))
+      ]
 
-module _ (cal : HolidayCalendar) (n : ℕ) (g : n ≤ count (is_werktag cal) (suc last)) where
-  few : n ≤ werktage
-  few = omega (arith, all_is cal)
+  pub not_all : k - 1 ≤ 903
+  not_all =
+      elim (dec_le k 904) [
+        | yes y ↦ omega arith
+        | no y ↦ absurd (omega (arith, all_is cal, ltb-true werktage n (p.0 904 0 (omega arith) (omega arith))))
+      ]
 
-  pub guess_fits : Fits w32 (n * 904)
-  guess_fits = record { fits = omega (arith, few) }
+  pub is_entry : get_or entries (k - 1) 0 ≡ count (is_werktag cal) (year_start (k - 1))
+  is_entry = entry_is cal (k - 1) (omega (arith, not_all))
 
-  pub guess_small : n * 904 / (werktage + 1) ≤ 903
-  guess_small = omega (arith, few)
+  pub fewer : get_or entries (k - 1) 0 < n
+  fewer = ltb-true (get_or entries (k - 1) 0) n (p.0 (k - 1) 0 (omega arith) (omega (arith, some_before)))
 
-  -- before 1996 there are none, and before 2900 there are all
-  module _ (xs : List ℕ) (t : xs ≡ entries) (k : ℕ) (h : k ≤ 903) where
-    pub later : 1 ≤ n → n ≤ get_or xs k 0 → 1 ≤ k
-    later m l = go k (rw t at l)
-      where
-        go : (k : ℕ) → n ≤ get_or entries k 0 → 1 ≤ k
-        go zero i = absurd (omega arith)
-        go (suc j) i = omega arith
+  pub up_to : n ≤ count (is_werktag cal) (year_start (k - 1 + 1))
+  up_to =
+      let e : k - 1 + 1 ≡ k = omega (arith, some_before) in
+      let f = ltb-false (get_or entries k 0) n (p.1 k 0 (omega arith) (omega (arith, not_all))) in
+      rw e (omega (arith, f, entry_is cal k (omega (arith, not_all))))
 
-    pub later_less : 1 ≤ n → n ≤ get_or xs k 0 → k - 1 < k
-    later_less m l = omega (arith, later m l)
-
-    pub earlier : get_or xs (k + 1) 0 < n → k + 1 ≤ 903
-    earlier l =
-        elim (dec_le (k + 1) 903) [
-          | yes y ↦ y
-          | no y ↦
-              let z : k + 1 ≡ 904 = omega arith in
-              let c : get_or xs (k + 1) 0 ≡ werktage = rw (t, z) in
-              absurd (omega (arith, few))
-        ]
-
-    pub is_entry : get_or xs k 0 ≡ count (is_werktag cal) (year_start k)
-    is_entry = entry_at xs t k (omega arith) cal
-
-    pub up_to : n ≤ get_or xs (k + 1) 0 → n ≤ count (is_werktag cal) (year_start (k + 1))
-    up_to l = omega (arith, entry_at xs t (k + 1) (omega arith) cal)
-
-pub ruleset year_rules = (guess_fits, guess_small, later, later_less, earlier, is_entry, up_to)
+  pub is_year :
+      (k - 1 ≤ 903) × (get_or entries (k - 1) 0 ≡ count (is_werktag cal) (year_start (k - 1)))
+      × (get_or entries (k - 1) 0 < n) × (n ≤ count (is_werktag cal) (year_start (k - 1 + 1)))
+  is_year = (not_all, is_entry, fewer, up_to)

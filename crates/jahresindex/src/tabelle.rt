@@ -2,7 +2,7 @@
 
 /// 'A table of 905 numbers, for each year from 1996 to 2900 the Werktage before its first of January, counted from 1
 /// January 1996.'
-pub const WERKTAGE_BEFORE: [u32; 905] = [
+pub static WERKTAGE_BEFORE: [u32; 905] = [
     0, 244, 489, 738, 986, 1230, 1473, 1716, 1961, 2210, 2456, 2700, 2943, 3191, 3440, 3688, 3934,
     4177, 4420, 4665, 4914, 5160, 5404, 5647, 5890, 6140, 6388, 6634, 6878, 7122, 7367, 7616, 7864,
     8108, 8351, 8594, 8839, 9088, 9334, 9578, 9821, 10068, 10317, 10565, 10811, 11054, 11297,

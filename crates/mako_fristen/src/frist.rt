@@ -13,6 +13,7 @@ ghost use Rattle.antworten_frist.specs.Frist.{deadline_at_werktage_answer, end_o
 ghost use Rattle.antworten_frist.specs.Frist.{next_werktag_at_answer};
 ghost use Rattle.antworten_frist.specs.Frist.{nth_werktag_at_answer, frist_due_at_answer};
 
+use antwortsatz::{ANSWER_BYTES, Refusal};
 use werktag::HolidayCalendar;
 
 /// When a CONTRL is due: 6 hours after its receipt, 45 minutes for `GasAlocat`; `StromUtilmdOderOrders` 15 minutes, 6
@@ -23,7 +24,14 @@ pub fn mf_contrl_due_at(seconds: i64, nanos: u32, anlass: u8, answer: &mut [u8])
     ensures { (result, answer.new) ≡ reply answer.old
         (contrl_due_at_answer (read_instant seconds nanos) anlass) }
 {
-    antworten_frist::contrl_due_at_reply(seconds, nanos, anlass, answer)
+    if answer.len() != ANSWER_BYTES {
+        return Refusal::AnswerLength.number();
+    }
+    let instant = berlin::read_instant(seconds, nanos);
+    antwortsatz::reply(
+        answer,
+        antworten_frist::contrl_due_at_answer(instant, anlass),
+    )
 }
 
 /// When the Strom APERAK on a UTILMD or ORDERS is due: 45 minutes after its receipt; "Saturday gives Sunday 12:00".
@@ -33,8 +41,8 @@ pub fn mf_aperak_strom_due_at(seconds: i64, nanos: u32, answer: &mut [u8]) -> u8
     ensures { (result, answer.new) ≡ reply answer.old
         (aperak_strom_due_at_answer (read_instant seconds nanos)) }
 {
-    if answer.len() != antwortsatz::ANSWER_BYTES {
-        return antwortsatz::ANSWER_LENGTH;
+    if answer.len() != ANSWER_BYTES {
+        return Refusal::AnswerLength.number();
     }
     let instant = berlin::read_instant(seconds, nanos);
     let a = antworten_frist::aperak_strom_due_at_answer(instant);
@@ -47,8 +55,8 @@ pub fn mf_aperak_strom_allgemein_due_at(seconds: i64, nanos: u32, answer: &mut [
     ensures { (result, answer.new) ≡ reply answer.old
         (aperak_strom_allgemein_due_at_answer (is_werktag BdewMaKo) (read_instant seconds nanos)) }
 {
-    if answer.len() != antwortsatz::ANSWER_BYTES {
-        return antwortsatz::ANSWER_LENGTH;
+    if answer.len() != ANSWER_BYTES {
+        return Refusal::AnswerLength.number();
     }
     let instant = berlin::read_instant(seconds, nanos);
     let a = antworten_frist::aperak_strom_allgemein_due_at_answer(
@@ -64,8 +72,8 @@ pub fn mf_aperak_gas_folgeprozess_due_at(seconds: i64, nanos: u32, answer: &mut 
     ensures { (result, answer.new) ≡ reply answer.old
         (aperak_gas_folgeprozess_due_at_answer (is_werktag BdewMaKo) (read_instant seconds nanos)) }
 {
-    if answer.len() != antwortsatz::ANSWER_BYTES {
-        return antwortsatz::ANSWER_LENGTH;
+    if answer.len() != ANSWER_BYTES {
+        return Refusal::AnswerLength.number();
     }
     let instant = berlin::read_instant(seconds, nanos);
     let a = antworten_frist::aperak_gas_folgeprozess_due_at_answer(
@@ -81,8 +89,8 @@ pub fn mf_aperak_gas_initialprozess_due_at(seconds: i64, nanos: u32, answer: &mu
     ensures { (result, answer.new) ≡ reply answer.old
         (aperak_gas_initialprozess_due_at_answer (is_werktag BdewMaKo) (read_instant seconds nanos)) }
 {
-    if answer.len() != antwortsatz::ANSWER_BYTES {
-        return antwortsatz::ANSWER_LENGTH;
+    if answer.len() != ANSWER_BYTES {
+        return Refusal::AnswerLength.number();
     }
     let instant = berlin::read_instant(seconds, nanos);
     let a = antworten_frist::aperak_gas_initialprozess_due_at_answer(
@@ -98,8 +106,8 @@ pub fn mf_aperak_gas_due_at(pid: u32, seconds: i64, nanos: u32, answer: &mut [u8
     ensures { (result, answer.new) ≡ reply answer.old
         (aperak_gas_due_at_answer (is_werktag BdewMaKo) pid (read_instant seconds nanos)) }
 {
-    if answer.len() != antwortsatz::ANSWER_BYTES {
-        return antwortsatz::ANSWER_LENGTH;
+    if answer.len() != ANSWER_BYTES {
+        return Refusal::AnswerLength.number();
     }
     let instant = berlin::read_instant(seconds, nanos);
     let a = antworten_frist::aperak_gas_due_at_answer(pid, instant, HolidayCalendar::BdewMaKo);
@@ -112,8 +120,8 @@ pub fn mf_add_hours(seconds: i64, nanos: u32, hours: u32, answer: &mut [u8]) -> 
     ensures { (result, answer.new) ≡ reply answer.old
         (add_hours_answer (read_instant seconds nanos) hours) }
 {
-    if answer.len() != antwortsatz::ANSWER_BYTES {
-        return antwortsatz::ANSWER_LENGTH;
+    if answer.len() != ANSWER_BYTES {
+        return Refusal::AnswerLength.number();
     }
     let instant = berlin::read_instant(seconds, nanos);
     let a = antworten_frist::add_hours_answer(instant, hours);
@@ -126,8 +134,8 @@ pub fn mf_deadline_at_werktage(seconds: i64, nanos: u32, werktage: u32, answer: 
     ensures { (result, answer.new) ≡ reply answer.old
         (deadline_at_werktage_answer (is_werktag BdewMaKo) (read_instant seconds nanos) werktage) }
 {
-    if answer.len() != antwortsatz::ANSWER_BYTES {
-        return antwortsatz::ANSWER_LENGTH;
+    if answer.len() != ANSWER_BYTES {
+        return Refusal::AnswerLength.number();
     }
     let instant = berlin::read_instant(seconds, nanos);
     let a = antworten_frist::deadline_at_werktage_answer(
@@ -144,8 +152,8 @@ pub fn mf_end_of_werktag_after(seconds: i64, nanos: u32, werktage: u32, answer: 
     ensures { (result, answer.new) ≡ reply answer.old
         (end_of_werktag_after_answer (is_werktag BdewMaKo) (read_instant seconds nanos) werktage) }
 {
-    if answer.len() != antwortsatz::ANSWER_BYTES {
-        return antwortsatz::ANSWER_LENGTH;
+    if answer.len() != ANSWER_BYTES {
+        return Refusal::AnswerLength.number();
     }
     let instant = berlin::read_instant(seconds, nanos);
     let a = antworten_frist::end_of_werktag_after_answer(
@@ -171,8 +179,8 @@ pub fn mf_next_werktag_at(
         (next_werktag_at_answer (is_werktag BdewMaKo) (read_instant seconds nanos)
         (read_clock hour minute second nanos_of_second)) }
 {
-    if answer.len() != antwortsatz::ANSWER_BYTES {
-        return antwortsatz::ANSWER_LENGTH;
+    if answer.len() != ANSWER_BYTES {
+        return Refusal::AnswerLength.number();
     }
     let instant = berlin::read_instant(seconds, nanos);
     let clock = berlin::read_clock(hour, minute, second, nanos_of_second);
@@ -195,8 +203,8 @@ pub fn mf_nth_werktag_at(
         (nth_werktag_at_answer (is_werktag BdewMaKo) (read_instant seconds nanos) n
         (read_clock hour minute second nanos_of_second)) }
 {
-    if answer.len() != antwortsatz::ANSWER_BYTES {
-        return antwortsatz::ANSWER_LENGTH;
+    if answer.len() != ANSWER_BYTES {
+        return Refusal::AnswerLength.number();
     }
     let instant = berlin::read_instant(seconds, nanos);
     let clock = berlin::read_clock(hour, minute, second, nanos_of_second);
@@ -221,16 +229,17 @@ pub fn mf_frist_due_at(
         (frist_due_at_answer (is_werktag BdewMaKo) shape werktage (read_clock hour minute second nanos_of_second)
         (read_instant seconds nanos)) }
 {
-    antworten_frist::frist_due_at_reply(
+    if answer.len() != ANSWER_BYTES {
+        return Refusal::AnswerLength.number();
+    }
+    let clock = berlin::read_clock(hour, minute, second, nanos_of_second);
+    let instant = berlin::read_instant(seconds, nanos);
+    let a = antworten_frist::frist_due_at_answer(
         shape,
         werktage,
-        hour,
-        minute,
-        second,
-        nanos_of_second,
-        seconds,
-        nanos,
-        answer,
+        clock,
+        instant,
         HolidayCalendar::BdewMaKo,
-    )
+    );
+    antwortsatz::reply(answer, a)
 }

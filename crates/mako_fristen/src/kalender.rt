@@ -9,6 +9,7 @@ ghost use Rattle.antworten.specs.Kalender.{is_werktag_answer, next_werktag_answe
 ghost use Rattle.antworten.specs.Kalender.{sub_werktage_answer};
 ghost use Rattle.antworten.specs.Kalender.{werktage_between_answer, add_months_answer, subtract_months_answer};
 
+use antwortsatz::{ANSWER_BYTES, Refusal};
 use datum::Date;
 use werktag::HolidayCalendar;
 
@@ -18,8 +19,8 @@ pub fn mf_is_werktag(year: u16, month: u8, day: u8, answer: &mut [u8]) -> u8
     ensures { (result, answer.new) ≡ reply answer.old
         (is_werktag_answer (reason BdewMaKo) (date_from year month day)) }
 {
-    if answer.len() != antwortsatz::ANSWER_BYTES {
-        return antwortsatz::ANSWER_LENGTH;
+    if answer.len() != ANSWER_BYTES {
+        return Refusal::AnswerLength.number();
     }
     let date = Date { year, month, day };
     let a = antworten::kalender::is_werktag_answer(date, HolidayCalendar::BdewMaKo);
@@ -32,8 +33,8 @@ pub fn mf_next_werktag(year: u16, month: u8, day: u8, answer: &mut [u8]) -> u8
     ensures { (result, answer.new) ≡ reply answer.old
         (next_werktag_answer (is_werktag BdewMaKo) (date_from year month day)) }
 {
-    if answer.len() != antwortsatz::ANSWER_BYTES {
-        return antwortsatz::ANSWER_LENGTH;
+    if answer.len() != ANSWER_BYTES {
+        return Refusal::AnswerLength.number();
     }
     let date = Date { year, month, day };
     let a = antworten::kalender::next_werktag_answer(date, HolidayCalendar::BdewMaKo);
@@ -46,8 +47,8 @@ pub fn mf_add_werktage(year: u16, month: u8, day: u8, n: u32, answer: &mut [u8])
     ensures { (result, answer.new) ≡ reply answer.old
         (add_werktage_answer (is_werktag BdewMaKo) (date_from year month day) n) }
 {
-    if answer.len() != antwortsatz::ANSWER_BYTES {
-        return antwortsatz::ANSWER_LENGTH;
+    if answer.len() != ANSWER_BYTES {
+        return Refusal::AnswerLength.number();
     }
     let date = Date { year, month, day };
     let a = antworten::kalender::add_werktage_answer(date, n, HolidayCalendar::BdewMaKo);
@@ -60,8 +61,8 @@ pub fn mf_sub_werktage(year: u16, month: u8, day: u8, n: u32, answer: &mut [u8])
     ensures { (result, answer.new) ≡ reply answer.old
         (sub_werktage_answer (is_werktag BdewMaKo) (date_from year month day) n) }
 {
-    if answer.len() != antwortsatz::ANSWER_BYTES {
-        return antwortsatz::ANSWER_LENGTH;
+    if answer.len() != ANSWER_BYTES {
+        return Refusal::AnswerLength.number();
     }
     let date = Date { year, month, day };
     let a = antworten::kalender::sub_werktage_answer(date, n, HolidayCalendar::BdewMaKo);
@@ -82,8 +83,8 @@ pub fn mf_werktage_between(
     ensures { (result, answer.new) ≡ reply answer.old
         (werktage_between_answer (is_werktag BdewMaKo) (date_from year month day) (date_from year2 month2 day2)) }
 {
-    if answer.len() != antwortsatz::ANSWER_BYTES {
-        return antwortsatz::ANSWER_LENGTH;
+    if answer.len() != ANSWER_BYTES {
+        return Refusal::AnswerLength.number();
     }
     let first = Date { year, month, day };
     let second = Date {
@@ -101,8 +102,8 @@ pub fn mf_add_months(year: u16, month: u8, day: u8, n: u32, answer: &mut [u8]) -
     ensures { (result, answer.new) ≡ reply answer.old
         (add_months_answer (date_from year month day) n) }
 {
-    if answer.len() != antwortsatz::ANSWER_BYTES {
-        return antwortsatz::ANSWER_LENGTH;
+    if answer.len() != ANSWER_BYTES {
+        return Refusal::AnswerLength.number();
     }
     let date = Date { year, month, day };
     let a = antworten::kalender::add_months_answer(date, n);
@@ -115,8 +116,8 @@ pub fn mf_subtract_months(year: u16, month: u8, day: u8, n: u32, answer: &mut [u
     ensures { (result, answer.new) ≡ reply answer.old
         (subtract_months_answer (date_from year month day) n) }
 {
-    if answer.len() != antwortsatz::ANSWER_BYTES {
-        return antwortsatz::ANSWER_LENGTH;
+    if answer.len() != ANSWER_BYTES {
+        return Refusal::AnswerLength.number();
     }
     let date = Date { year, month, day };
     let a = antworten::kalender::subtract_months_answer(date, n);

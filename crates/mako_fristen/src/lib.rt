@@ -1,10 +1,10 @@
-// The host calls: test the answer's length, read the numbers, ask for the answer, write its 32 bytes.
+// The host calls: read the numbers, ask for the answer, write its 32 bytes.
 //
 // Each call's promise is one equation: the number that it returns and the slices as it leaves them are what a
 // definition gives, which stands in specs/ of `antworten`, `antworten_frist`, `antworten_vorlauf`, `antworten_frage` or
-// `antworten_portfolio`. Refusal 1 is found first, by the call or by what it shares with a file of questions; every
-// other is decided in the answer, but 9, which is a file's.
-#![tactic(auto)]
+// `antworten_portfolio`. Refusal 1 is found before anything is read: a host that lends a wrong length should not pay
+// for an answer. Every other is decided in the answer, but 9, which is a file's.
+#![tactic(auto, using(antwortsatz::proofs::Rules::reply_other))]
 
 mod fragen;
 mod frist;

@@ -6,6 +6,7 @@ ghost use Rattle.antworten.specs.Reading.{date_from};
 ghost use Rattle.antworten.specs.Uhrzeit.{berlin_at_answer, berlin_midnight_answer, end_of_day_berlin_answer};
 ghost use Rattle.antworten.specs.Uhrzeit.{tagesbeginn_utc_answer, berlin_date_answer, tag_des_beginns_answer};
 
+use antwortsatz::{ANSWER_BYTES, Refusal};
 use datum::Date;
 
 /// The instant at which the Berlin clock shows a time on a date. "A repeated local time means its earlier instant": 25
@@ -23,8 +24,8 @@ pub fn mf_berlin_at(
     ensures { (result, answer.new) ≡ reply answer.old
         (berlin_at_answer (date_from year month day) (read_clock hour minute second nanos_of_second)) }
 {
-    if answer.len() != antwortsatz::ANSWER_BYTES {
-        return antwortsatz::ANSWER_LENGTH;
+    if answer.len() != ANSWER_BYTES {
+        return Refusal::AnswerLength.number();
     }
     let date = Date { year, month, day };
     let clock = berlin::read_clock(hour, minute, second, nanos_of_second);
@@ -38,8 +39,8 @@ pub fn mf_berlin_midnight(year: u16, month: u8, day: u8, answer: &mut [u8]) -> u
     ensures { (result, answer.new) ≡ reply answer.old
         (berlin_midnight_answer (date_from year month day)) }
 {
-    if answer.len() != antwortsatz::ANSWER_BYTES {
-        return antwortsatz::ANSWER_LENGTH;
+    if answer.len() != ANSWER_BYTES {
+        return Refusal::AnswerLength.number();
     }
     let date = Date { year, month, day };
     let a = antworten::uhrzeit::berlin_midnight_answer(date);
@@ -52,8 +53,8 @@ pub fn mf_end_of_day_berlin(year: u16, month: u8, day: u8, answer: &mut [u8]) ->
     ensures { (result, answer.new) ≡ reply answer.old
         (end_of_day_berlin_answer (date_from year month day)) }
 {
-    if answer.len() != antwortsatz::ANSWER_BYTES {
-        return antwortsatz::ANSWER_LENGTH;
+    if answer.len() != ANSWER_BYTES {
+        return Refusal::AnswerLength.number();
     }
     let date = Date { year, month, day };
     let a = antworten::uhrzeit::end_of_day_berlin_answer(date);
@@ -66,8 +67,8 @@ pub fn mf_tagesbeginn_utc(year: u16, month: u8, day: u8, sparte: u8, answer: &mu
     ensures { (result, answer.new) ≡ reply answer.old
         (tagesbeginn_utc_answer (date_from year month day) sparte) }
 {
-    if answer.len() != antwortsatz::ANSWER_BYTES {
-        return antwortsatz::ANSWER_LENGTH;
+    if answer.len() != ANSWER_BYTES {
+        return Refusal::AnswerLength.number();
     }
     let date = Date { year, month, day };
     let a = antworten::uhrzeit::tagesbeginn_utc_answer(date, sparte);
@@ -80,8 +81,8 @@ pub fn mf_berlin_date(seconds: i64, nanos: u32, answer: &mut [u8]) -> u8
     ensures { (result, answer.new) ≡ reply answer.old
         (berlin_date_answer (read_instant seconds nanos)) }
 {
-    if answer.len() != antwortsatz::ANSWER_BYTES {
-        return antwortsatz::ANSWER_LENGTH;
+    if answer.len() != ANSWER_BYTES {
+        return Refusal::AnswerLength.number();
     }
     let instant = berlin::read_instant(seconds, nanos);
     let a = antworten::uhrzeit::berlin_date_answer(instant);
@@ -94,8 +95,8 @@ pub fn mf_tag_des_beginns(seconds: i64, nanos: u32, sparte: u8, answer: &mut [u8
     ensures { (result, answer.new) ≡ reply answer.old
         (tag_des_beginns_answer (read_instant seconds nanos) sparte) }
 {
-    if answer.len() != antwortsatz::ANSWER_BYTES {
-        return antwortsatz::ANSWER_LENGTH;
+    if answer.len() != ANSWER_BYTES {
+        return Refusal::AnswerLength.number();
     }
     let instant = berlin::read_instant(seconds, nanos);
     let a = antworten::uhrzeit::tag_des_beginns_answer(instant, sparte);

@@ -9,6 +9,7 @@ ghost use Rattle.antworten_vorlauf.specs.Vorlauf.{vorlauf_check_answer, vorlauf_
 ghost use Rattle.antworten_vorlauf.specs.Vorlauf.{abmeldung_fuer_answer, abmeldung_check_answer};
 ghost use Rattle.antworten_vorlauf.specs.Vorlauf.{eog_ankuendigung_fristgerecht_answer};
 
+use antwortsatz::{ANSWER_BYTES, Refusal};
 use datum::Date;
 use werktag::HolidayCalendar;
 
@@ -32,21 +33,24 @@ pub fn mf_vorlauf_check(
         (vorlauf_check_answer (is_werktag BdewMaKo) shape count count2 (date_from year month day)
         (date_from year2 month2 day2)) }
 {
+    if answer.len() != ANSWER_BYTES {
+        return Refusal::AnswerLength.number();
+    }
     let first = Date { year, month, day };
     let second = Date {
         year: year2,
         month: month2,
         day: day2,
     };
-    antworten_vorlauf::vorlauf_check_reply(
+    let a = antworten_vorlauf::vorlauf_check_answer(
         shape,
         count,
         count2,
         first,
         second,
-        answer,
         HolidayCalendar::BdewMaKo,
-    )
+    );
+    antwortsatz::reply(answer, a)
 }
 
 /// The same for a transmission instant and an anchor given as a day's beginning: "4 for either, 7 for the anchor, 8".
@@ -67,8 +71,8 @@ pub fn mf_vorlauf_check_at(
         (vorlauf_check_at_answer (is_werktag BdewMaKo) shape count count2 sparte (read_instant seconds nanos)
         (read_instant seconds2 nanos2)) }
 {
-    if answer.len() != antwortsatz::ANSWER_BYTES {
-        return antwortsatz::ANSWER_LENGTH;
+    if answer.len() != ANSWER_BYTES {
+        return Refusal::AnswerLength.number();
     }
     let instant = berlin::read_instant(seconds, nanos);
     let beginning = berlin::read_instant(seconds2, nanos2);
@@ -99,15 +103,18 @@ pub fn mf_vorlauf_span(
     ensures { (result, answer.new) ≡ reply answer.old
         (vorlauf_span_answer (is_werktag BdewMaKo) shape count count2 (date_from year month day)) }
 {
+    if answer.len() != ANSWER_BYTES {
+        return Refusal::AnswerLength.number();
+    }
     let date = Date { year, month, day };
-    antworten_vorlauf::vorlauf_span_reply(
+    let a = antworten_vorlauf::vorlauf_span_answer(
         shape,
         count,
         count2,
         date,
-        answer,
         HolidayCalendar::BdewMaKo,
-    )
+    );
+    antwortsatz::reply(answer, a)
 }
 
 /// The case of a deregistration: "only the three bytes "ZQ7" are the deactivation reason; "zq7", "ZQ7 " and an empty
@@ -117,8 +124,8 @@ pub fn mf_abmeldung_fuer(reason: &[u8], eeg: u8, answer: &mut [u8]) -> u8
     ensures { (result, answer.new) ≡ reply answer.old
         (abmeldung_fuer_answer reason.now eeg) }
 {
-    if answer.len() != antwortsatz::ANSWER_BYTES {
-        return antwortsatz::ANSWER_LENGTH;
+    if answer.len() != ANSWER_BYTES {
+        return Refusal::AnswerLength.number();
     }
     let a = antworten_vorlauf::abmeldung_fuer_answer(reason, eeg);
     antwortsatz::reply(answer, a)
@@ -141,8 +148,8 @@ pub fn mf_abmeldung_check(
         (abmeldung_check_answer (is_werktag BdewMaKo) reason.now eeg (date_from year month day)
         (date_from year2 month2 day2)) }
 {
-    if answer.len() != antwortsatz::ANSWER_BYTES {
-        return antwortsatz::ANSWER_LENGTH;
+    if answer.len() != ANSWER_BYTES {
+        return Refusal::AnswerLength.number();
     }
     let first = Date { year, month, day };
     let second = Date {
@@ -174,8 +181,8 @@ pub fn mf_eog_ankuendigung_fristgerecht(
         (eog_ankuendigung_fristgerecht_answer (is_werktag BdewMaKo) (read_instant seconds nanos)
         (date_from year month day)) }
 {
-    if answer.len() != antwortsatz::ANSWER_BYTES {
-        return antwortsatz::ANSWER_LENGTH;
+    if answer.len() != ANSWER_BYTES {
+        return Refusal::AnswerLength.number();
     }
     let date = Date { year, month, day };
     let instant = berlin::read_instant(seconds, nanos);

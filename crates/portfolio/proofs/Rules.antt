@@ -1,78 +1,37 @@
 -- What the proofs of this crate's functions cite, with premises in the form in which they stand there.
---   portfolio_rules  `is_portfolio`
---   calendar_rules   `in_calendar`
---   range_rules      `in_range`: p and q are what `in_calendar` returned of the two days
---   opened_rules     `opened`
---   holds_rules      `holds`
---   on_rules         `run_on`
---   next_rules       `next_run`: p is what `in_range` returned, r the run
---   through_rules    `through`
---   same_run         `werktage_between`
---   pair_rules       `pair_count`
+--   holds_rules       `IndexedYear::holds`: a are the fields of the year v
+--   through_rules     `IndexedYear::through`: m the Werktage of the year's days up to the day d
+--   difference_rules  `IndexedYear::werktage_between`: x and y are the Werktage up to its two days
+--   is_of_rules       `is_of`
+--   run_rules         `go_on`: p is what `in_range` returned, o what `is_of` did of the run r
+--   pair_rules        `pair_count`: r is the run
 -- Assumes nothing.
 use Prim.Native.Nat.{ℕ, suc, ◌+◌, ◌-◌, ◌≤◌, ◌<◌}
-use mathlib.Core.Bool.{Bool, true, false, ◌&&◌}
-use mathlib.Core.Path.{◌≡◌, refl, sym, ap, ◌∙◌, subst}
+use mathlib.Core.Bool.{Bool, true, false, not}
+use mathlib.Core.Path.{◌≡◌, sym, ap, ap₂, ◌∙◌, subst}
 use native.Mathlib.Omega.{arith}
-use native.Mathlib.Numerals.{add-one}
-use lib.Dec.{T, eqb, leb, ltb}
-use borrow.Author.Tests.{eq-eqb, ne_eqb, leb-true, ltb-true, le-leb, lt-leb, lt-ltb}
+use lib.Dec.{eqb, leb, ltb}
+use borrow.Author.Tests.{eq-eqb, ne_eqb, eqb-true, eqb-false, leb-true, ltb-true, ltb-false}
 use mir.Syntax.{w32}
 use mir.Val.{Fits}
-use Rattle.zaehlung.specs.Walk.{last, bit, among, count, between}
-use Rattle.zaehlung.proofs.Tests.{and_left, and_right}
+use Rattle.std.specs.Prelude.{Option, Some, None, IfSome}
+use Rattle.zaehlung.specs.Walk.{last, among, count, between}
+use Rattle.zaehlung.proofs.Tests.{and_left, and_right, and_no}
+use Rattle.zaehlung.proofs.Every.{split}
+use Rattle.zaehlung.proofs.Laws.{between_count, between_later}
 use Rattle.zaehlung.proofs.BlockLaws.{start_suc, at_is}
 use Rattle.datum.specs.Calendar.{year_len, year_start, year_of}
 use Rattle.datum.proofs.Years.{start_none}
 use Rattle.werktag.specs.declared.HolidayCalendar.{HolidayCalendar}
 use Rattle.werktag.specs.Werktag.{is_werktag}
-use Rattle.jahre.specs.declared.HolidayYear.{HolidayYear}
-use Rattle.jahre.specs.Year.{holiday_year}
-use Rattle.jahre.proofs.Rules.{year_within, year_known, days_within, of_year}
+use Rattle.jahre.specs.CalendarYear.{CalendarYear}
 use Rattle.jahresindex.specs.Werktage.{werktage}
 use Rattle.schritte.proofs.IndexRules.{year_at_lem, sum_most, sum_at}
-use Rattle.portfolio.specs.declared.Run.{Run}
-use Rattle.portfolio.specs.Portfolio.{is_portfolio, in_calendar, in_range, pair_count}
+use Rattle.portfolio.specs.declared.IndexedYear.TheInside.{Inside}
+use Rattle.portfolio.specs.Portfolio.{in_calendar, in_range, pair_count}
 use Rattle.portfolio.specs.Runs.{beginning, opens}
-use Rattle.portfolio.specs.Inside.{IsRun, Knows}
-
--- is_portfolio
-module _ (n m k : ℕ) where
-  pub too_many : 4096 < n → false ≡ is_portfolio n m k
-  unfolding is_portfolio
-  too_many h = rw (lt-leb n 4096 h)
-
-  pub others : n ≤ 4096 → (m ≡ n → ⊥) → false ≡ is_portfolio n m k
-  unfolding is_portfolio
-  others h g = rw (le-leb n 4096 h, ne_eqb m n g)
-
-  pub as_many_days : n ≤ 4096 → m ≡ n → eqb k n ≡ is_portfolio n m k
-  unfolding is_portfolio
-  as_many_days h g = rw (le-leb n 4096 h, eq-eqb m n g)
-
-pub ruleset portfolio_rules = (too_many, others, as_many_days)
-
--- in_calendar
-module _ (d : ℕ) where
-  pub too_early : d < 9496 → false ≡ in_calendar d
-  too_early h = rw (lt-leb 9496 d h)
-
-  pub not_early : 9496 ≤ d → leb d 339675 ≡ in_calendar d
-  not_early h = rw (le-leb 9496 d h)
-
-pub ruleset calendar_rules = (too_early, not_early)
-
--- in_range
-module _ (a b : ℕ) (p : Bool) (e : p ≡ in_calendar a) where
-  pub first_in : (q : Bool) → p ≡ true → q ≡ in_calendar b → q ≡ in_range a b
-  unfolding in_range
-  first_in q h g = rw (sym e ∙ h) g
-
-  pub first_out : p ≡ false → false ≡ in_range a b
-  unfolding in_range
-  first_out h = rw (sym e ∙ h)
-
-pub ruleset range_rules = (first_in, first_out)
+use Rattle.portfolio.specs.Fields.{IsIndexed}
+use Rattle.portfolio.specs.Inside.{year_by, run_of, year_of_run}
 
 -- the year of a day of the calendar
 in_its_year : (d k : ℕ) → k ≤ 903 → year_start k ≤ d → d < year_start (suc k) → (year_of d).0 ≡ k
@@ -88,82 +47,92 @@ year_is d h =
     let s = start_suc year_len (year_of d).0 in
     (omega arith, omega arith, omega arith)
 
--- opened: k is the year of its day
-module _ (cal : HolidayCalendar) (d k : ℕ) (p : k ≡ (year_of d).0) where
-  pub is_opened :
-      (b f a n : ℕ) (j : HolidayYear) →
-      b ≡ count (is_werktag cal) (year_start k) → f ≡ year_start k → a ≡ year_start (k + 1) → j ≡ holiday_year cal k →
-      IsRun cal (year_of d).0 (record { year = 1996 + k; first = f; after = a; before = b; known = j; read = n })
-  is_opened b f a n j e g h i =
-      let s = ap year_start (add-one k) in
-      rw (sym p)
-      (record {
-        its_number = refl;
-        its_first = g;
-        its_after = h ∙ s;
-        its_entry = e;
-        its_year = i;
-      })
+module _ (a : Inside) (v : CalendarYear) (view : a.known ≡ v) (i : IsIndexed a) (d : ℕ) (h : d ≤ last) where
+  same_year : a.known.year ≡ v.year
+  same_year = ap (λ (x : CalendarYear). x.year) view
 
-pub ruleset opened_rules = (is_opened)
+  -- IndexedYear::holds
+  in_year : a.first ≤ d → d < a.after → v.year ≡ (year_of d).0
+  in_year f g =
+      let k = in_its_year d a.known.year i.its_year (omega (arith, i.its_first)) (omega (arith, i.its_after)) in
+      omega (arith, same_year)
 
--- holds
-module _ (f a d : ℕ) where
-  pub not_before : f ≤ d → ltb d a ≡ (leb f d && ltb d a)
-  not_before h = rw (le-leb f d h)
+  year_in : v.year ≡ (year_of d).0 → (a.first ≤ d) × (d < a.after)
+  year_in e =
+      let k : (year_of d).0 ≡ a.known.year = omega (arith, same_year) in
+      let y = rw k at (year_is d h) in
+      (omega (arith, i.its_first), omega (arith, i.its_after))
 
-  pub before : d < f → false ≡ (leb f d && ltb d a)
-  before h = rw (lt-leb f d h)
+  pub holds_then : a.first ≤ d → ltb d a.after ≡ eqb v.year (year_of d).0
+  holds_then f =
+      split (ltb d a.after)
+      (λ t. t ∙ sym (eq-eqb v.year (year_of d).0 (in_year f (ltb-true d a.after t))))
+      (λ t. t ∙ sym (ne_eqb v.year (year_of d).0 (λ e. omega (arith, year_in e, ltb-false d a.after t))))
 
-pub ruleset holds_rules = (not_before, before)
+  pub holds_else : d < a.first → false ≡ eqb v.year (year_of d).0
+  holds_else f = sym (ne_eqb v.year (year_of d).0 (λ e. omega (arith, year_in e)))
 
--- run_on: p is what `holds` returned
+  -- IndexedYear::through
+  module _ (y : v.year ≡ (year_of d).0) where
+    pub first_before : a.first ≤ d
+    first_before = (year_in y).0
+
+    pub day_in : d - a.first + 1 ≤ year_len a.known.year
+    day_in = omega (arith, year_in y, i.its_first, i.its_after, start_suc year_len a.known.year)
+
+    pub day_fits : Fits w32 (d - a.first + 1)
+    day_fits = record { fits = omega arith }
+
+    module _ (m : ℕ) (p : m ≡ among (is_werktag a.known.calendar) (year_start a.known.year) (d - a.first + 1)) where
+      pub through_is : a.before + m ≡ count (is_werktag v.calendar) (suc d)
+      through_is =
+          let c =
+          sum_at a.known.calendar a.known.year (d - a.first + 1) a.before m i.its_year day_in i.its_entry p (suc d)
+          (omega (arith, i.its_first, first_before)) in
+          let P : CalendarYear → Type 0 = λ x. a.before + m ≡ count (is_werktag x.calendar) (suc d) in
+          subst P view c
+
+      pub through_most : a.before + m ≤ werktage
+      through_most =
+          sum_most a.known.calendar a.known.year (d - a.first + 1) a.before m i.its_year day_in i.its_entry p
+
+      pub through_fits : Fits w32 (a.before + m)
+      through_fits = record { fits = omega (arith, through_most) }
+
+pub ruleset holds_rules = (holds_then, holds_else)
+
+pub ruleset through_rules = (first_before, day_in, day_fits, through_is, through_most, through_fits)
+
+-- IndexedYear::werktage_between
+pub not_later : (cal : HolidayCalendar) (a b : ℕ) → b ≤ a → 0 ≡ between (is_werktag cal) a b
+not_later cal a b h = sym (between_later (is_werktag cal) a b h)
+
 module _
-    (cal : HolidayCalendar) (run : Run) (d : ℕ) (h : d ≤ last) (c : Knows cal run) (p : Bool)
-    (q : p ≡ (leb run.first d && ltb d run.after)) where
-  pub goes_on : p ≡ true → IsRun cal (year_of d).0 run
-  goes_on t =
-      let f = leb-true run.first d (and_left _ _ (sym q ∙ t)) in
-      let g = ltb-true d run.after (and_right (leb run.first d) _ (sym q ∙ t)) in
-      let i = c.of (λ e. omega (arith, c.none e)) in
-      let k = run.year - 1996 in
-      let r = i.0 in
-      let y : (year_of d).0 ≡ k =
-      in_its_year d k (omega (arith, i.1)) (omega (arith, r.its_first)) (omega (arith, r.its_after)) in
-      rw y r
+    (cal : HolidayCalendar) (a b x y : ℕ) (h : a < b) (p : x ≡ count (is_werktag cal) (suc a))
+    (q : y ≡ count (is_werktag cal) (suc b)) where
+  pub no_less : x ≤ y
+  no_less = omega (arith, between_count (is_werktag cal) a b (omega arith))
 
-  a_year : eqb (1996 + (year_of d).0) 0 ≡ false
-  a_year = ne_eqb (1996 + (year_of d).0) 0 (λ e. omega arith)
+  pub difference : y - x ≡ between (is_werktag cal) a b
+  difference = omega (arith, between_count (is_werktag cal) a b (omega arith))
 
-  pub none_opened : p ≡ true → run.read ≡ run.read + bit (opens run.year (1996 + (year_of d).0))
-  unfolding opens
-  none_opened t = rw (a_year, eq-eqb run.year (1996 + (year_of d).0) (goes_on t).its_number) (omega arith)
+pub ruleset difference_rules = (not_later, no_less, difference)
 
-  -- a run of the day's year holds the day
-  held : run.year ≡ 1996 + (year_of d).0 → p ≡ true
-  held e =
-      let i = (c.of (λ z. omega arith)).0 in
-      let k : run.year - 1996 ≡ (year_of d).0 = omega arith in
-      let y = year_is d h in
-      let f = ap year_start k in
-      let g = ap (λ (j : ℕ). year_start (suc j)) k in
-      q
-      ∙ (rw
-      (le-leb run.first d (omega (arith, i.its_first)), lt-ltb d run.after (omega (arith, i.its_after))))
+-- is_of
+module _ (r : Option CalendarYear) (k : ℕ) where
+  pub number_some : (y : CalendarYear) (p : Bool) → r ≡ Some y → p ≡ eqb y.year k → p ≡ eqb (year_of_run r) (1996 + k)
+  number_some y p e q =
+      rw e
+      (q ∙ split (eqb y.year k)
+      (λ t. t ∙ sym (eq-eqb (1996 + y.year) (1996 + k) (omega (arith, eqb-true y.year k t))))
+      (λ t. t ∙ sym (ne_eqb (1996 + y.year) (1996 + k) (λ u. eqb-false y.year k t (omega arith)))))
 
-  -- n is what `opened` counted
-  pub one_opened :
-      (n : ℕ) → p ≡ false → n ≡ run.read + 1 → n ≡ run.read + bit (opens run.year (1996 + (year_of d).0))
-  unfolding opens
-  one_opened n t e =
-      rw (a_year, ne_eqb run.year (1996 + (year_of d).0) (λ z. apart (sym t ∙ held z))) e
-    where
-      apart : false ≡ true → ⊥
-      apart z = subst T (sym z) tt
+  pub number_none : r ≡ None → false ≡ eqb (year_of_run r) (1996 + k)
+  number_none e = rw e (sym (ne_eqb 0 (1996 + k) (λ u. omega arith)))
 
-pub ruleset on_rules = (goes_on, none_opened, one_opened)
+pub ruleset is_of_rules = (number_some, number_none)
 
--- what the test of a pair says: p is what `in_range` returned
+-- what the test of a pair says
 module _ (a b : ℕ) where
   pub within : in_range a b ≡ true → (9496 ≤ a) × (a ≤ 339675) × (9496 ≤ b) × (b ≤ 339675)
   unfolding in_range
@@ -184,129 +153,86 @@ module _ (a b : ℕ) where
   unfolding beginning
   begins_not t = rw t
 
--- next_run
-module _ (cal : HolidayCalendar) (a b : ℕ) (p : Bool) (q : p ≡ in_range a b) (y n : ℕ) (r : Run) where
+-- go_on: p is what `in_range` returned, o what `is_of` did of the run r
+module _ (cal : HolidayCalendar) (a b : ℕ) (p : Bool) (q : p ≡ in_range a b) where
+  pub none_run : p ≡ false → None ≡ run_of cal a b
+  unfolding run_of
+  none_run t = rw (sym q ∙ t)
+
+  pub none_opened : (n : ℕ) → p ≡ false → false ≡ opens n (beginning a b)
+  unfolding opens
+  none_opened n t = rw (begins_not a b (sym q ∙ t))
+
   module _ (t : p ≡ true) where
     pub first_late : 9496 ≤ a
     first_late = (within a b (sym q ∙ t)).0
 
-    pub first_day_lem : a - 9496 ≤ last
-    first_day_lem = omega (arith, within a b (sym q ∙ t))
+    pub first_in : a - 9496 ≤ last
+    first_in = omega (arith, within a b (sym q ∙ t))
 
-    module _ (i : IsRun cal (year_of (a - 9496)).0 r) where
-      pub its_beginning : r.year ≡ beginning a b
-      its_beginning = i.its_number ∙ sym (begins_in a b (sym q ∙ t))
+    pub its_run : (y : CalendarYear) → y ≡ year_by cal (a - 9496) → Some y ≡ run_of cal a b
+    unfolding run_of
+    its_run y e = rw (sym q ∙ t, e)
 
-      pub knows_run : Knows cal r
-      knows_run =
-          let k = (year_of (a - 9496)).0 in
-          let e : r.year - 1996 ≡ k = omega (arith, i.its_number) in
-          record {
-            none = λ z. absurd (omega (arith, i.its_number));
-            of = λ z. (rw e i, omega (arith, i.its_number, year_is (a - 9496) first_day_lem));
-          }
+    module _ (r : Option CalendarYear) (o : Bool) (e : o ≡ eqb (year_of_run r) (1996 + (year_of (a - 9496)).0)) where
+      pub stays : o ≡ true → IfSome r (λ y. y.calendar ≡ cal) → r ≡ run_of cal a b
+      stays u = go r (eqb-true (year_of_run r) (1996 + (year_of (a - 9496)).0) (sym e ∙ u))
+        where
+          go :
+              (r : Option CalendarYear) → year_of_run r ≡ 1996 + (year_of (a - 9496)).0 →
+              IfSome r (λ y. y.calendar ≡ cal) → r ≡ run_of cal a b
+          go None n c = absurd (omega arith)
+          go (Some y) n c =
+              let k : y.year ≡ (year_of (a - 9496)).0 = omega arith in
+              its_run y (ap₂ (λ (x : HolidayCalendar) (z : ℕ). record { calendar = x; year = z }) c k)
 
-    pub counted_in :
-        n ≡ r.read + bit (opens y (1996 + (year_of (a - 9496)).0)) → n ≡ r.read + bit (opens y (beginning a b))
-    counted_in e = rw (begins_in a b (sym q ∙ t)) e
+      pub not_opened : o ≡ true → false ≡ opens (year_of_run r) (beginning a b)
+      unfolding opens
+      not_opened u =
+          rw (begins_in a b (sym q ∙ t), sym e ∙ u) (sym (and_no (not (eqb (1996 + (year_of (a - 9496)).0) 0))))
 
-  module _ (t : p ≡ false) where
-    pub no_beginning_lem : r.year ≡ 0 → r.year ≡ beginning a b
-    no_beginning_lem e = e ∙ sym (begins_not a b (sym q ∙ t))
+      pub is_opened : o ≡ false → true ≡ opens (year_of_run r) (beginning a b)
+      unfolding opens
+      is_opened u =
+          rw (begins_in a b (sym q ∙ t), sym e ∙ u, ne_eqb (1996 + (year_of (a - 9496)).0) 0 (λ z. omega arith))
 
-    pub counted_out : n ≡ r.read → n ≡ r.read + bit (opens y (beginning a b))
-    unfolding opens
-    counted_out e = rw (begins_not a b (sym q ∙ t)) (omega arith)
+pub ruleset run_rules = (none_run, none_opened, first_late, first_in, its_run, stays, not_opened, is_opened)
 
-pub knows_none : (cal : HolidayCalendar) (r : Run) → r.year ≡ 0 → r.after ≡ 0 → Knows cal r
-knows_none cal r e f = record { none = λ z. f; of = λ z. absurd (z e) }
+-- pair_count
+module _ (cal : HolidayCalendar) (a b : ℕ) (r : Option CalendarYear) (e : r ≡ run_of cal a b) where
+  pub pair_out : r ≡ None → 4294967295 ≡ pair_count (is_werktag cal) a b
+  unfolding pair_count run_of
+  pair_out u = split (in_range a b) (λ t. absurd (no (sym u ∙ e ∙ rw t))) (λ t. rw t)
+    where
+      no : None ≡ Some (year_by cal (a - 9496)) → ⊥
+      no z = cc
 
-pub ruleset next_rules =
-    (first_late, first_day_lem, its_beginning, knows_run, counted_in, no_beginning_lem, counted_out, knows_none)
-
--- through: m are the Werktage of the days of the year up to the day d
-module _ (cal : HolidayCalendar) (d : ℕ) (run : Run) (i : IsRun cal (year_of d).0 run) (h : d ≤ last) where
-  pub first_before : run.first ≤ d
-  first_before = omega (arith, i.its_first, year_is d h)
-
-  pub day_in_lem : d - run.first + 1 ≤ year_len run.known.year
-  day_in_lem =
-      days_within cal (year_of d).0 run.known i.its_year (d - run.first + 1)
-      (omega (arith, i.its_first, year_is d h, start_suc year_len (year_of d).0))
-
-  pub day_fits : Fits w32 (d - run.first + 1)
-  day_fits = record { fits = omega arith }
-
-  pub year_in : run.known.year ≤ 903
-  year_in = year_within cal (year_of d).0 run.known i.its_year (year_is d h).2
-
-  pub year_is_known : run.known ≡ holiday_year cal run.known.year
-  year_is_known = year_known cal (year_of d).0 run.known i.its_year
-
-  module _ (m : ℕ) (p : m ≡ among (is_werktag cal) (year_start run.known.year) (d - run.first + 1)) where
-    in_year_lem : m ≡ among (is_werktag cal) (year_start (year_of d).0) (d - run.first + 1)
-    in_year_lem = of_year cal (year_of d).0 run.known i.its_year m (d - run.first + 1) p
-
-    short : d - run.first + 1 ≤ year_len (year_of d).0
-    short = omega (arith, i.its_first, year_is d h, start_suc year_len (year_of d).0)
-
-    pub through_is : run.before + m ≡ count (is_werktag cal) (suc d)
-    through_is =
-        sum_at cal (year_of d).0 (d - run.first + 1) run.before m (year_is d h).2 short i.its_entry in_year_lem
-        (suc d) (omega (arith, i.its_first, year_is d h))
-
-    pub through_most : run.before + m ≤ werktage
-    through_most =
-        sum_most cal (year_of d).0 (d - run.first + 1) run.before m (year_is d h).2 short i.its_entry in_year_lem
-
-    pub through_fits : Fits w32 (run.before + m)
-    through_fits = record { fits = omega (arith, through_most) }
-
-pub ruleset through_rules =
-    (first_before, day_in_lem, day_fits, year_in, year_is_known, through_is, through_most, through_fits)
-
--- werktage_between: a second day before the next year is one of the run's year too
-pub same_run :
-    (cal : HolidayCalendar) (a b : ℕ) (run : Run) → IsRun cal (year_of a).0 run → a ≤ last → a < b → b < run.after →
-    IsRun cal (year_of b).0 run
-same_run cal a b run i h l g =
-    let y = year_is a h in
-    let e : (year_of b).0 ≡ (year_of a).0 =
-    in_its_year b (year_of a).0 (omega arith) (omega arith) (omega (arith, i.its_after)) in
-    rw e i
-
--- pair_count: p is what `in_range` returned
-module _
-    (cal : HolidayCalendar) (a b : ℕ) (run : Run) (c : Knows cal run) (e : run.year ≡ beginning a b) (p : Bool)
-    (q : p ≡ in_range a b) where
-  pub pair_out : p ≡ false → 4294967295 ≡ pair_count (is_werktag cal) a b
-  unfolding pair_count
-  pair_out t = rw (sym q ∙ t)
-
-  module _ (t : p ≡ true) where
-    in_range_lem : in_range a b ≡ true
-    in_range_lem = sym q ∙ t
+  module _ (y : CalendarYear) (u : r ≡ Some y) where
+    is_in : (in_range a b ≡ true) × (y ≡ year_by cal (a - 9496))
+    unfolding run_of
+    is_in =
+        split (in_range a b)
+        (λ t. let z : Some y ≡ Some (year_by cal (a - 9496)) = sym u ∙ e ∙ rw t in (t, cc))
+        (λ t. let z : Some y ≡ None = sym u ∙ e ∙ rw t in cc)
 
     pub pair_first : 9496 ≤ a
-    pair_first = (within a b in_range_lem).0
+    pair_first = (within a b is_in.0).0
 
     pub pair_second : 9496 ≤ b
-    pair_second = (within a b in_range_lem).2
+    pair_second = (within a b is_in.0).2
 
-    pub pair_first_day : a - 9496 ≤ last
-    pair_first_day = omega (arith, within a b in_range_lem)
+    pub pair_first_in : a - 9496 ≤ last
+    pair_first_in = omega (arith, within a b is_in.0)
 
-    pub pair_second_day : b - 9496 ≤ last
-    pair_second_day = omega (arith, within a b in_range_lem)
+    pub pair_second_in : b - 9496 ≤ last
+    pair_second_in = omega (arith, within a b is_in.0)
 
-    pub pair_run : IsRun cal (year_of (a - 9496)).0 run
-    pair_run =
-        let k : run.year - 1996 ≡ (year_of (a - 9496)).0 = omega (arith, e, begins_in a b in_range_lem) in
-        rw k at (c.of (λ z. omega (arith, e, begins_in a b in_range_lem))).0
+    pub pair_year : y ≡ year_by cal (a - 9496)
+    pair_year = is_in.1
 
     pub pair_is :
-        (r : ℕ) → r ≡ between (is_werktag cal) (a - 9496) (b - 9496) → r ≡ pair_count (is_werktag cal) a b
+        (n : ℕ) → n ≡ between (is_werktag cal) (a - 9496) (b - 9496) → n ≡ pair_count (is_werktag cal) a b
     unfolding pair_count
-    pair_is r g = rw in_range_lem g
+    pair_is n g = rw is_in.0 g
 
-pub ruleset pair_rules = (pair_out, pair_first, pair_second, pair_first_day, pair_second_day, pair_run, pair_is)
+pub ruleset pair_rules = (pair_out, pair_first, pair_second, pair_first_in, pair_second_in, pair_year, pair_is)

@@ -1,23 +1,20 @@
 -- What functions promise on their way; no reader need believe it.
---   IsRun cal k r   the run r is of the year 1996 + k: it has its number, the indexes of its first day and of the next
---       year's, the Werktage before it, and what a count inside it needs
---   Knows cal r     the run r is of a year of the calendar, or, with the number 0, of none, and then no day lies in it
+--   year_by cal d   = the year of the day d, of the calendar cal
+--   run_of cal a b  = the run of the pair a, b: the year in which it begins; none, if it is out of range
+--   year_of_run r   = the number of a run's year; 0 for none
 -- Assumes nothing.
-use Rattle.std.specs.Prelude.{ℕ, suc, ◌+◌, ◌-◌, ◌≤◌, ◌≡◌}
-use Rattle.zaehlung.specs.Walk.{count}
-use Rattle.datum.specs.Calendar.{first_year, last_year, year_start}
+use Rattle.std.specs.Prelude.{ℕ, ◌+◌, ◌-◌, cond, Option, Some, None}
+use Rattle.datum.specs.Calendar.{first_year, year_of}
 use Rattle.werktag.specs.declared.HolidayCalendar.{HolidayCalendar}
-use Rattle.werktag.specs.Werktag.{is_werktag}
-use Rattle.jahre.specs.Year.{holiday_year}
-use Rattle.portfolio.specs.declared.Run.{Run}
+use Rattle.jahre.specs.CalendarYear.{CalendarYear}
+use Rattle.portfolio.specs.Portfolio.{first_day, in_range}
 
-pub record IsRun (cal : HolidayCalendar) (k : ℕ) (r : Run) : Type 0 where
-  pub its_number : r.year ≡ first_year + k
-  pub its_first : r.first ≡ year_start k
-  pub its_after : r.after ≡ year_start (suc k)
-  pub its_entry : r.before ≡ count (is_werktag cal) (year_start k)
-  pub its_year : r.known ≡ holiday_year cal k
+abbrev pub year_by : HolidayCalendar → ℕ → CalendarYear
+year_by cal d = record { calendar = cal; year = (year_of d).0 }
 
-pub record Knows (cal : HolidayCalendar) (r : Run) : Type 0 where
-  pub none : r.year ≡ 0 → r.after ≡ 0
-  pub of : (r.year ≡ 0 → ⊥) → IsRun cal (r.year - first_year) r × (r.year ≤ last_year)
+unfoldable pub run_of : HolidayCalendar → ℕ → ℕ → Option CalendarYear
+run_of cal a b = cond (in_range a b) (Some (year_by cal (a - first_day))) None
+
+abbrev pub year_of_run : Option CalendarYear → ℕ
+year_of_run None = 0
+year_of_run (Some y) = first_year + y.year

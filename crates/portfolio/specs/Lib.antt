@@ -1,3 +1,4 @@
 pub mod Portfolio
 pub mod Runs
 pub mod Inside
+pub mod Fields

@@ -5,18 +5,17 @@
 // year shares, the entry and the year's holidays, is worked out once for it.
 #![tactic(auto)]
 
-ghost use Rattle.std.specs.Prelude.{true, ◌&&◌, ◌≡◌, suc, ◌+◌, ◌≤◌, ◌<◌, leb, ltb, length};
-ghost use Rattle.zaehlung.specs.Walk.{last, bit, count, between};
+ghost use Rattle.std.specs.Prelude.{true, ◌≡◌, suc, ◌+◌, ◌≤◌, eqb, length, IfSome};
+ghost use Rattle.zaehlung.specs.Walk.{last, count, between};
 ghost use Rattle.datum.specs.Calendar.{first_year, year_of};
 ghost use Rattle.werktag.specs.Werktag.{is_werktag};
-ghost use Rattle.jahresindex.specs.Entries.{entries};
 ghost use Rattle.jahresindex.specs.Werktage.{werktage};
 ghost use Rattle.portfolio.specs.Portfolio.{is_portfolio, in_calendar, in_range, pair_count, counts_of};
 ghost use Rattle.portfolio.specs.Runs.{beginning, opens, runs};
-ghost use Rattle.portfolio.specs.Inside.{IsRun, Knows};
+ghost use Rattle.portfolio.specs.Inside.{year_by, run_of, year_of_run};
 
 use jahre::HolidayYear;
-use jahresindex::WERKTAGE_BEFORE;
+use std::marker::Model;
 use werktag::HolidayCalendar;
 
 /// The most pairs of one portfolio.
@@ -27,203 +26,164 @@ const FIRST_DAY: u32 = 9496;
 
 const LAST_DAY: u32 = 339675;
 
-/// "A pair with an out-of-range day gives 4,294,967,295 at its place".
+/// "A pair with an out-of-range day gives 4,294,967,295 at its place": the C interface's number for no count.
 const OUT_OF_RANGE: u32 = 4294967295;
 
-/// The calendar's first year, and the number of no year.
-const FIRST_YEAR: u32 = datum::FIRST_YEAR as u32;
+/// A year of a calendar with its entry of the year index: the indexes of its first day and of the next year's, the
+/// Werktage before it, and the year as a count inside it needs it. A run of pairs that begin in one year has one.
+#[derive(Drop)]
+struct IndexedYear {
+    first: u32,
+    after: u32,
+    before: u32,
+    known: HolidayYear,
+}
 
-const NO_YEAR: u32 = 0;
+impl Model for IndexedYear {
+    ghost use Rattle.jahre.specs.CalendarYear.{CalendarYear};
 
-/// The run that a pair belongs to: the year in which its pairs begin, the indexes of that year's first day and of the
-/// next year's, the Werktage before the year, and the year as a count inside it needs it; and how many entries were
-/// read for first days so far. Of a pair out of range the year is `NO_YEAR`, and no day lies in it.
-#[derive(Clone, Copy)]
-pub struct Run {
-    pub year: u32,
-    pub first: u32,
-    pub after: u32,
-    pub before: u32,
-    pub known: HolidayYear,
-    pub read: u32,
+    ghost Value = { CalendarYear };
+
+    ghost use Rattle.portfolio.specs.Fields.{IsIndexed};
+
+    ghost view = { λ a. a.known };
+
+    ghost invariant = { IsIndexed };
 }
 
 /// Whether a portfolio may have lists of these lengths: "10, after 1, if the three lists differ in length or have over
 /// 4,096 entries". One of no pairs is one.
+#[tactic(auto, unfolding(crate::specs::Portfolio::is_portfolio))]
 pub fn is_portfolio(from: usize, to: usize, counts: usize) -> bool
     ensures { result ≡ is_portfolio from to counts }
 {
-    if MOST_PAIRS < from {
-        return false;
-    }
-    if to != from {
-        return false;
-    }
-    counts == from
+    from <= MOST_PAIRS && to == from && counts == from
 }
 
 /// Whether a day lies in the calendar.
 fn in_calendar(day: u32) -> bool
     ensures { result ≡ in_calendar day }
 {
-    if day < FIRST_DAY {
-        return false;
-    }
-    day <= LAST_DAY
+    FIRST_DAY <= day && day <= LAST_DAY
 }
 
 /// Whether both days of a pair do.
+#[tactic(auto, unfolding(crate::specs::Portfolio::in_range))]
 fn in_range(from: u32, to: u32) -> bool
     ensures { result ≡ in_range from to }
 {
-    if in_calendar(from) {
-        return in_calendar(to);
+    in_calendar(from) && in_calendar(to)
+}
+
+impl IndexedYear {
+    /// The year of the day with this index. Here the entry is read.
+    fn of(day: u32, cal: HolidayCalendar) -> IndexedYear
+        requires { day ≤ last }
+        ensures { result ≡ year_by cal day }
+    {
+        let year = datum::year_of(day).year;
+        IndexedYear {
+            first: datum::year_start(year),
+            after: datum::year_start(year + 1),
+            before: jahresindex::werktage_before_year(year, cal),
+            known: HolidayYear::new(year, cal),
+        }
     }
-    false
-}
 
-/// Before the first pair there is no run: any pair in range opens one.
-fn no_run() -> Run
-    ensures { (result.year ≡ 0) × (result.after ≡ 0) × (result.read ≡ 0) }
-{
-    let holidays = [0; 20];
-    let known = HolidayYear {
-        year: 0,
-        first: 0,
-        holidays,
-    };
-    Run {
-        year: NO_YEAR,
-        first: 0,
-        after: 0,
-        before: 0,
-        known,
-        read: 0,
+    /// Whether a day lies in the year.
+    #[tactic(auto, using(crate::proofs::Rules::holds_rules))]
+    fn holds(&self, day: u32) -> bool
+        requires { day ≤ last }
+        ensures { result ≡ eqb self.now.year (year_of day).0 }
+    {
+        self.first <= day && day < self.after
     }
-}
 
-/// "A pair with an out-of-range day .. ends a run and belongs to none": behind it any pair in range opens one.
-fn ended(mut run: Run) -> Run
-    ensures { (result.year ≡ 0) × (result.after ≡ 0) × (result.read ≡ run.read) }
-{
-    run.year = NO_YEAR;
-    run.after = 0;
-    run
-}
+    /// The Werktage up to and with a day of the year.
+    #[tactic(auto, using(crate::proofs::Rules::through_rules))]
+    fn through(&self, day: u32) -> u32
+        requires { (day ≤ last) × (self.now.year ≡ (year_of day).0) }
+        ensures { (result ≡ count (is_werktag self.now.calendar) (suc day)) × (result ≤ werktage) }
+    {
+        self.before + self.known.werktage(day - self.first + 1)
+    }
 
-/// The run that a pair opens whose first day has this index. Here the entry of the year is read, and counted.
-fn opened(from: u32, read: u32, table: &[u32], cal: HolidayCalendar) -> Run
-    requires { (from ≤ last) × (read < 4096) × (table.now ≡ entries) }
-    ensures { IsRun cal (year_of from).0 result × (result.read ≡ read + 1) }
-{
-    let at = datum::year_of(from);
-    let k = at.year;
-    let before = jahresindex::entry_of(table, k, cal);
-    let known = jahre::holiday_year(k, cal);
-    Run {
-        year: FIRST_YEAR + k,
-        first: datum::year_start(k),
-        after: datum::year_start(k + 1),
-        before,
-        known,
-        read: read + 1,
+    /// The Werktage between two days, the first of the year: those up to the second, less those up to the first.
+    #[tactic(auto, using(crate::proofs::Rules::difference_rules))]
+    fn werktage_between(&self, from: u32, to: u32, cal: HolidayCalendar) -> u32
+        requires { (from ≤ last) × (to ≤ last) × (self.now ≡ year_by cal from) }
+        ensures { result ≡ between (is_werktag cal) from to }
+    {
+        if to <= from {
+            return 0;
+        }
+        if self.holds(to) {
+            return self.through(to) - self.through(from);
+        }
+        IndexedYear::of(to, cal).through(to) - self.through(from)
     }
 }
 
-/// Whether a day lies in the year that begins with the day `first` and ends before the day `after`.
-fn holds(first: u32, after: u32, day: u32) -> bool
-    ensures { result ≡ (leb first day && ltb day after) }
+/// Whether a run is of the year of the day with this index.
+#[tactic(auto, using(crate::proofs::Rules::is_of_rules))]
+fn is_of(run: &Option<IndexedYear>, day: u32) -> bool
+    requires { day ≤ last }
+    ensures { result ≡ eqb (year_of_run run.now) (first_year + (year_of day).0) }
 {
-    if first <= day {
-        return day < after;
+    match run {
+        Some(year) => year.holds(day),
+        None => false,
     }
-    false
 }
 
-/// The run of a pair in range, behind the one of the pair before it: the same, or one that it opens.
-fn run_on(run: Run, from: u32, table: &[u32], cal: HolidayCalendar) -> Run
-    requires { Knows cal run × (from ≤ last) × (run.read < 4096) × (table.now ≡ entries) }
-    ensures run { IsRun cal (year_of from).0 result }
-    ensures read_value { result.read ≡ run.read + bit (opens run.year (first_year + (year_of from).0)) }
+/// Goes on to the run of a pair, behind that of the pair before it: the same, or one that it opens; "a pair with an
+/// out-of-range day .. ends a run and belongs to none". Returns whether it opens one, for which an entry is read.
+#[tactic(auto, using(crate::proofs::Rules::run_rules))]
+fn go_on(run: &mut Option<IndexedYear>, from: u32, to: u32, cal: HolidayCalendar) -> bool
+    requires { IfSome run.old (λ y. y.calendar ≡ cal) }
+    ensures goes { run.new ≡ run_of cal from to }
+    ensures value { result ≡ opens (year_of_run run.old) (beginning from to) }
 {
-    if holds(run.first, run.after, from) {
-        return run;
+    if !in_range(from, to) {
+        *run = None;
+        return false;
     }
-    opened(from, run.read, table, cal)
-}
-
-/// The run of a pair of two days, behind the one of the pair before it.
-fn next_run(run: Run, from: u32, to: u32, table: &[u32], cal: HolidayCalendar) -> Run
-    requires { Knows cal run × (run.read < 4096) × (table.now ≡ entries) }
-    ensures knows { Knows cal result × (result.year ≡ beginning from to) }
-    ensures read_value { result.read ≡ run.read + bit (opens run.year (beginning from to)) }
-{
-    if in_range(from, to) {
-        return run_on(run, from - FIRST_DAY, table, cal);
+    let day = from - FIRST_DAY;
+    if is_of(run, day) {
+        return false;
     }
-    ended(run)
-}
-
-/// The Werktage up to and with a day of a run's year.
-fn through(run: Run, day: u32, cal: HolidayCalendar) -> u32
-    requires { IsRun cal (year_of day).0 run × (day ≤ last) }
-    ensures { (result ≡ count (is_werktag cal) (suc day)) × (result ≤ werktage) }
-{
-    let known = run.known;
-    run.before + jahre::werktage_in(known, day - run.first + 1, cal)
-}
-
-/// The same of a day of any year.
-fn through_any(day: u32, table: &[u32], cal: HolidayCalendar) -> u32
-    requires { (day ≤ last) × (table.now ≡ entries) }
-    ensures { (result ≡ count (is_werktag cal) (suc day)) × (result ≤ werktage) }
-{
-    let at = datum::year_of(day);
-    jahresindex::entry_of(table, at.year, cal) + jahre::werktage_in_year(at.year, at.day + 1, cal)
-}
-
-/// The Werktage between two days, the first of a run's year: those up to the second, less those up to the first.
-fn werktage_between(run: Run, from: u32, to: u32, table: &[u32], cal: HolidayCalendar) -> u32
-    requires { IsRun cal (year_of from).0 run × (from ≤ last) × (to ≤ last) × (table.now ≡ entries) }
-    ensures { result ≡ between (is_werktag cal) from to }
-{
-    if to <= from {
-        return 0;
-    }
-    if to < run.after {
-        return through(run, to, cal) - through(run, from, cal);
-    }
-    through_any(to, table, cal) - through(run, from, cal)
+    *run = Some(IndexedYear::of(day, cal));
+    true
 }
 
 /// The count of a pair of two days, whose run is known.
-fn pair_count(run: Run, from: u32, to: u32, table: &[u32], cal: HolidayCalendar) -> u32
-    requires { Knows cal run × (run.year ≡ beginning from to) × (table.now ≡ entries) }
+#[tactic(auto, using(crate::proofs::Rules::pair_rules))]
+fn pair_count(run: &Option<IndexedYear>, from: u32, to: u32, cal: HolidayCalendar) -> u32
+    requires { run.now ≡ run_of cal from to }
     ensures { result ≡ pair_count (is_werktag cal) from to }
 {
-    if in_range(from, to) {
-        return werktage_between(run, from - FIRST_DAY, to - FIRST_DAY, table, cal);
+    match run {
+        Some(year) => year.werktage_between(from - FIRST_DAY, to - FIRST_DAY, cal),
+        None => OUT_OF_RANGE,
     }
-    OUT_OF_RANGE
 }
 
 /// Fills the third list with the counts of the pairs of two others; returns how many entries of the year index were
-/// read for their first days. The table is built once, and read where it stands.
+/// read for their first days.
 ///
 /// From 2 and from 6 April 2026, 20,545 and 20,549, to 7 April, 20,550, there is 1 Werktag each, since the days of
 /// Easter are none; both pairs begin in 2026: 1 entry.
+#[tactic(auto, using(crate::proofs::Counted::counts_rules))]
 pub fn counts_of(from: &[u32], to: &[u32], counts: &mut [u32], cal: HolidayCalendar) -> u32
     requires { is_portfolio (length from.now) (length to.now) (length counts.old) ≡ true }
     ensures counts_after { counts.new ≡ counts_of (is_werktag cal) from.now to.now }
     ensures value { result ≡ runs from.now to.now }
 {
-    let table = WERKTAGE_BEFORE;
-    let mut run = no_run();
-    let mut i = 0;
-    while i < from.len() {
-        run = next_run(run, from[i], to[i], &table, cal);
-        counts[i] = pair_count(run, from[i], to[i], &table, cal);
-        i += 1;
+    let mut run = None;
+    let mut read = 0;
+    for (i, count) in counts.iter_mut().enumerate() {
+        read += u32::from(go_on(&mut run, from[i], to[i], cal));
+        *count = pair_count(&run, from[i], to[i], cal);
     }
-    run.read
+    read
 }

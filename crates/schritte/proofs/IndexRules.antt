@@ -1,10 +1,9 @@
 -- Counts and steps through the year index are those of the walk. What the proofs of `index` and of the steps cite, with
 -- premises in the form in which they stand there; w is the day test of the list.
---   day_rules     `werktage_before`, `werktage_through`: k and r are the year of a day and the day in it, b the entry
+--   day_rules     `werktage_before`: k and r are the year of a day and the day in it, b the entry
 --                 of the year, m the Werktage of its first days
 --   nth_rules     `nth_werktag`: b is the entry of the year k, m the Werktage of its first days that are skipped
 --   step_rules    the steps: b is a count of Werktage, s what `nth_werktag` gave
---   kind_rules    `step`: r is what the function of its kind gave
 --   between_rules the count: x and y are the Werktage up to its two days
 -- Source: the laws of zaehlung, by which a step is said by counts.
 -- Assumes nothing.
@@ -13,10 +12,9 @@ use mathlib.Core.Bool.{Bool}
 use mathlib.Core.Path.{◌≡◌, refl, sym, ap, ◌∙◌}
 use native.Mathlib.Omega.{arith}
 use native.Mathlib.Numerals.{add-one}
+use Rattle.std.proofs.Common.{add-zero}
 use mir.Syntax.{w32}
 use mir.Val.{Fits}
-use Rattle.zaehlung.specs.declared.Step.{Step}
-use Rattle.zaehlung.specs.declared.Step.TheVariants.{Day, Outside}
 use Rattle.zaehlung.specs.Walk.{last, among, count, add, sub, between}
 use Rattle.zaehlung.proofs.Count.{count_none, count_mono, count_among}
 use Rattle.zaehlung.proofs.BlockLaws.{start_suc, start_mono, at_sum}
@@ -25,20 +23,12 @@ use Rattle.zaehlung.proofs.Laws.{between_count, between_later}
 use Rattle.datum.specs.Calendar.{year_len, year_start, year_of}
 use Rattle.datum.proofs.Years.{start_none, start_all, year_len_bounds}
 use Rattle.datum.proofs.Dates.{year_below, year_len_at}
-use Rattle.datum.specs.declared.tage.Tag.{Tag}
-use Rattle.datum.specs.Tage.{tag_at, tag_step}
-use Rattle.datum.specs.declared.tage.TagStep.{TagStep}
-use Rattle.datum.specs.declared.tage.TagStep.TheVariants as reached
-use Rattle.datum.proofs.TagRules.{tag_again, tag_within}
-use Rattle.datum.proofs.TagSteps.{at_day, gone}
 use Rattle.werktag.specs.declared.HolidayCalendar.{HolidayCalendar}
 use Rattle.werktag.specs.Werktag.{is_werktag}
-use Rattle.schritte.specs.declared.index.StepKind.{StepKind}
-use Rattle.schritte.specs.declared.index.StepKind.TheVariants.{Add, Sub}
-use Rattle.schritte.specs.StepOf.{step_of}
 use Rattle.jahre.proofs.Counts.{weeks_few, year_few}
 use Rattle.jahresindex.specs.Werktage.{werktage}
 use Rattle.jahresindex.proofs.Table.{all_is}
+use Rattle.std.specs.Prelude.{Option, None}
 
 -- the year of a day
 pub year_at_lem :
@@ -90,21 +80,15 @@ module _ (cal : HolidayCalendar) where
     pub sum_at : (day : ℕ) → year_start k + n ≡ day → b + m ≡ count w day
     sum_at day q = sum_is ∙ ap (count w) q
 
-  module _ (day k r : ℕ) (h : day ≤ last) (p : k ≡ (year_of day).0) (q : r ≡ (year_of day).1) where
-    pub day_at_lem : year_start k + r ≡ day
-    day_at_lem = (at_year day k r h p q).0
+  module _ (day k r more : ℕ) (h : day ≤ last) (p : k ≡ (year_of day).0) (q : r ≡ (year_of day).1) (a : more ≤ 1) where
+    pub more_at : year_start k + (r + more) ≡ day + more
+    more_at = omega (arith, at_year day k r h p q)
 
-    pub next_at : year_start k + (r + 1) ≡ suc day
-    next_at = omega (arith, day_at_lem)
+    pub more_in_year : r + more ≤ year_len k
+    more_in_year = omega (arith, at_year day k r h p q)
 
-    pub in_year_lem : r ≤ year_len k
-    in_year_lem = omega (arith, at_year day k r h p q)
-
-    pub next_in_year : r + 1 ≤ year_len k
-    next_in_year = omega (arith, at_year day k r h p q)
-
-    pub next_fits : Fits w32 (r + 1)
-    next_fits = record { fits = omega (arith, next_in_year, year_len_bounds k) }
+    pub more_fits : Fits w32 (r + more)
+    more_fits = record { fits = omega (arith, more_in_year, year_len_bounds k) }
 
   module _
       (n k b : ℕ) (h : k ≤ 903) (e : b ≡ count w (year_start k)) (l : b < n)
@@ -154,56 +138,51 @@ module _ (cal : HolidayCalendar) where
             add_add w 0 n (omega arith) (omega arith) (s + days) (n - b - m) guess_in (omega (arith, fewer))
             (omega (arith, first_closed, count_among w (year_start k) (days + 1), fewer))
 
-        -- f is the day from which the rest is walked, x what the walk gave
-        module _
-            (f : Tag) (x : TagStep) (z : f ≡ tag_at (s + days)) (i : x ≡ tag_step (add w f.index (n - b - m))) where
-          walked : add w f.index (n - b - m) ≡ add w 0 n
-          walked = ap (λ (y : Tag). add w y.index (n - b - m)) z ∙ nth
-
-          pub nth_is : (t : Tag) → x ≡ reached.At t → Day t.index ≡ add w 0 n
-          nth_is t q = sym (at_day x (add w f.index (n - b - m)) i t q) ∙ walked
-
-          pub nth_out : x ≡ reached.Outside → Outside ≡ add w 0 n
-          nth_out q = sym (gone x (add w f.index (n - b - m)) i q) ∙ walked
+        pub nth_is : (f : ℕ) (x : Option ℕ) → f ≡ s + days → x ≡ add w f (n - b - m) → x ≡ add w 0 n
+        nth_is f x z i = i ∙ ap (λ (y : ℕ). add w y (n - b - m)) z ∙ nth
 
   module _ (d n b : ℕ) (h : d ≤ last) where
-    pub add_outside : b ≡ count w (suc d) → werktage - b < n → Outside ≡ add w d n
-    add_outside e l = sym ((add_out_iff w d n h).1 (omega (arith, all_is cal)))
+    pub add_outside : b ≡ count w (d + 1) → werktage - b < n → None ≡ add w d n
+    add_outside e' l =
+        let e : b ≡ count w (suc d) = e' ∙ ap (count w) (add-one d) in sym ((add_out_iff w d n h).1 (omega (
+          arith,
+          all_is cal,
+        )))
 
-    pub add_is : (s : Step) → b ≡ count w (suc d) → 1 ≤ n → s ≡ add w 0 (b + n) → s ≡ add w d n
-    add_is s e l i =
+    pub add_is : (s : Option ℕ) → b ≡ count w (d + 1) → 1 ≤ n → s ≡ add w 0 (b + n) → s ≡ add w d n
+    add_is s e' l i =
+        let e : b ≡ count w (suc d) = e' ∙ ap (count w) (add-one d) in
         i ∙ sym (add_add w 0 (b + n) (omega arith) (omega arith) d n h (omega arith) (omega (arith, first_closed)))
 
-    pub sub_outside : b ≡ count w d → b < n → Outside ≡ sub w d n
-    sub_outside e l = sym ((sub_out_iff w d n).1 (omega arith))
+    pub sub_outside : b ≡ count w (d + 0) → b < n → None ≡ sub w d n
+    sub_outside e' l = let e : b ≡ count w d = e' ∙ ap (count w) (add-zero d) in sym ((sub_out_iff w d n).1
+        (omega arith))
 
-    pub sub_is : (s : Step) → b ≡ count w d → 1 ≤ n → n ≤ b → s ≡ add w 0 (b - n + 1) → s ≡ sub w d n
-    sub_is s e l m i =
+    pub sub_is : (s : Option ℕ) → b ≡ count w (d + 0) → 1 ≤ n → n ≤ b → s ≡ add w 0 (b - n + 1) → s ≡ sub w d n
+    sub_is s e' l m i =
+        let e : b ≡ count w d = e' ∙ ap (count w) (add-zero d) in
         i ∙ sym (sub_add w 0 (b - n + 1) (omega arith) (omega arith) d n h (omega arith) (omega (arith, first_closed)))
 
   pub not_later : (a b : ℕ) → b ≤ a → 0 ≡ between w a b
   not_later a b h = sym (between_later w a b h)
 
-  module _ (a b x y : ℕ) (h : a < b) (p : x ≡ count w (suc a)) (q : y ≡ count w (suc b)) where
+  module _ (a b x y : ℕ) (h : a < b) (p' : x ≡ count w (a + 1)) (q' : y ≡ count w (b + 1)) where
+    to_first : x ≡ count w (suc a)
+    to_first = p' ∙ ap (count w) (add-one a)
+
+    to_second : y ≡ count w (suc b)
+    to_second = q' ∙ ap (count w) (add-one b)
+
     pub difference : y - x ≡ between w a b
-    difference = omega (arith, between_count w a b (omega arith))
+    difference = omega (arith, to_first, to_second, between_count w a b (omega arith))
 
     pub no_less : x ≤ y
-    no_less = omega (arith, between_count w a b (omega arith))
+    no_less = omega (arith, to_first, to_second, between_count w a b (omega arith))
 
-module _ (k : StepKind) (w : ℕ → Bool) (d n : ℕ) (r : Step) where
-  pub kind_add : k ≡ Add → r ≡ add w d n → r ≡ step_of k w d n
-  kind_add e p = rw e p
-
-  pub kind_sub : k ≡ Sub → r ≡ sub w d n → r ≡ step_of k w d n
-  kind_sub e p = rw e p
-
-pub ruleset kind_rules = (kind_add, kind_sub)
-
-pub ruleset day_rules = (sum_most, sum_fits, sum_at, day_at_lem, next_at, in_year_lem, next_in_year, next_fits)
+pub ruleset day_rules = (sum_most, sum_fits, sum_at, more_at, more_in_year, more_fits)
 
 pub ruleset nth_rules =
-    (all_of, rest_few, days_few, days_in, fewer, fewer_by, guess_in, tag_again, tag_within, nth_is, nth_out)
+    (all_of, rest_few, days_few, days_in, fewer, fewer_by, guess_in, nth_is)
 
 pub ruleset step_rules = (add_outside, add_is, sub_outside, sub_is)
 

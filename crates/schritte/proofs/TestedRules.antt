@@ -6,40 +6,34 @@
 -- Source: the definition of Tested.
 -- Assumes nothing.
 use Prim.Native.Nat.{ℕ, suc, ◌+◌, ◌-◌, ◌≤◌, ◌<◌}
-use mathlib.Core.Bool.{Bool}
-use mathlib.Core.Path.{◌≡◌, refl, ap, ◌∙◌}
+use mathlib.Core.Bool.{Bool, true, false}
+use mathlib.Core.Path.{◌≡◌, refl, sym, ap, ◌∙◌}
 use native.Mathlib.Omega.{arith}
+use native.Mathlib.Numerals.{add-one}
 use borrow.Author.Tests.{lt-ltb, le-ltb}
 use mir.Syntax.{w32}
-use mir.Val.{Fits}
+use mir.Val.{Fits, bool_byte}
 use Rattle.zaehlung.specs.Walk.{last, bit, among, count}
-use Rattle.zaehlung.proofs.Count.{count_suc, count_among}
+use Rattle.zaehlung.proofs.Count.{bit_small, count_suc, count_among}
 use Rattle.datum.specs.Calendar.{year_start, year_of, day_of_year}
-use Rattle.datum.specs.declared.tage.Tag.{Tag}
 use Rattle.datum.proofs.Years.{year_len_bounds}
 use Rattle.werktag.specs.declared.HolidayCalendar.{HolidayCalendar}
 use Rattle.werktag.specs.Werktag.{is_werktag}
 use Rattle.schritte.specs.Tested.{days_tested}
 use Rattle.schritte.proofs.IndexRules.{year_at_lem, at_year, at_most_all}
 
--- test_days: i is the day at which the walk stands, r what `werktage_at` gave; the walk began at the day u, which is f
+-- test_days: i is the day at which the walk stands, r what the day test gave, 1 or 0
 pub tested_start : (w : ℕ → Bool) (i r : ℕ) → r ≡ bit (w i) → r ≡ among w i 1
 unfolding among
 tested_start w i r p = omega arith
 
-module _ (u f : Tag) (b : u ≡ f) where
-  begun : u.index ≡ f.index
-  begun = ap (λ (x : Tag). x.index) b
+-- a test's answer as a number
+pub bool_bit : (b : Bool) → bool_byte b ≡ bit b
+bool_bit true = refl
+bool_bit false = refl
 
-  pub tested_by : (d : ℕ) → f.index ≤ d → u.index ≤ d
-  tested_by d h = omega (arith, begun)
-
-  pub tested_among : (w : ℕ → Bool) (c t : ℕ) → c ≡ among w u.index t → c ≡ among w f.index t
-  tested_among w c t e = e ∙ ap (λ (x : ℕ). among w x t) begun
-
-  pub tested_all :
-      (t i d : ℕ) → i + 1 ≡ u.index + t → 1 ≤ t → i ≤ d → d ≤ i → t ≡ d - f.index + 1
-  tested_all t i d q o h g = omega (arith, begun)
+pub one_most : (b : Bool) (r : ℕ) → r ≡ bit b → r ≤ 1
+one_most b r e = omega (arith, bit_small b)
 
 module _ (w : ℕ → Bool) (f c t i i' r : ℕ) (inv : c ≡ among w f t) (q : i + 1 ≡ f + t) (s : i' ≡ i + 1) where
   pub tested_more : r ≡ bit (w i') → c + r ≡ among w f (t + 1)
@@ -58,7 +52,7 @@ module _ (w : ℕ → Bool) (f c t i i' r : ℕ) (inv : c ≡ among w f t) (q : 
   pub tested_next : i' + 1 ≡ f + (t + 1)
   tested_next = omega arith
 
-pub ruleset test_rules = (tested_start, tested_by, tested_among, tested_all, tested_more, tested_next)
+pub ruleset test_rules = (tested_start, tested_more, tested_next)
 
 -- count_through: k is the year of the day, f the index of its first day
 module _ (day k f : ℕ) (h : day ≤ last) (p : k ≡ (year_of day).0) (q : f ≡ day - (year_of day).1) where
@@ -71,15 +65,18 @@ module _ (day k f : ℕ) (h : day ≤ last) (p : k ≡ (year_of day).0) (q : f �
   module _
       (cal : HolidayCalendar) (b c t : ℕ) (e : b ≡ count (is_werktag cal) (year_start k))
       (i : c ≡ among (is_werktag cal) f t) (l : t ≡ day - f + 1) where
-    pub through_is : b + c ≡ count (is_werktag cal) (suc day)
-    through_is =
+    at_suc : b + c ≡ count (is_werktag cal) (suc day)
+    at_suc =
         let w = is_werktag cal in
         let s : f ≡ year_start k = omega (arith, at_year day k (year_of day).1 h p refl) in
         let o : f + t ≡ suc day = omega (arith, first_by) in
         omega (arith, ap (count w) s, ap (count w) o, count_among w f t)
 
+    pub through_is : b + c ≡ count (is_werktag cal) (day + 1)
+    through_is = at_suc ∙ ap (count (is_werktag cal)) (sym (add-one day))
+
     pub through_fits : Fits w32 (b + c)
-    through_fits = record { fits = omega (arith, through_is, at_most_all cal (suc day) (omega arith)) }
+    through_fits = record { fits = omega (arith, at_suc, at_most_all cal (suc day) (omega arith)) }
 
 pub ruleset through_rules = (first_by, tested_is, through_is, through_fits)
 

@@ -1,50 +1,31 @@
 // Counts and steps through the year index: the Werktage before a year, those of its first days, and back from a number
 // of Werktage to the day.
-ghost use Rattle.std.specs.Prelude.{◌≡◌, suc, ◌≤◌, ◌<◌};
-ghost use Rattle.zaehlung.specs.Walk.{last, count, add, sub, between};
-ghost use Rattle.datum.specs.Tage.{tag_at};
+ghost use Rattle.std.specs.Prelude.{◌≡◌, ◌+◌, ◌≤◌, ◌<◌};
+ghost use Rattle.zaehlung.specs.Walk.{last, count, add, between};
 ghost use Rattle.werktag.specs.Werktag.{is_werktag};
 ghost use Rattle.jahresindex.specs.Werktage.{werktage};
-ghost use Rattle.schritte.specs.StepOf.{step_of};
 
-use datum::tage::{Tag, TagStep};
+use datum::tage::Tag;
+use gang::{Richtung, Vor, Zurueck};
 use jahresindex::WERKTAGE;
 use werktag::HolidayCalendar;
-use zaehlung::Step;
-
-/// The two steps: the n-th Werktag after a day, and the n-th before it.
-#[derive(Clone, Copy)]
-pub enum StepKind {
-    Add,
-    Sub,
-}
 
 /// The days of a week, and those of them that may be Werktage.
 const WEEK: u32 = 7;
 
 const WEEKDAYS: u32 = 5;
 
-/// The Werktage of the calendar before a day.
+/// The Werktage of the calendar before a day, or before the day after it: `more` days on.
 ///
-/// 7,431 before 7 April 2026.
-fn werktage_before(day: Tag, cal: HolidayCalendar) -> u32
-    requires { (day ≡ tag_at day.index) × (day.index ≤ last) }
-    ensures { (result ≡ count (is_werktag cal) day.index) × (result ≤ werktage) }
-{
-    let at = datum::tage::year_day(day);
-    jahresindex::werktage_before_year(at.year, cal) + jahre::werktage_in_year(at.year, at.day, cal)
-}
-
-/// The Werktage of the calendar up to and with a day.
-///
-/// 7,432 up to 7 April 2026, a Werktag.
-fn werktage_through(day: Tag, cal: HolidayCalendar) -> u32
-    requires { (day ≡ tag_at day.index) × (day.index ≤ last) }
-    ensures { (result ≡ count (is_werktag cal) (suc day.index)) × (result ≤ werktage) }
+/// 7,431 before 7 April 2026, and with 1, since that is a Werktag, 7,432.
+#[tactic(auto, using(crate::proofs::IndexRules::day_rules))]
+fn werktage_before(day: Tag, more: u32, cal: HolidayCalendar) -> u32
+    requires { more ≤ 1 }
+    ensures { (result ≡ count (is_werktag cal) (day + more)) × (result ≤ werktage) }
 {
     let at = datum::tage::year_day(day);
     jahresindex::werktage_before_year(at.year, cal)
-        + jahre::werktage_in_year(at.year, at.day + 1, cal)
+        + jahre::werktage_in_year(at.year, at.day + more, cal)
 }
 
 /// The `n`-th Werktag of the calendar: the `n`-th after 1 January 1996, which is none.
@@ -53,7 +34,8 @@ fn werktage_through(day: Tag, cal: HolidayCalendar) -> u32
 /// day that is not past it, and only the days from there on are walked: those that holidays put off.
 ///
 /// The first is 2 January 1996, the 7,432nd 7 April 2026.
-fn nth_werktag(n: u32, cal: HolidayCalendar) -> Step
+#[tactic(auto, using(crate::proofs::IndexRules::nth_rules))]
+fn nth_werktag(n: u32, cal: HolidayCalendar) -> Option<u32>
     requires { (1 ≤ n) × (n ≤ werktage) }
     ensures { result ≡ add (is_werktag cal) 0 n }
 {
@@ -62,53 +44,50 @@ fn nth_werktag(n: u32, cal: HolidayCalendar) -> Step
     let days = (rest - 1) / WEEKDAYS * WEEK;
     let passed = jahre::werktage_in_year(entry.year, days + 1, cal);
     let from = datum::tage::tag_at(datum::year_start(entry.year) + days);
-    let TagStep::At(werktag) = gang::add_werktage(from, rest - passed, cal) else {
-        return Step::Outside;
-    };
-    Step::Day(werktag.index)
+    let werktag = gang::nth_werktag::<Vor>(from, rest - passed, cal)?;
+    Some(werktag.index)
 }
 
-/// The `n`-th Werktag after `from`: as many Werktage lie up to it as up to `from`, and `n`.
-fn add_werktage(from: Tag, n: u32, cal: HolidayCalendar) -> Step
-    requires { (from ≡ tag_at from.index) × (from.index ≤ last) × (1 ≤ n) }
-    ensures { result ≡ add (is_werktag cal) from.index n }
-{
-    let through = werktage_through(from, cal);
-    if WERKTAGE - through < n {
-        return Step::Outside;
+/// A direction in which the `n`-th Werktag is found by counts too. It stays a call, out of the way of the loop that
+/// walks a few Werktage.
+pub trait Gezaehlt: Richtung {
+    /// The `n`-th Werktag in the direction, through the index.
+    fn nth_by_count(from: Tag, n: u32, cal: HolidayCalendar) -> Option<u32>
+        requires { 1 ≤ n }
+        ensures { result ≡ Self.step (is_werktag cal) from n };
+}
+
+impl Gezaehlt for Vor {
+    /// As many Werktage lie up to it as up to `from`, and `n`.
+    #[inline(never)]
+    #[tactic(auto, using(crate::proofs::IndexRules::step_rules))]
+    fn nth_by_count(from: Tag, n: u32, cal: HolidayCalendar) -> Option<u32> {
+        let through = werktage_before(from, 1, cal);
+        if WERKTAGE - through < n {
+            return None;
+        }
+        nth_werktag(through + n, cal)
     }
-    nth_werktag(through + n, cal)
 }
 
-/// The `n`-th Werktag before `from`: as many Werktage lie before it as before `from`, less `n`.
-fn sub_werktage(from: Tag, n: u32, cal: HolidayCalendar) -> Step
-    requires { (from ≡ tag_at from.index) × (from.index ≤ last) × (1 ≤ n) }
-    ensures { result ≡ sub (is_werktag cal) from.index n }
-{
-    let before = werktage_before(from, cal);
-    if before < n {
-        return Step::Outside;
-    }
-    nth_werktag(before - n + 1, cal)
-}
-
-/// A step through the index, by its kind. One function for both, so that it stays a call: the loop that walks a
-/// few Werktage then stands where a step is asked for, and is as fast as if there were no index.
-pub fn step(kind: StepKind, day: Tag, n: u32, cal: HolidayCalendar) -> Step
-    requires { (day ≡ tag_at day.index) × (day.index ≤ last) × (1 ≤ n) }
-    ensures { result ≡ step_of kind (is_werktag cal) day.index n }
-{
-    match kind {
-        StepKind::Add => add_werktage(day, n, cal),
-        StepKind::Sub => sub_werktage(day, n, cal),
+impl Gezaehlt for Zurueck {
+    /// As many Werktage lie before it as before `from`, less `n`.
+    #[inline(never)]
+    #[tactic(auto, using(crate::proofs::IndexRules::step_rules))]
+    fn nth_by_count(from: Tag, n: u32, cal: HolidayCalendar) -> Option<u32> {
+        let before = werktage_before(from, 0, cal);
+        if before < n {
+            return None;
+        }
+        nth_werktag(before - n + 1, cal)
     }
 }
 
 /// The Werktage after `from` up to and including `to`: those up to `to`, less those up to `from`.
+#[tactic(auto, using(crate::proofs::IndexRules::between_rules))]
 pub fn werktage_between(from: Tag, to: Tag, cal: HolidayCalendar) -> u32
-    requires from_value { (from ≡ tag_at from.index) × (to ≡ tag_at to.index) }
-    requires index_lt_index { (from.index < to.index) × (to.index ≤ last) }
-    ensures { result ≡ between (is_werktag cal) from.index to.index }
+    requires { from < to }
+    ensures { result ≡ between (is_werktag cal) from to }
 {
-    werktage_through(to, cal) - werktage_through(from, cal)
+    werktage_before(to, 1, cal) - werktage_before(from, 1, cal)
 }

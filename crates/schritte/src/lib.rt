@@ -5,41 +5,41 @@
 
 ghost use Rattle.std.specs.Prelude.{◌≡◌, ◌-◌, ◌≤◌};
 ghost use Rattle.zaehlung.specs.Walk.{last, bit, day_after, day_before, add, sub, next, W, between};
-ghost use Rattle.datum.specs.Tage.{tag_at, tag_step};
 ghost use Rattle.werktag.specs.Werktag.{is_werktag};
 
 pub mod index;
 pub mod tested;
 
-use datum::tage::{Tag, TagStep};
-use index::StepKind;
+use datum::tage::Tag;
+use gang::{Vor, Zurueck};
+use index::Gezaehlt;
 use werktag::HolidayCalendar;
-use zaehlung::{FIRST, LAST, Step};
+use zaehlung::{FIRST, LAST};
 
-/// The day after, Werktag or not, or `Outside` past the calendar's last day.
+/// The day after, Werktag or not, or `None` past the calendar's last day.
 ///
 /// After 31 December 2025: 1 January 2026.
-pub fn day_after(day: Tag) -> TagStep
-    requires { (day ≡ tag_at day.index) × (day.index ≤ last) }
-    ensures { result ≡ tag_step (day_after day.index) }
+#[tactic(auto, using(crate::proofs::Rules::edge_rules))]
+pub fn day_after(day: Tag) -> Option<Tag>
+    ensures { result ≡ day_after day }
 {
     if LAST <= day.index {
-        return TagStep::Outside;
+        return None;
     }
-    TagStep::At(datum::tage::day_after(day))
+    Some(datum::tage::day_after(day))
 }
 
-/// The day before, Werktag or not, or `Outside` before the calendar's first day.
+/// The day before, Werktag or not, or `None` before the calendar's first day.
 ///
 /// Before 1 January 2026: 31 December 2025.
-pub fn day_before(day: Tag) -> TagStep
-    requires { (day ≡ tag_at day.index) × (day.index ≤ last) }
-    ensures { result ≡ tag_step (day_before day.index) }
+#[tactic(auto, using(crate::proofs::Rules::edge_rules))]
+pub fn day_before(day: Tag) -> Option<Tag>
+    ensures { result ≡ day_before day }
 {
     if day.index <= FIRST {
-        return TagStep::Outside;
+        return None;
     }
-    TagStep::At(datum::tage::day_before(day))
+    Some(datum::tage::day_before(day))
 }
 
 /// Up to so many Werktage a step is walked, and up to so many days a count. From there on the index is faster, whatever
@@ -48,7 +48,18 @@ const FEW_WERKTAGE: u32 = 60;
 
 const FEW_DAYS: u32 = 50;
 
-/// The `n`-th Werktag after `from`, or `Outside` where that would be past the calendar's last day.
+/// The `n`-th Werktag from a day on in a direction: few are walked, many counted.
+fn nth_werktag<R: Gezaehlt>(from: Tag, n: u32, cal: HolidayCalendar) -> Option<Tag>
+    ensures { result ≡ R.step (is_werktag cal) from n }
+{
+    if n <= FEW_WERKTAGE {
+        return gang::nth_werktag::<R>(from, n, cal);
+    }
+    let day = R::nth_by_count(from, n, cal)?;
+    Some(datum::tage::tag_at(day))
+}
+
+/// The `n`-th Werktag after `from`, or `None` where that would be past the calendar's last day.
 ///
 /// GPKE (BK6-24-174) Teil 1: a Werktag is any day that is not a Saturday, a Sunday or a public holiday.
 ///
@@ -56,20 +67,13 @@ const FEW_DAYS: u32 = 50;
 ///
 /// Monday 6 January 2025 and 5 Werktage: Tue 7, Wed 8, Thu 9, Fri 10, Mon 13 January. Thursday 2 April 2026 and 1
 /// Werktag, over Easter: Tuesday 7 April.
-pub fn add_werktage(from: Tag, n: u32, cal: HolidayCalendar) -> TagStep
-    requires { (from ≡ tag_at from.index) × (from.index ≤ last) }
-    ensures { result ≡ tag_step (add (is_werktag cal) from.index n) }
+pub fn add_werktage(from: Tag, n: u32, cal: HolidayCalendar) -> Option<Tag>
+    ensures { result ≡ add (is_werktag cal) from n }
 {
-    if n <= FEW_WERKTAGE {
-        return gang::add_werktage(from, n, cal);
-    }
-    let Step::Day(day) = index::step(StepKind::Add, from, n, cal) else {
-        return TagStep::Outside;
-    };
-    TagStep::At(datum::tage::tag_at(day))
+    nth_werktag::<Vor>(from, n, cal)
 }
 
-/// The `n`-th Werktag before `from`, or `Outside` where that would be before the calendar's first day: the mirror of
+/// The `n`-th Werktag before `from`, or `None` where that would be before the calendar's first day: the mirror of
 /// `add_werktage`.
 ///
 /// This is the arithmetic behind a Vorlauffrist: 'spätester ÜT ist der n. WT vor dem gewünschten Termin'.
@@ -77,17 +81,10 @@ pub fn add_werktage(from: Tag, n: u32, cal: HolidayCalendar) -> TagStep
 /// With `n = 0`: `from` unchanged, Werktag or not.
 ///
 /// Monday 13 January 2025 less 5 Werktage: Fri 10, Thu 9, Wed 8, Tue 7, and past Heilige Drei Könige Fri 3 January.
-pub fn sub_werktage(from: Tag, n: u32, cal: HolidayCalendar) -> TagStep
-    requires { (from ≡ tag_at from.index) × (from.index ≤ last) }
-    ensures { result ≡ tag_step (sub (is_werktag cal) from.index n) }
+pub fn sub_werktage(from: Tag, n: u32, cal: HolidayCalendar) -> Option<Tag>
+    ensures { result ≡ sub (is_werktag cal) from n }
 {
-    if n <= FEW_WERKTAGE {
-        return gang::sub_werktage(from, n, cal);
-    }
-    let Step::Day(day) = index::step(StepKind::Sub, from, n, cal) else {
-        return TagStep::Outside;
-    };
-    TagStep::At(datum::tage::tag_at(day))
+    nth_werktag::<Zurueck>(from, n, cal)
 }
 
 /// The Werktage after `from` up to and including `to`: the inverse of `add_werktage`, since from `from` to its `n`-th
@@ -96,10 +93,9 @@ pub fn sub_werktage(from: Tag, n: u32, cal: HolidayCalendar) -> TagStep
 /// 0 if `to` isn't later than `from`.
 ///
 /// From Monday 6 to Monday 13 January 2025: 5.
+#[tactic(auto, using(crate::proofs::IndexRules::between_rules))]
 pub fn werktage_between(from: Tag, to: Tag, cal: HolidayCalendar) -> u32
-    requires from_value { (from ≡ tag_at from.index) × (from.index ≤ last) }
-    requires to_value { (to ≡ tag_at to.index) × (to.index ≤ last) }
-    ensures { result ≡ between (is_werktag cal) from.index to.index }
+    ensures { result ≡ between (is_werktag cal) from to }
 {
     if to.index <= from.index {
         return 0;
@@ -110,25 +106,26 @@ pub fn werktage_between(from: Tag, to: Tag, cal: HolidayCalendar) -> u32
     index::werktage_between(from, to, cal)
 }
 
-/// The first Werktag on or after `from`, or `Outside` where no day up to the calendar's last is one.
+/// The first Werktag on or after `from`, or `None` where no day up to the calendar's last is one.
 ///
 /// `add_werktage` with 0 leaves a Sunday or a holiday where it is; this goes on to the next Werktag.
 ///
 /// From Sunday 12 January 2025: Monday 13 January. From that Monday: the same Monday.
-pub fn next_werktag(from: Tag, cal: HolidayCalendar) -> TagStep
-    requires { (from ≡ tag_at from.index) × (from.index ≤ last) }
-    ensures { result ≡ tag_step (next (is_werktag cal) from.index) }
+#[tactic(auto, using(crate::proofs::Rules::next_rules))]
+pub fn next_werktag(from: Tag, cal: HolidayCalendar) -> Option<Tag>
+    ensures { result ≡ next (is_werktag cal) from }
 {
     if werktag::is_werktag(from, cal) {
-        return TagStep::At(from);
+        return Some(from);
     }
-    gang::add_werktage(from, 1, cal)
+    gang::nth_werktag::<Vor>(from, 1, cal)
 }
 
 /// How many of `n` Werktage on or after `t` lie after it: `t` may be the first of them.
+#[tactic(auto, using(crate::proofs::Rules::left_rules))]
 fn after_today(t: Tag, n: u32, cal: HolidayCalendar) -> u32
-    requires { (t ≡ tag_at t.index) × (t.index ≤ last) × (1 ≤ n) }
-    ensures { result ≡ n - bit (is_werktag cal t.index) }
+    requires { 1 ≤ n }
+    ensures { result ≡ n - bit (is_werktag cal t) }
 {
     if werktag::is_werktag(t, cal) {
         return n - 1;
@@ -137,57 +134,53 @@ fn after_today(t: Tag, n: u32, cal: HolidayCalendar) -> u32
 }
 
 /// The `n`-th Werktag on or after a day, of at least one.
-fn nth_on_or_after(day: Tag, n: u32, cal: HolidayCalendar) -> Step
-    requires { (day ≡ tag_at day.index) × (day.index ≤ last) × (1 ≤ n) }
-    ensures { result ≡ add (is_werktag cal) day.index (n - bit (is_werktag cal day.index)) }
+fn nth_on_or_after(day: Tag, n: u32, cal: HolidayCalendar) -> Option<u32>
+    requires { 1 ≤ n }
+    ensures { result ≡ add (is_werktag cal) day (n - bit (is_werktag cal day)) }
 {
     let left = after_today(day, n, cal);
     if left == 0 {
-        return Step::Day(day.index);
+        return Some(day.index);
     }
-    let TagStep::At(werktag) = gang::add_werktage(day, left, cal) else {
-        return Step::Outside;
-    };
-    Step::Day(werktag.index)
+    let werktag = gang::nth_werktag::<Vor>(day, left, cal)?;
+    Some(werktag.index)
 }
 
 /// The `n`-th Werktag after a day that is known by its index alone, as that of an instant is. For few Werktage the next
 /// weekday is taken apart and not the day itself: in most cases that is the Werktag.
 ///
 /// With `n = 0`: the day unchanged, Werktag or not.
-pub fn nth_werktag_after(day: u32, n: u32, cal: HolidayCalendar) -> Step
+pub fn nth_werktag_after(day: u32, n: u32, cal: HolidayCalendar) -> Option<u32>
     requires { day ≤ last }
     ensures { result ≡ add (is_werktag cal) day n }
 {
     if n == 0 {
-        return Step::Day(day);
+        return Some(day);
     }
     if FEW_WERKTAGE < n {
-        return index::step(StepKind::Add, datum::tage::tag_at(day), n, cal);
+        return Vor::nth_by_count(datum::tage::tag_at(day), n, cal);
     }
     let days = gang::to_weekday(datum::weekday(day)) as u32;
     if LAST - day < days {
-        return Step::Outside;
+        return None;
     }
     nth_on_or_after(datum::tage::tag_at(day + days), n, cal)
 }
 
-/// W(n) of document 01: 't for n = 0, else the day after the n-th Werktag on or after t', or `Outside` where that would
+/// W(n) of document 01: 't for n = 0, else the day after the n-th Werktag on or after t', or `None` where that would
 /// be past the calendar's last day.
 ///
 /// With `n = 0`: `t` unchanged, Werktag or not.
 ///
 /// From Saturday 10 January 2026 with 1: the Werktag is Monday 12, so Tuesday 13 January. `add_werktage` reaches the
 /// Monday.
-pub fn day_after_werktage(t: Tag, n: u32, cal: HolidayCalendar) -> TagStep
-    requires { (t ≡ tag_at t.index) × (t.index ≤ last) }
-    ensures { result ≡ tag_step (W (is_werktag cal) t.index n) }
+pub fn day_after_werktage(t: Tag, n: u32, cal: HolidayCalendar) -> Option<Tag>
+    ensures { result ≡ W (is_werktag cal) t n }
 {
     if n == 0 {
-        return TagStep::At(t);
+        return Some(t);
     }
-    let TagStep::At(werktag) = add_werktage(t, after_today(t, n, cal), cal) else {
-        return TagStep::Outside;
-    };
+    let _ = &t.index;
+    let werktag = add_werktage(t, after_today(t, n, cal), cal)?;
     day_after(werktag)
 }

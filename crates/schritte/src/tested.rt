@@ -3,7 +3,6 @@
 ghost use Rattle.std.specs.Prelude.{◌≡◌, suc, ◌+◌, ◌-◌, ◌≤◌};
 ghost use Rattle.zaehlung.specs.Walk.{last, among, between, count};
 ghost use Rattle.datum.specs.Calendar.{day_of_year};
-ghost use Rattle.datum.specs.Tage.{tag_at};
 ghost use Rattle.werktag.specs.Werktag.{is_werktag};
 ghost use Rattle.schritte.specs.Tested.{days_tested};
 
@@ -18,27 +17,27 @@ pub struct Count {
 }
 
 /// The days from `first` up to and with `day`, each tested: the Werktage among as many days as are reported.
+#[tactic(auto, using(crate::proofs::TestedRules::test_rules))]
 fn test_days(first: Tag, day: u32, cal: HolidayCalendar) -> Count
-    requires { (first ≡ tag_at first.index) × (first.index ≤ day) × (day ≤ last) }
-    ensures { (result.werktage ≡ among (is_werktag cal) first.index result.tested)
-        × (result.tested ≡ day - first.index + 1) }
+    requires { (first ≤ day) × (day ≤ last) }
+    ensures { (result.werktage ≡ among (is_werktag cal) first result.tested) × (result.tested ≡ day - first + 1) }
 {
     let mut at = gang::stand_at(first);
     let mut tested: u32 = 1;
-    let mut werktage = gang::werktage_at(at, cal);
-    while at.tag.index < day {
+    let mut werktage = u32::from(gang::at_werktag(at, cal));
+    for _ in first.index..day {
         at = gang::on(at, 1);
         tested += 1;
-        werktage += gang::werktage_at(at, cal);
+        werktage += u32::from(gang::at_werktag(at, cal));
     }
     Count { werktage, tested }
 }
 
 /// The Werktage of the calendar up to and with a day: those before its year, and those among the days of the year from
 /// 1 January on, each tested.
+#[tactic(auto, using(crate::proofs::TestedRules::through_rules))]
 fn count_through(day: Tag, cal: HolidayCalendar) -> Count
-    requires { (day ≡ tag_at day.index) × (day.index ≤ last) }
-    ensures { (result.werktage ≡ count (is_werktag cal) (suc day.index)) × (result.tested ≡ day_of_year day.index) }
+    ensures { (result.werktage ≡ count (is_werktag cal) (day + 1)) × (result.tested ≡ day_of_year day) }
 {
     let year = datum::tage::year_day(day).year;
     let before = jahresindex::werktage_before_year(year, cal);
@@ -53,11 +52,9 @@ fn count_through(day: Tag, cal: HolidayCalendar) -> Count
 /// days from 1 January up to and including it'. Both 0 if `to` isn't later.
 ///
 /// From 2 to 7 April 2026: 1 Werktag, and 92 + 97 days tested.
+#[tactic(auto, using(crate::proofs::IndexRules::between_rules, crate::proofs::TestedRules::count_rules))]
 pub fn count_werktage(from: Tag, to: Tag, cal: HolidayCalendar) -> Count
-    requires from_value { (from ≡ tag_at from.index) × (from.index ≤ last) }
-    requires to_value { (to ≡ tag_at to.index) × (to.index ≤ last) }
-    ensures { (result.werktage ≡ between (is_werktag cal) from.index to.index)
-        × (result.tested ≡ days_tested from.index to.index) }
+    ensures { (result.werktage ≡ between (is_werktag cal) from to) × (result.tested ≡ days_tested from to) }
 {
     if to.index <= from.index {
         return Count {

@@ -13,8 +13,6 @@ use mathlib.Core.Logic.{◌↔◌, ◌≢◌}
 use mathlib.Core.Path.{◌≡◌, refl}
 use native.Mathlib.Omega.{arith}
 use lib.Dec.{ltb}
-use Rattle.zaehlung.specs.declared.Step.{Step}
-use Rattle.zaehlung.specs.declared.Step.TheVariants.{Day}
 use Rattle.zaehlung.specs.Walk.{last, on_step, add, sub, between}
 use Rattle.zaehlung.proofs.Reach.{add_day, sub_day}
 use Rattle.datum.specs.Monate.{months_later}
@@ -24,15 +22,16 @@ use Rattle.vorlauf.specs.declared.VorlaufShape.TheVariants.{LatestWerktageAfter,
 use Rattle.vorlauf.specs.declared.VorlaufShape.TheVariants.{TagVorDemLetztenWerktagVor, LatestMonateBefore}
 use Rattle.vorlauf.specs.declared.VorlaufShape.TheVariants.{LatestMonateUndWerktageBefore}
 use Rattle.vorlauf.specs.declared.VorlaufVerdict.{VorlaufVerdict}
-use Rattle.vorlauf.specs.declared.VorlaufVerdict.TheVariants.{Ok, TooLate, TooEarly, Outside as Refused}
+use Rattle.vorlauf.specs.declared.VorlaufVerdict.TheVariants.{Ok, TooLate, TooEarly}
 use Rattle.vorlauf.specs.Verdict.{closes, reaches, fruehester_termin_nach_tag_vor_dem_letzten_werktag}
 use Rattle.vorlauf.specs.Verdict.{not_after, verdict_on, check_of}
 use Rattle.spannen.proofs.SpansSteps.{sub_fewer}
 use Rattle.spannen.proofs.SpansCases.{day_cases, upto_cases, under_cases}
 use Rattle.spannen.proofs.SpansLate.{late_says}
+use Rattle.std.specs.Prelude.{Option, Some, None}
 
-abbrev pub IsLate : VorlaufVerdict → Type 0
-IsLate v = (b : ℕ) × (y : ℕ) × (v ≡ TooLate b y)
+abbrev pub IsLate : Option VorlaufVerdict → Type 0
+IsLate v = (b : ℕ) × (y : ℕ) × (v ≡ (Some (TooLate b y)))
 
 abbrev pub Ordered : VorlaufShape → Type 0
 Ordered (LatestWerktageBefore n) = Unit {0}
@@ -45,46 +44,49 @@ Ordered (LatestMonateBefore n) = Unit {0}
 Ordered (LatestMonateUndWerktageBefore monate werktage) = Unit {0}
 
 -- unless v is refused, it is TooLate
-abbrev Lates : VorlaufVerdict → Type 0
-Lates v = v ≢ Refused → IsLate v
+abbrev Lates : Option VorlaufVerdict → Type 0
+Lates v = v ≢ None → IsLate v
 
-step_lates : (s : Step) (f : ℕ → VorlaufVerdict) → ((d : ℕ) → s ≡ Day d → Lates (f d)) → Lates (on_step Refused s f)
+step_lates :
+    (s : Option ℕ) (f : ℕ → Option VorlaufVerdict) → ((d : ℕ) → s ≡ Some d → Lates (f d)) → Lates (on_step None s f)
 step_lates s f = day_cases Lates s f (λ _ n. absurd (n refl))
 
 module _ (w : ℕ → Bool) (t a : ℕ) (ha : a ≤ last) where
-  upto_lates : (r c : ℕ) (f : Step) → c < r → Lates (not_after w r c f)
+  upto_lates : (r c : ℕ) (f : Option ℕ) → c < r → Lates (not_after w r c f)
   upto_lates r c f h =
-      upto_cases Lates r c Ok (on_step Refused f (λ y. TooLate (between w c r) y))
+      upto_cases Lates r c (Some Ok) (on_step None f (λ y. (Some (TooLate (between w c r) y))))
       (λ g. absurd (omega arith))
-      (λ _. step_lates f (λ y. TooLate (between w c r) y) (λ y _ _. (between w c r, y, refl)))
+      (λ _. step_lates f (λ y. (Some (TooLate (between w c r) y))) (λ y _ _. (between w c r, y, refl)))
 
   -- it opens on a day by that on which it closes
   window_lates :
-      (o c r b : ℕ) (f : Step) → o ≤ c → t ≡ r → c < r → Lates (cond (ltb t o) (TooEarly b) (not_after w r c f))
+      (o c r b : ℕ) (f : Option ℕ) → o ≤ c → t ≡ r → c < r → Lates (cond (ltb t o) (Some (TooEarly b))
+      (not_after w r c f))
   window_lates o c r b f g q h =
-      under_cases Lates t o (TooEarly b) (not_after w r c f) (λ k. absurd (omega arith)) (λ _. upto_lates r c f h)
+      under_cases Lates t o (Some (TooEarly b)) (not_after w r c f) (λ k. absurd (omega arith))
+      (λ _. upto_lates r c f h)
 
   verdict_lates :
-      (s : VorlaufShape) (c r : ℕ) → Ordered s → closes w s a ≡ Day c → reaches w s t ≡ Day r → c < r →
+      (s : VorlaufShape) (c r : ℕ) → Ordered s → closes w s a ≡ Some c → reaches w s t ≡ Some r → c < r →
       Lates (verdict_on w s t a c r)
   unfolding closes reaches
   verdict_lates (LatestWerktageBefore n) c r i p q h = upto_lates r c (add w t n) h
   verdict_lates (WindowWerktageBefore earliest latest) c r i p q h =
       step_lates (sub w a earliest) _ (λ o u.
       window_lates o c r (between w t o) (add w t latest) (sub_fewer w a latest earliest c o i p u) (cc) h)
-  verdict_lates (LatestWerktageAfter n) c r i p q h = upto_lates r c (Day a) h
-  verdict_lates (EarliestWerktageAfter n) c r i p q h = upto_lates r c (Day r) h
+  verdict_lates (LatestWerktageAfter n) c r i p q h = upto_lates r c (Some a) h
+  verdict_lates (EarliestWerktageAfter n) c r i p q h = upto_lates r c (Some r) h
   verdict_lates (Korridor n) c r i p q h =
       step_lates (sub w a n) _ (λ o u.
       let g : o ≤ c = omega (arith, ((sub_day w a n o).0 u).before, ((add_day w a n c ha).0 p).after) in
-      window_lates o c r (between w t o) (Day o) g (cc) h)
+      window_lates o c r (between w t o) (Some o) g (cc) h)
   verdict_lates TagVorDemLetztenWerktagVor c r i p q h =
       upto_lates r c (fruehester_termin_nach_tag_vor_dem_letzten_werktag w t) h
-  verdict_lates (LatestMonateBefore n) c r i p q h = step_lates (months_later t n) _ (λ y _. upto_lates r c (Day y) h)
+  verdict_lates (LatestMonateBefore n) c r i p q h = step_lates (months_later t n) _ (λ y _. upto_lates r c (Some y) h)
   verdict_lates (LatestMonateUndWerktageBefore monate werktage) c r i p q h =
-      step_lates (add w t werktage) _ (λ d _. step_lates (months_later d monate) _ (λ y _. upto_lates r c (Day y) h))
+      step_lates (add w t werktage) _ (λ d _. step_lates (months_later d monate) _ (λ y _. upto_lates r c (Some y) h))
 
-  module _ (s : VorlaufShape) (c r : ℕ) (p : closes w s a ≡ Day c) (q : reaches w s t ≡ Day r) where
+  module _ (s : VorlaufShape) (c r : ℕ) (p : closes w s a ≡ Some c) (q : reaches w s t ≡ Some r) where
     pub late_after : IsLate (check_of w s t a) → c < r
     late_after l =
         let e = late_says w t a l.0 l.1 s l.2 in
@@ -92,6 +94,6 @@ module _ (w : ℕ → Bool) (t a : ℕ) (ha : a ≤ last) where
         let y : r ≡ e.held = cc e.reached in
         omega (arith, e.after)
 
-    pub late_iff : Ordered s → check_of w s t a ≢ Refused → IsLate (check_of w s t a) ↔ (c < r)
+    pub late_iff : Ordered s → check_of w s t a ≢ None → IsLate (check_of w s t a) ↔ (c < r)
     unfolding check_of
     late_iff i n = (late_after, λ h. let v = verdict_lates s c r i p q h in rw (p, q) (v (rw (p, q) at n)))

@@ -14,7 +14,6 @@ use native.Mathlib.Omega.{arith}
 use native.Mathlib.Nat.{add-zero, add-suc}
 use native.Mathlib.Decide.{dec_le}
 use lib.IntN.{pos}
-use Rattle.zaehlung.specs.declared.Step.TheVariants.{Day}
 use Rattle.zaehlung.specs.Walk.{last}
 use Rattle.zaehlung.specs.Blocks.{start}
 use Rattle.zaehlung.proofs.BlockLaws.{start_suc}
@@ -25,6 +24,7 @@ use Rattle.datum.proofs.Dates.{len_ge, year_len_at, months_sum, month_first, ind
 use Rattle.datum.proofs.Months.{day_of, on_in, on_out, on_before, on_valid}
 use Rattle.datum.proofs.Years.{start_none}
 use Rattle.datum.specs.Monate.{to_step}
+use Rattle.std.specs.Prelude.{Some}
 
 abbrev pub month_days : ℕ → ℕ
 month_days o = days_in_month (is_leap (o / 12)) (o % 12 + 1)
@@ -98,7 +98,7 @@ day_run i h =
 
 -- day x of the month numbered t
 on_date_lem :
-    (t x e : ℕ) → to_step (on_month (pos t) x) ≡ Day e →
+    (t x e : ℕ) → to_step (on_month (pos t) x) ≡ Some e →
     (1996 ≤ t / 12) × (t / 12 ≤ 2899) × (e ≡ days_before (day_of t x))
 on_date_lem t x e p =
     elim (dec_le 1996 (t / 12)) [
@@ -113,12 +113,12 @@ on_date_lem t x e p =
     ]
 
 pub on_run :
-    (t x e : ℕ) → to_step (on_month (pos t) x) ≡ Day e → e + origin ≡ start month_days t + (min x (month_days t) - 1)
+    (t x e : ℕ) → to_step (on_month (pos t) x) ≡ Some e → e + origin ≡ start month_days t + (min x (month_days t) - 1)
 on_run t x e p =
     let r = on_date_lem t x e p in
     let q : t / 12 * 12 + (t % 12 + 1 - 1) ≡ t = omega arith in
     let b = ap (start month_days) q in
     omega (arith, date_run (day_of t x) r.0 (omega arith) (omega arith))
 
-pub on_day : (t x e : ℕ) → 1 ≤ x → to_step (on_month (pos t) x) ≡ Day e → (date_of e).day ≡ min x (month_days t)
+pub on_day : (t x e : ℕ) → 1 ≤ x → to_step (on_month (pos t) x) ≡ Some e → (date_of e).day ≡ min x (month_days t)
 on_day t x e h p = let r = on_date_lem t x e p in rw (r.2, date_index (day_of t x) (on_valid t x h r.0 r.1))

@@ -24,11 +24,12 @@ use Rattle.werktag.specs.Easter.{easter_sunday, easter_index}
 use Rattle.zaehlung.specs.Lists.{any}
 use Rattle.werktag.specs.Werktag.{is_fixed, is_buss_und_bettag, is_easter_feast, is_werktag}
 use Rattle.vorlauf.specs.declared.VorlaufShape.TheVariants.{WindowWerktageBefore, Korridor}
-use Rattle.vorlauf.specs.declared.VorlaufVerdict.TheVariants.{Ok, TooLate, Outside as Refused}
-use Rattle.vorlauf.specs.declared.Span.TheVariants.{Both, Outside as Leaves}
+use Rattle.vorlauf.specs.declared.VorlaufVerdict.TheVariants.{Ok, TooLate}
+use Rattle.vorlauf.specs.declared.Span.TheVariants.{Both}
 use Rattle.vorlauf.specs.Verdict.{closes, reaches, check_of}
 use Rattle.vorlauf.specs.Span.{span_of, LiesIn, Begins}
 use Rattle.spannen.proofs.Demand3.{span_iff}
+use Rattle.std.specs.Prelude.{Some, None}
 
 abbrev index : ℕ → ℕ → ℕ → ℕ
 index y m d = days_before (record { year = y; month = m; day = d })
@@ -37,20 +38,20 @@ abbrev w : ℕ → Bool
 w = is_werktag BdewMaKo
 
 pub clause_refused :
-    (span_of w (Korridor 1) (index 1996 1 3) ≡ Both (index 1996 1 2) (index 1996 1 4))
-    × (check_of w (Korridor 1) (index 1996 1 3) (index 1996 1 2) ≡ Refused)
+    (span_of w (Korridor 1) (index 1996 1 3) ≡ (Some (Both (index 1996 1 2) (index 1996 1 4))))
+    × (check_of w (Korridor 1) (index 1996 1 3) (index 1996 1 2) ≡ None)
 unfolding span_of check_of closes reaches add sub up down
     is_werktag is_fixed is_buss_und_bettag is_easter_feast any
     easter_index easter_sunday date_in at start year_len days_in_month is_leap
 clause_refused = (refl, refl)
 
-empty_span : span_of w (WindowWerktageBefore 1 0) 0 ≡ Both 0 1
+empty_span : span_of w (WindowWerktageBefore 1 0) 0 ≡ (Some (Both 0 1))
 unfolding span_of W past add up
     is_werktag is_fixed is_buss_und_bettag is_easter_feast any
     easter_index easter_sunday date_in at start year_len days_in_month is_leap
 empty_span = refl
 
-empty_refused : (a : ℕ) → a ≤ 1 → check_of w (WindowWerktageBefore 1 0) 0 a ≡ Refused
+empty_refused : (a : ℕ) → a ≤ 1 → check_of w (WindowWerktageBefore 1 0) 0 a ≡ None
 unfolding check_of closes reaches sub down
     is_werktag is_fixed is_buss_und_bettag is_easter_feast any
     easter_index easter_sunday date_in at start year_len days_in_month is_leap
@@ -58,26 +59,27 @@ empty_refused zero h = refl
 empty_refused (suc zero) h = refl
 empty_refused (suc (suc a)) h = absurd (omega arith)
 
-empty_anchors : (a : ℕ) → a ≤ last → check_of w (WindowWerktageBefore 1 0) 0 a ≢ Ok
+empty_anchors : (a : ℕ) → a ≤ last → check_of w (WindowWerktageBefore 1 0) 0 a ≢ (Some Ok)
 empty_anchors a h p =
-    let inside : span_of w (WindowWerktageBefore 1 0) 0 ≢ Leaves = λ e.
+    let inside : span_of w (WindowWerktageBefore 1 0) 0 ≢ None = λ e.
     let s = empty_span in let z : ◌≡◌ {A = ℕ} 0 1 = cc in omega arith in
-    let answered : check_of w (WindowWerktageBefore 1 0) 0 a ≢ Refused =
+    let answered : check_of w (WindowWerktageBefore 1 0) 0 a ≢ None =
     λ e. let z : ◌≡◌ {A = ℕ} 0 1 = cc in omega arith in
     let lies = rw empty_span at ((span_iff w 0 (omega arith) (WindowWerktageBefore 1 0) a h inside answered).0 p) in
     answered (empty_refused a lies.1)
 
 pub clause_empty :
-    (span_of w (WindowWerktageBefore 1 0) (index 1996 1 1) ≡ Both (index 1996 1 1) (index 1996 1 2))
+    (span_of w (WindowWerktageBefore 1 0) (index 1996 1 1) ≡ (Some (Both (index 1996 1 1) (index 1996 1 2))))
     × ((a : ℕ) → LiesIn (span_of w (WindowWerktageBefore 1 0) (index 1996 1 1)) a →
-    check_of w (WindowWerktageBefore 1 0) (index 1996 1 1) a ≡ Refused)
-    × ((a : ℕ) → a ≤ last → check_of w (WindowWerktageBefore 1 0) (index 1996 1 1) a ≢ Ok)
+    check_of w (WindowWerktageBefore 1 0) (index 1996 1 1) a ≡ None)
+    × ((a : ℕ) → a ≤ last → check_of w (WindowWerktageBefore 1 0) (index 1996 1 1) a ≢ (Some Ok))
 unfolding start year_len days_in_month is_leap
 clause_empty = (empty_span, λ a i. empty_refused a (rw empty_span at i).1, empty_anchors)
 
 pub clause_inside :
-    (check_of w (WindowWerktageBefore 5 0) (index 2899 12 22) (index 2899 12 21) ≡ TooLate 1 (index 2899 12 22))
-    × (span_of w (WindowWerktageBefore 5 0) (index 2899 12 22) ≡ Leaves)
+    (check_of w (WindowWerktageBefore 5 0) (index 2899 12 22) (index 2899 12 21) ≡ (Some (TooLate 1
+    (index 2899 12 22))))
+    × (span_of w (WindowWerktageBefore 5 0) (index 2899 12 22) ≡ None)
     × (Begins (span_of w (WindowWerktageBefore 5 0) (index 2899 12 22)) (index 2899 12 22) → ⊥)
 unfolding span_of check_of closes reaches W past add sub up down between among
     is_werktag is_fixed is_buss_und_bettag is_easter_feast any

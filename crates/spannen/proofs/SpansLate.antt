@@ -8,9 +8,6 @@
 use Prim.Native.Nat.{ℕ, ◌<◌}
 use mathlib.Core.Bool.{Bool}
 use mathlib.Core.Path.{◌≡◌, ◌∙◌}
-use Rattle.zaehlung.specs.declared.Step.{Step}
-use Rattle.zaehlung.specs.declared.Step.TheVariants.{Day}
-use Rattle.zaehlung.specs.declared.Step.TheVariants.{Outside as Left}
 use Rattle.zaehlung.specs.Walk.{on_step, add, sub, between}
 use Rattle.datum.specs.Monate.{months_later}
 use Rattle.vorlauf.specs.declared.VorlaufShape.{VorlaufShape}
@@ -22,35 +19,36 @@ use Rattle.vorlauf.specs.declared.VorlaufVerdict.TheVariants.{TooLate}
 use Rattle.vorlauf.specs.Verdict.{closes, reaches, fruehester_termin_nach_tag_vor_dem_letzten_werktag, verdict_on}
 use Rattle.vorlauf.specs.Verdict.{check_of}
 use Rattle.spannen.proofs.SpansCases.{late_day, late_upto, late_window}
+use Rattle.std.specs.Prelude.{Option, Some, None}
 
-abbrev pub names : (ℕ → Bool) → VorlaufShape → ℕ → ℕ → Step
+abbrev pub names : (ℕ → Bool) → VorlaufShape → ℕ → ℕ → Option ℕ
 names w (LatestWerktageBefore n) t a = add w t n
 names w (WindowWerktageBefore earliest latest) t a = add w t latest
-names w (LatestWerktageAfter n) t a = Day a
+names w (LatestWerktageAfter n) t a = Some a
 names w (EarliestWerktageAfter n) t a = add w t n
 names w (Korridor n) t a = sub w a n
 names w TagVorDemLetztenWerktagVor t a = fruehester_termin_nach_tag_vor_dem_letzten_werktag w t
 names w (LatestMonateBefore n) t a = months_later t n
-names w (LatestMonateUndWerktageBefore monate werktage) t a = on_step Left (add w t werktage)
+names w (LatestMonateUndWerktageBefore monate werktage) t a = on_step None (add w t werktage)
     (λ d. months_later d monate)
 
 pub record Late (w : ℕ → Bool) (s : VorlaufShape) (t a b y : ℕ) : Type 0 where
   pub last_day_lem : ℕ
   pub held : ℕ
-  pub closed : closes w s a ≡ Day last_day_lem
-  pub reached : reaches w s t ≡ Day held
+  pub closed : closes w s a ≡ Some last_day_lem
+  pub reached : reaches w s t ≡ Some held
   pub after : last_day_lem < held
   pub short : between w last_day_lem held ≡ b
-  pub named : names w s t a ≡ Day y
+  pub named : names w s t a ≡ Some y
 
 module _ (w : ℕ → Bool) (t a b y : ℕ) where
-  module _ (s : VorlaufShape) (c r : ℕ) (p : closes w s a ≡ Day c) (q : reaches w s t ≡ Day r) where
-    is_late : c < r → names w s t a ≡ Day y → between w c r ≡ b → Late w s t a b y
+  module _ (s : VorlaufShape) (c r : ℕ) (p : closes w s a ≡ Some c) (q : reaches w s t ≡ Some r) where
+    is_late : c < r → names w s t a ≡ Some y → between w c r ≡ b → Late w s t a b y
     is_late h e g = record { last_day_lem = c; held = r; closed = p; reached = q; after = h; short = g; named = e }
 
   verdict_says :
-      (s : VorlaufShape) (c r : ℕ) → closes w s a ≡ Day c → reaches w s t ≡ Day r →
-      verdict_on w s t a c r ≡ TooLate b y → Late w s t a b y
+      (s : VorlaufShape) (c r : ℕ) → closes w s a ≡ Some c → reaches w s t ≡ Some r →
+      verdict_on w s t a c r ≡ (Some (TooLate b y)) → Late w s t a b y
   unfolding reaches
   verdict_says (LatestWerktageBefore n) c r p q =
       late_upto b y w r c (add w t n) (is_late (LatestWerktageBefore n) c r p q)
@@ -58,24 +56,24 @@ module _ (w : ℕ → Bool) (t a b y : ℕ) where
       late_day b y (sub w a earliest) _ (λ o _.
       late_window b y w t r o c (between w t o) (add w t latest)
       (is_late (WindowWerktageBefore earliest latest) c r p q))
-  verdict_says (LatestWerktageAfter n) c r p q = late_upto b y w r c (Day a) (is_late (LatestWerktageAfter n) c r p q)
+  verdict_says (LatestWerktageAfter n) c r p q = late_upto b y w r c (Some a) (is_late (LatestWerktageAfter n) c r p q)
   verdict_says (EarliestWerktageAfter n) c r p q =
-      late_upto b y w r c (Day r) (λ h e. is_late (EarliestWerktageAfter n) c r p q h (q ∙ e))
+      late_upto b y w r c (Some r) (λ h e. is_late (EarliestWerktageAfter n) c r p q h (q ∙ e))
   verdict_says (Korridor n) c r p q =
       late_day b y (sub w a n) _ (λ o u.
-      late_window b y w t r o c (between w t o) (Day o) (λ h e. is_late (Korridor n) c r p q h (u ∙ e)))
+      late_window b y w t r o c (between w t o) (Some o) (λ h e. is_late (Korridor n) c r p q h (u ∙ e)))
   verdict_says TagVorDemLetztenWerktagVor c r p q =
       late_upto b y w r c (fruehester_termin_nach_tag_vor_dem_letzten_werktag w t)
       (is_late TagVorDemLetztenWerktagVor c r p q)
   verdict_says (LatestMonateBefore n) c r p q =
       late_day b y (months_later t n) _ (λ f u.
-      late_upto b y w r c (Day f) (λ h e. is_late (LatestMonateBefore n) c r p q h (u ∙ e)))
+      late_upto b y w r c (Some f) (λ h e. is_late (LatestMonateBefore n) c r p q h (u ∙ e)))
   verdict_says (LatestMonateUndWerktageBefore monate werktage) c r p q =
       late_day b y (add w t werktage) _ (λ d v.
       late_day b y (months_later d monate) _ (λ f u.
-      late_upto b y w r c (Day f) (λ h e.
+      late_upto b y w r c (Some f) (λ h e.
       is_late (LatestMonateUndWerktageBefore monate werktage) c r p q h (rw v (u ∙ e)))))
 
-  pub late_says : (s : VorlaufShape) → check_of w s t a ≡ TooLate b y → Late w s t a b y
+  pub late_says : (s : VorlaufShape) → check_of w s t a ≡ (Some (TooLate b y)) → Late w s t a b y
   unfolding check_of
   late_says s = late_day b y (closes w s a) _ (λ c p. late_day b y (reaches w s t) _ (λ r q. verdict_says s c r p q))

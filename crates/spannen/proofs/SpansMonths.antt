@@ -13,7 +13,6 @@ use native.Mathlib.Omega.{arith}
 use native.Mathlib.Decide.{dec_le}
 use lib.IntN.{pos, pos-+ℤ-pos}
 use borrow.Author.Tests.{le-leb, lt-leb}
-use Rattle.zaehlung.specs.declared.Step.TheVariants.{Day, Outside}
 use Rattle.zaehlung.specs.Walk.{last}
 use Rattle.zaehlung.specs.Blocks.{start}
 use Rattle.zaehlung.proofs.BlockLaws.{start_suc}
@@ -23,6 +22,7 @@ use Rattle.datum.proofs.Signed.{sub_pos, sub_neg}
 use Rattle.datum.specs.Monate.{to_step, months_later, months_earlier, M}
 use Rattle.spannen.proofs.MonthSpan.{back_day, kept, cut}
 use Rattle.spannen.proofs.MonthRun.{month_days, origin, month_has, day_run, on_run, on_day}
+use Rattle.std.specs.Prelude.{Some, None}
 
 -- the number of a day's month, and the day in it, from 0 on
 abbrev month_at : ℕ → ℕ
@@ -41,12 +41,12 @@ earlier_in : (i n : ℕ) → n ≤ month_at i → months_earlier i n ≡ to_step
 unfolding months_earlier subtract_months
 earlier_in i n h = rw (sub_pos (month_at i) n h)
 
-earlier_out : (i n : ℕ) → month_at i < n → months_earlier i n ≡ Outside
+earlier_out : (i n : ℕ) → month_at i < n → months_earlier i n ≡ None
 unfolding months_earlier subtract_months on_month
 earlier_out i n h = rw (sub_neg (month_at i) n h)
 
 earlier_run :
-    (i n x : ℕ) → i ≤ last → months_earlier i n ≡ Day x →
+    (i n x : ℕ) → i ≤ last → months_earlier i n ≡ Some x →
     (n ≤ month_at i) × (x + origin ≡ back_day month_days (month_at i) (day_at i) n)
 earlier_run i n x h p =
     elim (dec_le n (month_at i)) [
@@ -62,7 +62,7 @@ unfolding months_later add_months
 later_in i n = rw (pos-+ℤ-pos (month_at i) n)
 
 later_run :
-    (i n y : ℕ) → months_later i n ≡ Day y →
+    (i n y : ℕ) → months_later i n ≡ Some y →
     y + origin ≡ start month_days (month_at i + n) + (min (date_of i).day (month_days (month_at i + n)) - 1)
 later_run i n y p = on_run (month_at i + n) (date_of i).day y (sym (later_in i n) ∙ p)
 
@@ -77,13 +77,13 @@ m_cut n i h = rw (lt-leb (date_of i).day (month_days (month_at i + n)) h)
 
 -- the first of the month after
 cut_run :
-    (n i f : ℕ) → month_days (month_at i + n) < (date_of i).day → M n i ≡ Day f →
+    (n i f : ℕ) → month_days (month_at i + n) < (date_of i).day → M n i ≡ Some f →
     f + origin ≡ start month_days (suc (month_at i + n))
 cut_run n i f h p =
     let o : ℕ = suc (month_at i + n) in
     omega (arith, on_run o 1 f (sym (m_cut n i h) ∙ p), month_has o)
 
-pub month_iff : (t a n x f : ℕ) → t ≤ last → a ≤ last → months_earlier a n ≡ Day x → M n t ≡ Day f → (t ≤ x) ↔ (f ≤ a)
+pub month_iff : (t a n x f : ℕ) → t ≤ last → a ≤ last → months_earlier a n ≡ Some x → M n t ≡ Some f → (t ≤ x) ↔ (f ≤ a)
 month_iff t a n x f h g p q =
     let r = day_run t h in
     let s = day_run a g in
@@ -101,7 +101,7 @@ month_iff t a n x f h g p q =
     let u = cut_run n t f l q in
     (λ y. omega (arith, k.0 (omega arith)), λ y. omega (arith, k.1 (omega arith))))
 
-pub m_later_iff : (t n f y : ℕ) → M n t ≡ Day f → months_later t n ≡ Day y → (f ≡ y) ↔ KeepsDay n t
+pub m_later_iff : (t n f y : ℕ) → M n t ≡ Some f → months_later t n ≡ Some y → (f ≡ y) ↔ KeepsDay n t
 m_later_iff t n f y p q =
     by_day n t
     (λ l. let e = m_kept n t l in (λ _. l, λ _. cc))
@@ -111,7 +111,7 @@ m_later_iff t n f y p q =
     let v = cut_run n t f l p in
     (λ e. absurd (omega (arith, start_suc month_days o, month_has o)), λ k. absurd (omega arith)))
 
-pub later_day_iff : (t n y : ℕ) → t ≤ last → months_later t n ≡ Day y →
+pub later_day_iff : (t n y : ℕ) → t ≤ last → months_later t n ≡ Some y →
     ((date_of y).day ≡ (date_of t).day) ↔ KeepsDay n t
 later_day_iff t n y h p =
     let e = on_day (month_at t + n) (date_of t).day y (day_run t h).1 (sym (later_in t n) ∙ p) in

@@ -15,18 +15,18 @@ use mathlib.Core.Logic.{◌↔◌, ◌⊎◌, inl, inr}
 use mathlib.Core.Path.{◌≡◌, refl, ap}
 use native.Mathlib.Omega.{arith}
 use native.Mathlib.Decide.{dec_le, dec_lt}
-use Rattle.zaehlung.specs.declared.Step.TheVariants.{Day, Outside}
 use Rattle.zaehlung.specs.Walk.{last, add, sub, W, count}
 use Rattle.zaehlung.proofs.Count.{count_open, count_shut, count_step, count_mono, count_back, count_same}
 use Rattle.zaehlung.proofs.Reach.{Past, Up, Down, add_day, sub_day, w_day}
 use Rattle.zaehlung.proofs.Laws.{sub_out_iff, add_none, w_none}
+use Rattle.std.specs.Prelude.{Some, None}
 
 -- two days, by their order
 order : {A : Type 0} (a b : ℕ) → (a ≤ b → A) → (b < a → A) → A
 order a b f g = elim (dec_le a b) [ yes y ↦ f y | no y ↦ g (omega arith) ]
 
 module _ (w : ℕ → Bool) where
-  pub before_iff : (t a n e f : ℕ) → t ≤ last → sub w a n ≡ Day e → W w t n ≡ Day f → (t ≤ e) ↔ (f ≤ a)
+  pub before_iff : (t a n e f : ℕ) → t ≤ last → sub w a n ≡ Some e → W w t n ≡ Some f → (t ≤ e) ↔ (f ≤ a)
   before_iff t a n e f h p q = (to, from)
     where
       d : Down w a n e
@@ -52,7 +52,7 @@ module _ (w : ℕ → Bool) where
           let o = count_open w e (d.is_open (omega (arith, r.after))) in
           absurd (omega (arith, d.counted, r.counted, count_mono w f a m, count_mono w (suc e) t y)))
 
-  pub after_iff : (t a n e f : ℕ) → a ≤ last → add w a n ≡ Day e → sub w t n ≡ Day f → (t ≤ e) ↔ (f ≤ a)
+  pub after_iff : (t a n e f : ℕ) → a ≤ last → add w a n ≡ Some e → sub w t n ≡ Some f → (t ≤ e) ↔ (f ≤ a)
   after_iff t a n e f h p q = (to, from)
     where
       r : Up w last a n e
@@ -79,7 +79,7 @@ module _ (w : ℕ → Bool) where
             count_mono w (suc e) t y,
           )))
 
-  pub add_mono : (d e n x y : ℕ) → e ≤ last → d ≤ e → add w d n ≡ Day x → add w e n ≡ Day y → x ≤ y
+  pub add_mono : (d e n x y : ℕ) → e ≤ last → d ≤ e → add w d n ≡ Some x → add w e n ≡ Some y → x ≤ y
   add_mono d e n x y h m p q =
       let r = (add_day w d n x (omega arith)).0 p in
       let u = (add_day w e n y h).0 q in
@@ -88,7 +88,7 @@ module _ (w : ℕ → Bool) where
       let m = count_mono w (suc d) (suc e) (omega arith) in
       absurd (omega (arith, r.counted, u.counted, count_mono w (suc y) x z)))
 
-  pub sub_fewer : (a m n x y : ℕ) → m ≤ n → sub w a m ≡ Day x → sub w a n ≡ Day y → y ≤ x
+  pub sub_fewer : (a m n x y : ℕ) → m ≤ n → sub w a m ≡ Some x → sub w a n ≡ Some y → y ≤ x
   sub_fewer a m n x y h p q =
       let r = (sub_day w a m x).0 p in
       let u = (sub_day w a n y).0 q in
@@ -107,7 +107,7 @@ module _ (w : ℕ → Bool) where
       let l : e < a = count_back w e a (omega (arith, d.counted)) in
       (l, d.is_open l)
 
-  pub tag_iff : (t a e f : ℕ) → t ≤ last → sub w a 1 ≡ Day e → add w t 1 ≡ Day f → (t < e) ↔ (f < a)
+  pub tag_iff : (t a e f : ℕ) → t ≤ last → sub w a 1 ≡ Some e → add w t 1 ≡ Some f → (t < e) ↔ (f < a)
   tag_iff t a e f h p q =
       let d = (sub_day w a 1 e).0 p in
       let r = (add_day w t 1 f h).0 q in
@@ -130,7 +130,7 @@ module _ (w : ℕ → Bool) where
       go false o = absurd (omega (arith, count_shut w t o))
 
   pub w_add_iff :
-      (t n f y : ℕ) → t ≤ last → W w t n ≡ Day f → add w t n ≡ Day y →
+      (t n f y : ℕ) → t ≤ last → W w t n ≡ Some f → add w t n ≡ Some y →
       (f ≡ y) ↔ ((n ≡ 0) ⊎ ((w t ≡ true) × (w f ≡ true)))
   w_add_iff t n f y h p q = (to, from)
     where
@@ -159,7 +159,7 @@ module _ (w : ℕ → Bool) where
           count_same w f y o.1 b
           (omega (arith, r.counted, u.counted, count_open w t o.0, count_open w f o.1, count_open w y b))
 
-  pub back_iff : (t n y e : ℕ) → t ≤ last → 1 ≤ n → add w t n ≡ Day y → sub w y n ≡ Day e → (t ≤ e) ↔ (w t ≡ true)
+  pub back_iff : (t n y e : ℕ) → t ≤ last → 1 ≤ n → add w t n ≡ Some y → sub w y n ≡ Some e → (t ≤ e) ↔ (w t ≡ true)
   back_iff t n y e h m p q =
       let u = (add_day w t n y h).0 p in
       let d = (sub_day w y n e).0 q in
@@ -171,7 +171,7 @@ module _ (w : ℕ → Bool) where
             omega arith,
       )
 
-  pub back_out : (t n y : ℕ) → t ≤ last → 1 ≤ n → add w t n ≡ Day y → sub w y n ≡ Outside → w t ≡ true → ⊥
+  pub back_out : (t n y : ℕ) → t ≤ last → 1 ≤ n → add w t n ≡ Some y → sub w y n ≡ None → w t ≡ true → ⊥
   back_out t n y h m p q b =
       let u = (add_day w t n y h).0 p in
       let c = count_open w y (up_open t n y m u).1 in

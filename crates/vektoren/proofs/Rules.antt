@@ -1,78 +1,81 @@
--- What the proofs cite: each rule's premises have the form in which a proof has them, so that `search` finds the rule.
---   digit_rules   for `digit`, one for each return
---   hex_rules     for `read_hex`: one byte more is read; all are read
+-- Reading hexadecimal text.
+--   IsRead l a n i out = of the n bytes whose digits start at a of the text l, the first i stand at the front of out,
+--                        and those behind them are still to be read
+--   hex_rules          = none is read yet; one byte more is read; one of its digits is none; all are read
 -- Assumes nothing.
-use Prim.Native.Nat.{ℕ, zero, suc, ◌+◌, ◌-◌, ◌*◌, ◌≤◌, ◌<◌}
-use mathlib.Core.Bool.{true}
-use mathlib.Core.Path.{◌≡◌, refl, sym, ap, ◌∙◌}
-use mathlib.Core.List.{List}
-use native.Mathlib.Omega.{arith}
-use native.Mathlib.Numerals.{add-one}
-use borrow.Author.Tests.{lt-ltb, le-ltb, le-leb, lt-leb}
-use lib.ListN.{length, get_or, set, take, length-set}
-use lib.Seq.{take_all, take-suc, take-suc-set}
+use Rattle.std.proofs.Common.{◌≡◌, ℕ, suc, ◌+◌, ◌-◌, ◌*◌, ◌<◌, ◌≤◌, List, [], ◌∷◌, ◌++◌, length, get_or, set, take}
+use Rattle.std.proofs.Common.{Option, Some, None, refl, sym, ap, ◌∙◌, arith, add-one, length-set, append_assoc}
+use Rattle.std.proofs.Common.{append-nil}
+use Rattle.std.specs.Option.{option_map}
+use lib.Seq.{take_all, take-suc-set}
 use Rattle.vektoren.specs.Hex.{digit, byte_at, bytes_at}
 
-module _ (b : ℕ) where
-  pub below_0 : b < 48 → 16 ≡ digit b
-  unfolding digit
-  below_0 h = rw (lt-ltb b 48 h)
+pub record IsRead (l : List ℕ) (a n i : ℕ) (out : List ℕ) : Type 0 where
+  pub rest : bytes_at l a n ≡ option_map (λ bs. take i out ++ bs) (bytes_at l (a + 2 * i) (n - i))
+  pub sized : length out ≡ n
 
-  pub from_0_to_9 : 48 ≤ b → b ≤ 57 → b - 48 ≡ digit b
-  unfolding digit
-  from_0_to_9 h g = rw (le-ltb b 48 h, le-leb b 57 g)
+option_map-same : (o : Option (List ℕ)) → option_map (λ bs. bs) o ≡ o
+option_map-same None = refl
+option_map-same (Some x) = refl
 
-  pub between : 57 < b → b < 97 → 16 ≡ digit b
-  unfolding digit
-  between h g = rw (le-ltb b 48 (omega arith), lt-leb b 57 h, lt-ltb b 97 g)
+option_map-twice :
+    (f g : List ℕ → List ℕ) (o : Option (List ℕ)) → option_map f (option_map g o) ≡ option_map (λ x. f (g x)) o
+option_map-twice f g None = refl
+option_map-twice f g (Some x) = refl
 
-  pub from_a_to_f : 97 ≤ b → b ≤ 102 → b - 97 + 10 ≡ digit b
-  unfolding digit
-  from_a_to_f h g = rw (le-ltb b 48 (omega arith), lt-leb b 57 (omega arith), le-ltb b 97 h, le-leb b 102 g)
+option_map-equal :
+    (f g : List ℕ → List ℕ) → ((x : List ℕ) → f x ≡ g x) → (o : Option (List ℕ)) → option_map f o ≡ option_map g o
+option_map-equal f g h None = refl
+option_map-equal f g h (Some x) = ap Some (h x)
 
-  pub above_f : 102 < b → 16 ≡ digit b
-  unfolding digit
-  above_f h = rw (le-ltb b 48 (omega arith), lt-leb b 57 (omega arith), le-ltb b 97 (omega arith), lt-leb b 102 h)
+put_at_end :
+    (out : List ℕ) (i b : ℕ) (bs : List ℕ) → i < length out → take i out ++ b ∷ bs ≡ take (i + 1) (set out i b) ++ bs
+put_at_end out i b bs h = rw (add-one, take-suc-set out i b h) (sym (append_assoc (take i out) (b ∷ []) bs))
 
-pub ruleset digit_rules = (below_0, from_0_to_9, between, from_a_to_f, above_f)
+pub read_begin : (l out : List ℕ) (a n : ℕ) → length out ≡ n → IsRead l a n 0 out
+read_begin l out a n e = record {
+  sized = e;
+  rest =
+      let p : a + 2 * 0 ≡ a = omega arith in
+      let q : n - 0 ≡ n = omega arith in
+      rw (p, q) (sym (option_map-same (bytes_at l a n)));
+}
 
-bytes_length : (l : List ℕ) (i k : ℕ) → length (bytes_at l i k) ≡ k
-unfolding bytes_at
-bytes_length l i zero = refl
-bytes_length l i (suc k) = ap suc (bytes_length l (i + 2) k)
+module _ {l out : List ℕ} {a n i : ℕ} (before : IsRead l a n i out) where
+  pub read_end : n ≤ i → Some out ≡ bytes_at l a n
+  unfolding bytes_at
+  read_end h =
+      let q : n - i ≡ 0 = omega arith in
+      let m : length out ≤ i = omega (arith, before.sized) in
+      sym (rw q at before.rest ∙ ap Some (append-nil (take i out) ∙ take_all i out m))
 
-bytes_get_or : (l : List ℕ) (i k j : ℕ) → j < k → get_or (bytes_at l i k) j 0 ≡ byte_at l (i + 2 * j)
-unfolding bytes_at
-bytes_get_or l i zero j h = absurd (omega arith)
-bytes_get_or l i (suc k) zero h = ap (λ (n : ℕ). byte_at l n) (omega arith)
-bytes_get_or l i (suc k) (suc j) h =
-    bytes_get_or l (i + 2) k j (omega arith) ∙ ap (λ (n : ℕ). byte_at l n) (omega arith)
+  module _ (inside : i < n) where
+    pub no_high : digit (get_or l (a + 2 * i) 0) ≡ None → bytes_at l a n ≡ None
+    unfolding bytes_at byte_at
+    no_high h =
+        let q : n - i ≡ suc (n - suc i) = omega arith in
+        before.rest ∙ rw (q, h) refl
 
-pub hex_more :
-    (l out : List ℕ) (from i high low : ℕ) →
-    high ≡ digit (get_or l (from + 2 * i) 0) → low ≡ digit (get_or l (from + 2 * i + 1) 0) →
-    length out ≡ 32 → i < 32 → take i out ≡ take i (bytes_at l from 32) →
-    take (i + 1) (set out i (high * 16 + low)) ≡ take (i + 1) (bytes_at l from 32)
-unfolding byte_at
-hex_more l out from i high low p q n h t =
-    let m = bytes_length l from 32 in
-    rw (
-      add-one,
-      take-suc-set out i (high * 16 + low) (omega arith),
-      take-suc (bytes_at l from 32) i 0 (omega arith),
-      t,
-      bytes_get_or l from 32 i h,
-      p,
-      q,
-    )
+    module _ {high : ℕ} (h : digit (get_or l (a + 2 * i) 0) ≡ Some high) where
+      pub no_low : digit (get_or l (a + 2 * i + 1) 0) ≡ None → bytes_at l a n ≡ None
+      unfolding bytes_at byte_at
+      no_low k =
+          let q : n - i ≡ suc (n - suc i) = omega arith in
+          before.rest ∙ rw (q, h, k) refl
 
-pub hex_done :
-    (l out : List ℕ) (from i : ℕ) → length out ≡ 32 → 32 ≤ i → take i out ≡ take i (bytes_at l from 32) →
-    true ≡ true → out ≡ bytes_at l from 32
-hex_done l out from i n h t e =
-    sym (take_all i out (omega arith)) ∙ t ∙ take_all i (bytes_at l from 32) (omega (arith, bytes_length l from 32))
+      pub read_more :
+          {low : ℕ} → digit (get_or l (a + 2 * i + 1) 0) ≡ Some low →
+          IsRead l a n (i + 1) (set out i (high * 16 + low))
+      unfolding bytes_at byte_at
+      read_more {low} k = record {
+        sized = length-set out i (high * 16 + low) ∙ before.sized;
+        rest =
+            let q : n - i ≡ suc (n - (i + 1)) = omega arith in
+            let p : a + 2 * i + 2 ≡ a + 2 * (i + 1) = omega arith in
+            let tail = bytes_at l (a + 2 * (i + 1)) (n - (i + 1)) in
+            rw (q, h, k, p) at before.rest
+            ∙ option_map-twice (λ bs. take i out ++ bs) (λ bs. (high * 16 + low) ∷ bs) tail
+            ∙ option_map-equal _ _ (λ bs. put_at_end out i (high * 16 + low) bs (omega (arith, before.sized))) tail;
+      }
 
-pub hex_length : (out : List ℕ) (i x : ℕ) → length out ≡ 32 → length (set out i x) ≡ 32
-hex_length out i x n = simp length-set n
-
-pub ruleset hex_rules = (hex_more, hex_length, hex_done)
+pub ruleset hex_rules = (read_begin, read_end, no_high, no_low, read_more)

@@ -5,9 +5,10 @@
 --   fuer_of reason eeg         = the window for a reason and an EEG mark
 --   shape_of v                 = the shape of a window, where one applies
 --   with_shape s f             = what f gives for a shape, or NoShape
---   abmeldung_check_of w v t a = the verdict of a window, or NoShape, for any test w of a day
+--   abmeldung_check_of w v t a = the verdict of a window, or why there is none, for any test w of a day
 -- Source: document 01, abmeldung.rs; GPKE Teil 2, Kap. 2.5.2, SD 'Lieferende von NB an LF' Nr. 1.
-use Rattle.std.specs.Prelude.{ℕ, Bool, true, false, ◌&&◌, cond, List, [], ◌∷◌, eqb}
+use Rattle.std.specs.Prelude.{ℕ, Bool, true, false, ◌&&◌, cond, List, [], ◌∷◌, eqb, Option, Some, None, Result, Err}
+use Rattle.std.specs.Prelude.{ok_or}
 use Rattle.vorlauf.specs.declared.VorlaufShape.{VorlaufShape}
 use Rattle.vorlauf.specs.declared.VorlaufShape.TheVariants.{TagVorDemLetztenWerktagVor, LatestMonateBefore}
 use Rattle.vorlauf.specs.declared.abmeldung.Eeg.{Eeg}
@@ -15,10 +16,9 @@ use Rattle.vorlauf.specs.declared.abmeldung.Eeg.TheVariants.{Nein, Ja, Unbekannt
 use Rattle.vorlauf.specs.declared.abmeldung.AbmeldungVorlauf.{AbmeldungVorlauf}
 use Rattle.vorlauf.specs.declared.abmeldung.AbmeldungVorlauf.TheVariants.{TagVorDemLetztenWerktag, EinMonat}
 use Rattle.vorlauf.specs.declared.abmeldung.AbmeldungVorlauf.TheVariants.{Unbestimmt, AnPruefschritt120}
-use Rattle.vorlauf.specs.declared.abmeldung.AbmeldungShape.{AbmeldungShape}
-use Rattle.vorlauf.specs.declared.abmeldung.AbmeldungShape.TheVariants.{Some, None}
-use Rattle.vorlauf.specs.declared.abmeldung.AbmeldungVerdict.{AbmeldungVerdict}
-use Rattle.vorlauf.specs.declared.abmeldung.AbmeldungVerdict.TheVariants.{Verdict, NoShape}
+use Rattle.vorlauf.specs.declared.VorlaufVerdict.{VorlaufVerdict}
+use Rattle.vorlauf.specs.declared.abmeldung.NoVerdict.{NoVerdict}
+use Rattle.vorlauf.specs.declared.abmeldung.NoVerdict.TheVariants.{NoShape, Outside}
 use Rattle.vorlauf.specs.Verdict.{check_of}
 
 unfoldable pub same_bytes : List ℕ → List ℕ → Bool
@@ -42,15 +42,17 @@ unfoldable pub fuer_of : List ℕ → Eeg → AbmeldungVorlauf
 fuer_of reason eeg = cond (same_bytes reason zq7) AnPruefschritt120 (by_mark eeg)
 
 -- 'ZQ7, or an unknown EEG mark, has no shape, which the answer of `check` says.'
-abbrev pub shape_of : AbmeldungVorlauf → AbmeldungShape
+abbrev pub shape_of : AbmeldungVorlauf → Option VorlaufShape
 shape_of TagVorDemLetztenWerktag = Some TagVorDemLetztenWerktagVor
 shape_of EinMonat = Some (LatestMonateBefore 1)
 shape_of Unbestimmt = None
 shape_of AnPruefschritt120 = None
 
-abbrev pub with_shape : AbmeldungShape → (VorlaufShape → AbmeldungVerdict) → AbmeldungVerdict
+abbrev pub with_shape :
+    Option VorlaufShape → (VorlaufShape → Result VorlaufVerdict NoVerdict) → Result VorlaufVerdict NoVerdict
 with_shape (Some s) f = f s
-with_shape None f = NoShape
+with_shape None f = Err NoShape
 
-unfoldable pub abmeldung_check_of : (ℕ → Bool) → AbmeldungVorlauf → ℕ → ℕ → AbmeldungVerdict
-abmeldung_check_of w v t a = with_shape (shape_of v) (λ s. Verdict (check_of w s t a))
+-- the verdict of a window's shape, or why there is none
+unfoldable pub abmeldung_check_of : (ℕ → Bool) → AbmeldungVorlauf → ℕ → ℕ → Result VorlaufVerdict NoVerdict
+abmeldung_check_of w v t a = with_shape (shape_of v) (λ s. ok_or (check_of w s t a) Outside)

@@ -1,4 +1,3 @@
 pub mod Verdict
 pub mod Span
 pub mod Abmeldung
-pub mod Inside

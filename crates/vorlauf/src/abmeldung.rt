@@ -2,12 +2,9 @@
 // chosen by the reason and by whether the Marktlokation is one of the EEG.
 //
 // Document 01, abmeldung.rs.
-ghost use Rattle.std.specs.Prelude.{◌≡◌, ◌≤◌};
-ghost use Rattle.zaehlung.specs.Walk.{last};
-ghost use Rattle.datum.specs.Tage.{tag_at};
+ghost use Rattle.std.specs.Prelude.{◌≡◌};
 ghost use Rattle.werktag.specs.Werktag.{is_werktag};
-ghost use Rattle.vorlauf.specs.Abmeldung.{same_bytes, fuer_of, shape_of, abmeldung_check_of};
-ghost use Rattle.vorlauf.specs.Inside.{InsideAbmeldung};
+ghost use Rattle.vorlauf.specs.Abmeldung.{fuer_of, shape_of, abmeldung_check_of};
 
 use super::{VorlaufShape, VorlaufVerdict};
 use datum::tage::Tag;
@@ -34,35 +31,13 @@ pub enum AbmeldungVorlauf {
     AnPruefschritt120,
 }
 
-/// A shape, or none.
-#[derive(Clone, Copy)]
-pub enum AbmeldungShape {
-    Some(VorlaufShape),
-    None,
-}
-
-/// The verdict, or that there is no shape to give one.
-#[derive(Clone, Copy)]
-pub enum AbmeldungVerdict {
-    Verdict(VorlaufVerdict),
+/// Why a deregistration has no verdict.
+#[derive(Clone, Copy, PartialEq, Eq)]
+pub enum NoVerdict {
+    /// Its window has no shape to give one.
     NoShape,
-}
-
-/// Whether two byte strings are the same.
-fn same_bytes(a: &[u8], b: &[u8]) -> bool
-    ensures { result ≡ same_bytes a.now b.now }
-{
-    if a.len() != b.len() {
-        return false;
-    }
-    let mut i = 0;
-    while i < b.len() {
-        if a[i] != b[i] {
-            return false;
-        }
-        i += 1;
-    }
-    true
+    /// A date that is computed leaves the calendar.
+    Outside,
 }
 
 impl AbmeldungVorlauf {
@@ -73,10 +48,11 @@ impl AbmeldungVorlauf {
     /// unknown mark has no window.
     ///
     /// "ZQ7" with any mark: `AnPruefschritt120`. "zq7" with `Ja`: `EinMonat`.
+    #[tactic(auto, using(crate::proofs::Bytes::bytes_same), unfolding(crate::specs::Abmeldung::fuer_of))]
     pub fn fuer(reason: &[u8], eeg: Eeg) -> AbmeldungVorlauf
         ensures { result ≡ fuer_of reason.now eeg }
     {
-        if same_bytes(reason, b"ZQ7") {
+        if reason == b"ZQ7".as_slice() {
             return AbmeldungVorlauf::AnPruefschritt120;
         }
         match eeg {
@@ -91,16 +67,16 @@ impl AbmeldungVorlauf {
     /// `ZQ7` and an unknown EEG mark have none.
     ///
     /// `EinMonat`: `LatestMonateBefore(1)`.
-    pub fn shape(self) -> AbmeldungShape
+    pub fn shape(self) -> Option<VorlaufShape>
         ensures { result ≡ shape_of self }
     {
         match self {
             AbmeldungVorlauf::TagVorDemLetztenWerktag => {
-                AbmeldungShape::Some(VorlaufShape::TagVorDemLetztenWerktagVor)
+                Some(VorlaufShape::TagVorDemLetztenWerktagVor)
             }
-            AbmeldungVorlauf::EinMonat => AbmeldungShape::Some(VorlaufShape::LatestMonateBefore(1)),
-            AbmeldungVorlauf::Unbestimmt => AbmeldungShape::None,
-            AbmeldungVorlauf::AnPruefschritt120 => AbmeldungShape::None,
+            AbmeldungVorlauf::EinMonat => Some(VorlaufShape::LatestMonateBefore(1)),
+            AbmeldungVorlauf::Unbestimmt => None,
+            AbmeldungVorlauf::AnPruefschritt120 => None,
         }
     }
 
@@ -109,21 +85,18 @@ impl AbmeldungVorlauf {
     /// `NoShape` where the window has none: it was not evaluated, so it was not kept either.
     ///
     /// `EinMonat` from 31 January 2026 against 28 February: TooLate by 2 Werktage, with 28 February.
+    #[tactic(auto, unfolding(crate::specs::Abmeldung::abmeldung_check_of))]
     pub fn check(
         self,
         uebertragungstag: Tag,
         zuordnungsende: Tag,
         cal: HolidayCalendar,
-    ) -> AbmeldungVerdict
-        requires uebertragungstag_value { (uebertragungstag ≡ tag_at uebertragungstag.index)
-            × (uebertragungstag.index ≤ last) }
-        requires zuordnungsende_value { (zuordnungsende ≡ tag_at zuordnungsende.index) × (zuordnungsende.index ≤ last) }
-        ensures value { result ≡ abmeldung_check_of (is_werktag cal) self uebertragungstag.index zuordnungsende.index }
-        ensures inside_abmeldung { InsideAbmeldung result }
+    ) -> Result<VorlaufVerdict, NoVerdict>
+        ensures { result ≡ abmeldung_check_of (is_werktag cal) self uebertragungstag zuordnungsende }
     {
-        let AbmeldungShape::Some(shape) = self.shape() else {
-            return AbmeldungVerdict::NoShape;
-        };
-        AbmeldungVerdict::Verdict(shape.check(uebertragungstag, zuordnungsende, cal))
+        let shape = self.shape().ok_or(NoVerdict::NoShape)?;
+        shape
+            .check(uebertragungstag, zuordnungsende, cal)
+            .ok_or(NoVerdict::Outside)
     }
 }

@@ -1,24 +1,21 @@
 // Lead times: may a message of this day ask for that date, and which dates may it ask for?
 //
-// Document 01, vorlauf.rs and 'The span of anchors'. A day comes taken apart, its index beside its
-// date; what is named in a verdict or a span is an index. t is the transmission day (Übertragungstag, ÜT), a the
-// anchor, the date that the message carries.
-#![tactic(auto)]
+// Document 01, vorlauf.rs and 'The span of anchors'. A day comes taken apart, its index beside its date, and so does
+// what a verdict or a span names. t is the transmission day (Übertragungstag, ÜT), a the anchor, the date that the
+// message carries. There is no verdict and no span where a date that is computed leaves the calendar.
+#![tactic(auto, unfolding(crate::specs::Verdict::check_of, crate::specs::Verdict::closes, crate::specs::Verdict::reaches, crate::specs::Verdict::fruehester_termin_nach_tag_vor_dem_letzten_werktag, crate::specs::Span::span_of))]
 
-ghost use Rattle.std.specs.Prelude.{◌≡◌, ◌≤◌, ◌<◌};
-ghost use Rattle.zaehlung.specs.Walk.{last, on_step, day_after, add, W, between};
+ghost use Rattle.std.specs.Prelude.{◌≡◌, ◌<◌};
+ghost use Rattle.zaehlung.specs.Walk.{on_step, day_after, add, W, between};
 ghost use Rattle.datum.specs.Monate.{M};
-ghost use Rattle.datum.specs.Tage.{tag_at, tag_step, step_index};
 ghost use Rattle.werktag.specs.Werktag.{is_werktag};
 ghost use Rattle.vorlauf.specs.Verdict.{closes, fruehester_termin_nach_tag_vor_dem_letzten_werktag, not_after};
 ghost use Rattle.vorlauf.specs.Verdict.{check_of};
 ghost use Rattle.vorlauf.specs.Span.{span_from, span_between, span_of};
-ghost use Rattle.vorlauf.specs.Inside.{InsideVerdict, InsideSpan};
 
 use datum::monate;
-use datum::tage::{Tag, TagStep};
+use datum::tage::Tag;
 use werktag::HolidayCalendar;
-use zaehlung::Step;
 
 pub mod abmeldung;
 
@@ -51,34 +48,29 @@ pub enum VorlaufVerdict {
     /// Transmitted later than the window allows, by so many Werktage, with the date that the Rust then names.
     TooLate {
         shortfall_wt: u32,
-        earliest_possible: u32,
+        earliest_possible: Tag,
     },
     /// Transmitted so many Werktage before the window opens.
     TooEarly {
         excess_wt: u32,
     },
-    /// A date that is computed leaves the calendar.
-    Outside,
 }
 
 /// The anchors that a transmission day may ask for.
 #[derive(Clone, Copy)]
 pub enum Span {
     /// From this day on.
-    From(u32),
+    From(Tag),
     /// From the first day to the last, both among them.
-    Both(u32, u32),
+    Both(Tag, Tag),
     /// None.
     Empty,
-    /// An end leaves the calendar.
-    Outside,
 }
 
 /// TooLate: t is after the day on which the window closes, by the Werktage between, and `first` is the date named.
-fn too_late(t: Tag, closes: Tag, first: u32, cal: HolidayCalendar) -> VorlaufVerdict
-    requires t_value { (t ≡ tag_at t.index) × (t.index ≤ last) }
-    requires closes_value { (closes ≡ tag_at closes.index) × (closes.index < t.index) }
-    ensures { result ≡ VorlaufVerdict.TooLate (between (is_werktag cal) closes.index t.index) first }
+fn too_late(t: Tag, closes: Tag, first: Tag, cal: HolidayCalendar) -> VorlaufVerdict
+    requires { closes < t }
+    ensures { result ≡ VorlaufVerdict.TooLate (between (is_werktag cal) closes t) first }
 {
     let shortfall = schritte::werktage_between(closes, t, cal);
     VorlaufVerdict::TooLate {
@@ -88,29 +80,27 @@ fn too_late(t: Tag, closes: Tag, first: u32, cal: HolidayCalendar) -> VorlaufVer
 }
 
 /// `Ok` while t is at or before `closes`, else `TooLate` with the `n`-th Werktag after t, which is computed only then.
-fn not_after_by_werktage(n: u32, t: Tag, closes: Tag, cal: HolidayCalendar) -> VorlaufVerdict
-    requires t_value { (t ≡ tag_at t.index) × (t.index ≤ last) }
-    requires closes_value { closes ≡ tag_at closes.index }
-    ensures { result ≡ not_after (is_werktag cal) t.index closes.index (add (is_werktag cal) t.index n) }
+fn not_after_by_werktage(
+    n: u32,
+    t: Tag,
+    closes: Tag,
+    cal: HolidayCalendar,
+) -> Option<VorlaufVerdict>
+    ensures { result ≡ not_after (is_werktag cal) t closes (add (is_werktag cal) t n) }
 {
     if t.index <= closes.index {
-        return VorlaufVerdict::Ok;
+        return Some(VorlaufVerdict::Ok);
     }
-    let TagStep::At(first) = schritte::add_werktage(t, n, cal) else {
-        return VorlaufVerdict::Outside;
-    };
-    too_late(t, closes, first.index, cal)
+    let first = schritte::add_werktage(t, n, cal)?;
+    Some(too_late(t, closes, first, cal))
 }
 
 /// t is the `n`-th Werktag before the anchor at the latest. `LatestWerktageBefore(1)` from Saturday 10 January 2026
 /// against Monday 12 January: TooLate by 0 Werktage, and the date named is that Monday.
-fn latest_werktage_before(n: u32, t: Tag, a: Tag, cal: HolidayCalendar) -> VorlaufVerdict
-    requires { (t ≡ tag_at t.index) × (t.index ≤ last) × (a ≡ tag_at a.index) × (a.index ≤ last) }
-    ensures { result ≡ check_of (is_werktag cal) (VorlaufShape.LatestWerktageBefore n) t.index a.index }
+fn latest_werktage_before(n: u32, t: Tag, a: Tag, cal: HolidayCalendar) -> Option<VorlaufVerdict>
+    ensures { result ≡ check_of (is_werktag cal) (VorlaufShape.LatestWerktageBefore n) t a }
 {
-    let TagStep::At(closes) = schritte::sub_werktage(a, n, cal) else {
-        return VorlaufVerdict::Outside;
-    };
+    let closes = schritte::sub_werktage(a, n, cal)?;
     not_after_by_werktage(n, t, closes, cal)
 }
 
@@ -121,147 +111,110 @@ fn window_werktage_before(
     t: Tag,
     a: Tag,
     cal: HolidayCalendar,
-) -> VorlaufVerdict
-    requires { (t ≡ tag_at t.index) × (t.index ≤ last) × (a ≡ tag_at a.index) × (a.index ≤ last) }
-    ensures { result ≡ check_of (is_werktag cal) (VorlaufShape.WindowWerktageBefore earliest latest) t.index a.index }
+) -> Option<VorlaufVerdict>
+    ensures { result ≡ check_of (is_werktag cal) (VorlaufShape.WindowWerktageBefore earliest latest) t a }
 {
-    let TagStep::At(opens) = schritte::sub_werktage(a, earliest, cal) else {
-        return VorlaufVerdict::Outside;
-    };
-    let TagStep::At(closes) = schritte::sub_werktage(a, latest, cal) else {
-        return VorlaufVerdict::Outside;
-    };
+    let opens = schritte::sub_werktage(a, earliest, cal)?;
+    let closes = schritte::sub_werktage(a, latest, cal)?;
     if t.index < opens.index {
-        return VorlaufVerdict::TooEarly {
-            excess_wt: schritte::werktage_between(t, opens, cal),
-        };
+        let excess_wt = schritte::werktage_between(t, opens, cal);
+        return Some(VorlaufVerdict::TooEarly { excess_wt });
     }
     not_after_by_werktage(latest, t, closes, cal)
 }
 
 /// t is the `n`-th Werktag after the anchor at the latest. Under TooLate the anchor itself is named.
-fn latest_werktage_after(n: u32, t: Tag, a: Tag, cal: HolidayCalendar) -> VorlaufVerdict
-    requires { (t ≡ tag_at t.index) × (t.index ≤ last) × (a ≡ tag_at a.index) × (a.index ≤ last) }
-    ensures { result ≡ check_of (is_werktag cal) (VorlaufShape.LatestWerktageAfter n) t.index a.index }
+fn latest_werktage_after(n: u32, t: Tag, a: Tag, cal: HolidayCalendar) -> Option<VorlaufVerdict>
+    ensures { result ≡ check_of (is_werktag cal) (VorlaufShape.LatestWerktageAfter n) t a }
 {
-    let TagStep::At(closes) = schritte::add_werktage(a, n, cal) else {
-        return VorlaufVerdict::Outside;
-    };
+    let closes = schritte::add_werktage(a, n, cal)?;
     if t.index <= closes.index {
-        return VorlaufVerdict::Ok;
+        return Some(VorlaufVerdict::Ok);
     }
-    too_late(t, closes, a.index, cal)
+    Some(too_late(t, closes, a, cal))
 }
 
 /// The anchor, the date requested, is the `n`-th Werktag after t at the earliest.
-#[tactic(auto, using(crate::proofs::VerdictRules::earliest_ok))]
-fn earliest_werktage_after(n: u32, t: Tag, a: Tag, cal: HolidayCalendar) -> VorlaufVerdict
-    requires { (t ≡ tag_at t.index) × (t.index ≤ last) × (a ≡ tag_at a.index) × (a.index ≤ last) }
-    ensures { result ≡ check_of (is_werktag cal) (VorlaufShape.EarliestWerktageAfter n) t.index a.index }
+fn earliest_werktage_after(n: u32, t: Tag, a: Tag, cal: HolidayCalendar) -> Option<VorlaufVerdict>
+    ensures { result ≡ check_of (is_werktag cal) (VorlaufShape.EarliestWerktageAfter n) t a }
 {
-    let TagStep::At(first) = schritte::add_werktage(t, n, cal) else {
-        return VorlaufVerdict::Outside;
-    };
+    let first = schritte::add_werktage(t, n, cal)?;
     if first.index <= a.index {
-        return VorlaufVerdict::Ok;
+        return Some(VorlaufVerdict::Ok);
     }
-    too_late(first, a, first.index, cal)
+    Some(too_late(first, a, first, cal))
 }
 
 /// t lies from the `n`-th Werktag before the anchor to the `n`-th after it. Under TooLate the opening day is named.
-fn korridor(n: u32, t: Tag, a: Tag, cal: HolidayCalendar) -> VorlaufVerdict
-    requires { (t ≡ tag_at t.index) × (t.index ≤ last) × (a ≡ tag_at a.index) × (a.index ≤ last) }
-    ensures { result ≡ check_of (is_werktag cal) (VorlaufShape.Korridor n) t.index a.index }
+fn korridor(n: u32, t: Tag, a: Tag, cal: HolidayCalendar) -> Option<VorlaufVerdict>
+    ensures { result ≡ check_of (is_werktag cal) (VorlaufShape.Korridor n) t a }
 {
-    let TagStep::At(opens) = schritte::sub_werktage(a, n, cal) else {
-        return VorlaufVerdict::Outside;
-    };
-    let TagStep::At(closes) = schritte::add_werktage(a, n, cal) else {
-        return VorlaufVerdict::Outside;
-    };
+    let opens = schritte::sub_werktage(a, n, cal)?;
+    let closes = schritte::add_werktage(a, n, cal)?;
     if t.index < opens.index {
-        return VorlaufVerdict::TooEarly {
-            excess_wt: schritte::werktage_between(t, opens, cal),
-        };
+        let excess_wt = schritte::werktage_between(t, opens, cal);
+        return Some(VorlaufVerdict::TooEarly { excess_wt });
     }
     if t.index <= closes.index {
-        return VorlaufVerdict::Ok;
+        return Some(VorlaufVerdict::Ok);
     }
-    too_late(t, closes, opens.index, cal)
+    Some(too_late(t, closes, opens, cal))
 }
 
 /// The day after the first Werktag strictly after t: a full Werktag has to lie between t and the date. From a Monday
 /// that is Wednesday.
-fn fruehester_termin_nach_tag_vor_dem_letzten_werktag(t: Tag, cal: HolidayCalendar) -> TagStep
-    requires { (t ≡ tag_at t.index) × (t.index ≤ last) }
-    ensures { result ≡ tag_step (fruehester_termin_nach_tag_vor_dem_letzten_werktag (is_werktag cal) t.index) }
+fn fruehester_termin_nach_tag_vor_dem_letzten_werktag(t: Tag, cal: HolidayCalendar) -> Option<Tag>
+    ensures { result ≡ fruehester_termin_nach_tag_vor_dem_letzten_werktag (is_werktag cal) t }
 {
-    let TagStep::At(next_day) = schritte::day_after(t) else {
-        return TagStep::Outside;
-    };
-    let TagStep::At(werktag) = schritte::next_werktag(next_day, cal) else {
-        return TagStep::Outside;
-    };
+    let next_day = schritte::day_after(t)?;
+    let werktag = schritte::next_werktag(next_day, cal)?;
     schritte::day_after(werktag)
 }
 
 /// t is the day before the last Werktag before the anchor at the latest. From Thursday 8 January 2026: Friday 9 January
 /// is TooLate by 1 Werktag, Saturday 10 January Ok.
-fn tag_vor_dem_letzten_werktag_vor(t: Tag, a: Tag, cal: HolidayCalendar) -> VorlaufVerdict
-    requires { (t ≡ tag_at t.index) × (t.index ≤ last) × (a ≡ tag_at a.index) × (a.index ≤ last) }
-    ensures { result ≡ check_of (is_werktag cal) VorlaufShape.TagVorDemLetztenWerktagVor t.index a.index }
+fn tag_vor_dem_letzten_werktag_vor(t: Tag, a: Tag, cal: HolidayCalendar) -> Option<VorlaufVerdict>
+    ensures { result ≡ check_of (is_werktag cal) VorlaufShape.TagVorDemLetztenWerktagVor t a }
 {
-    let TagStep::At(letzter) = schritte::sub_werktage(a, 1, cal) else {
-        return VorlaufVerdict::Outside;
-    };
-    let TagStep::At(closes) = schritte::day_before(letzter) else {
-        return VorlaufVerdict::Outside;
-    };
+    let letzter = schritte::sub_werktage(a, 1, cal)?;
+    let closes = schritte::day_before(letzter)?;
     if t.index <= closes.index {
-        return VorlaufVerdict::Ok;
+        return Some(VorlaufVerdict::Ok);
     }
-    let TagStep::At(first) = fruehester_termin_nach_tag_vor_dem_letzten_werktag(t, cal) else {
-        return VorlaufVerdict::Outside;
-    };
-    too_late(t, closes, first.index, cal)
+    let first = fruehester_termin_nach_tag_vor_dem_letzten_werktag(t, cal)?;
+    Some(too_late(t, closes, first, cal))
 }
 
 /// `Ok` while t is at or before `closes`, else `TooLate` with the date `first`.
-fn not_after(t: Tag, closes: Tag, first: u32, cal: HolidayCalendar) -> VorlaufVerdict
-    requires t_value { (t ≡ tag_at t.index) × (t.index ≤ last) }
-    requires closes_value { (closes ≡ tag_at closes.index) × (closes.index ≤ last) }
-    ensures { result ≡ not_after (is_werktag cal) t.index closes.index (Step.Day first) }
+fn not_after(t: Tag, closes: Tag, first: Tag, cal: HolidayCalendar) -> Option<VorlaufVerdict>
+    ensures { result ≡ not_after (is_werktag cal) t closes (Some first) }
 {
     if t.index <= closes.index {
-        return VorlaufVerdict::Ok;
+        return Some(VorlaufVerdict::Ok);
     }
-    too_late(t, closes, first, cal)
+    Some(too_late(t, closes, first, cal))
 }
 
 /// t lies `n` months before the anchor at the latest. The earliest date is computed even when the verdict is Ok.
-fn latest_monate_before(n: u32, t: Tag, a: Tag, cal: HolidayCalendar) -> VorlaufVerdict
-    requires { (t ≡ tag_at t.index) × (t.index ≤ last) × (a ≡ tag_at a.index) × (a.index ≤ last) }
-    ensures { result ≡ check_of (is_werktag cal) (VorlaufShape.LatestMonateBefore n) t.index a.index }
+fn latest_monate_before(n: u32, t: Tag, a: Tag, cal: HolidayCalendar) -> Option<VorlaufVerdict>
+    ensures { result ≡ check_of (is_werktag cal) (VorlaufShape.LatestMonateBefore n) t a }
 {
-    let TagStep::At(closes) = monate::months_earlier(a, n) else {
-        return VorlaufVerdict::Outside;
-    };
-    let TagStep::At(first) = monate::months_later(t, n) else {
-        return VorlaufVerdict::Outside;
-    };
-    not_after(t, closes, first.index, cal)
+    let closes = monate::months_earlier(a, n)?;
+    let first = monate::months_later(t, n)?;
+    not_after(t, closes, first, cal)
 }
 
 /// The day `monate` months and `werktage` Werktage before the anchor: the months first, then the Werktage back from the
 /// day on which they land.
-fn monate_und_werktage_before(monate: u32, werktage: u32, a: Tag, cal: HolidayCalendar) -> TagStep
-    requires { (a ≡ tag_at a.index) × (a.index ≤ last) }
-    ensures { result ≡ tag_step
-        (closes (is_werktag cal) (VorlaufShape.LatestMonateUndWerktageBefore monate werktage) a.index) }
+fn monate_und_werktage_before(
+    monate: u32,
+    werktage: u32,
+    a: Tag,
+    cal: HolidayCalendar,
+) -> Option<Tag>
+    ensures { result ≡ closes (is_werktag cal) (VorlaufShape.LatestMonateUndWerktageBefore monate werktage) a }
 {
-    let TagStep::At(back) = monate::months_earlier(a, monate) else {
-        return TagStep::Outside;
-    };
+    let back = monate::months_earlier(a, monate)?;
     schritte::sub_werktage(back, werktage, cal)
 }
 
@@ -273,68 +226,48 @@ fn latest_monate_und_werktage_before(
     t: Tag,
     a: Tag,
     cal: HolidayCalendar,
-) -> VorlaufVerdict
-    requires { (t ≡ tag_at t.index) × (t.index ≤ last) × (a ≡ tag_at a.index) × (a.index ≤ last) }
-    ensures { result ≡ check_of (is_werktag cal) (VorlaufShape.LatestMonateUndWerktageBefore monate werktage) t.index
-        a.index }
+) -> Option<VorlaufVerdict>
+    ensures { result ≡ check_of (is_werktag cal) (VorlaufShape.LatestMonateUndWerktageBefore monate werktage) t
+        a }
 {
-    let TagStep::At(closes) = monate_und_werktage_before(monate, werktage, a, cal) else {
-        return VorlaufVerdict::Outside;
-    };
-    let TagStep::At(on) = schritte::add_werktage(t, werktage, cal) else {
-        return VorlaufVerdict::Outside;
-    };
-    let TagStep::At(first) = monate::months_later(on, monate) else {
-        return VorlaufVerdict::Outside;
-    };
-    not_after(t, closes, first.index, cal)
+    let closes = monate_und_werktage_before(monate, werktage, a, cal)?;
+    let on = schritte::add_werktage(t, werktage, cal)?;
+    let first = monate::months_later(on, monate)?;
+    not_after(t, closes, first, cal)
 }
 
 /// The span from the day of a step on.
-fn span_from(first: TagStep) -> Span
-    ensures { result ≡ span_from (step_index first) }
+fn span_from(first: Option<Tag>) -> Option<Span>
+    ensures { result ≡ span_from first }
 {
-    match first {
-        TagStep::At(day) => Span::From(day.index),
-        TagStep::Outside => Span::Outside,
-    }
+    Some(Span::From(first?))
 }
 
 /// The span between the days of two steps, empty if the first is later.
-fn span_between(first: TagStep, end: TagStep) -> Span
-    ensures { result ≡ span_between (step_index first) (step_index end) }
+fn span_between(first: Option<Tag>, end: Option<Tag>) -> Option<Span>
+    ensures { result ≡ span_between first end }
 {
-    let TagStep::At(f) = first else {
-        return Span::Outside;
-    };
-    let TagStep::At(l) = end else {
-        return Span::Outside;
-    };
+    let f = first?;
+    let l = end?;
     if l.index < f.index {
-        return Span::Empty;
+        return Some(Span::Empty);
     }
-    Span::Both(f.index, l.index)
+    Some(Span::Both(f, l))
 }
 
 /// The day after the first Werktag after t.
-fn after_first_werktag(t: Tag, cal: HolidayCalendar) -> TagStep
-    requires { (t ≡ tag_at t.index) × (t.index ≤ last) }
-    ensures { result ≡ tag_step (on_step Step.Outside (add (is_werktag cal) t.index 1) day_after) }
+fn after_first_werktag(t: Tag, cal: HolidayCalendar) -> Option<Tag>
+    ensures { result ≡ on_step None (add (is_werktag cal) t 1) day_after }
 {
-    let TagStep::At(werktag) = schritte::add_werktage(t, 1, cal) else {
-        return TagStep::Outside;
-    };
+    let werktag = schritte::add_werktage(t, 1, cal)?;
     schritte::day_after(werktag)
 }
 
 /// M(monate, W(werktage)) of document 01.
-fn months_after_werktage(t: Tag, monate: u32, werktage: u32, cal: HolidayCalendar) -> TagStep
-    requires { (t ≡ tag_at t.index) × (t.index ≤ last) }
-    ensures { result ≡ tag_step (on_step Step.Outside (W (is_werktag cal) t.index werktage) (M monate)) }
+fn months_after_werktage(t: Tag, monate: u32, werktage: u32, cal: HolidayCalendar) -> Option<Tag>
+    ensures { result ≡ on_step None (W (is_werktag cal) t werktage) (M monate) }
 {
-    let TagStep::At(day) = schritte::day_after_werktage(t, werktage, cal) else {
-        return TagStep::Outside;
-    };
+    let day = schritte::day_after_werktage(t, werktage, cal)?;
     monate::months_or_first(day, monate)
 }
 
@@ -342,16 +275,18 @@ impl VorlaufShape {
     /// The verdict on a transmission day and an anchor: Ok up to the last permitted transmission day, TooLate after it,
     /// and for the window and the Korridor TooEarly before the day on which they open.
     ///
-    /// `Outside` where a date that the Rust computes leaves the calendar; the two month shapes compute their earliest
+    /// `None` where a date that the Rust computes leaves the calendar; the two month shapes compute their earliest
     /// date even when the verdict is Ok. A date that is named lies in the calendar, and may be none that is acceptable.
     ///
     /// `LatestWerktageBefore(1)` from Saturday 10 January 2026 against Monday 12 January: TooLate by 0 Werktage, with
     /// that Monday.
-    pub fn check(self, uebertragungstag: Tag, anchor: Tag, cal: HolidayCalendar) -> VorlaufVerdict
-        requires uebertragungstag_value { (uebertragungstag ≡ tag_at uebertragungstag.index)
-            × (uebertragungstag.index ≤ last) }
-        requires anchor_value { (anchor ≡ tag_at anchor.index) × (anchor.index ≤ last) }
-        ensures { (result ≡ check_of (is_werktag cal) self uebertragungstag.index anchor.index) × InsideVerdict result }
+    pub fn check(
+        self,
+        uebertragungstag: Tag,
+        anchor: Tag,
+        cal: HolidayCalendar,
+    ) -> Option<VorlaufVerdict>
+        ensures { result ≡ check_of (is_werktag cal) self uebertragungstag anchor }
     {
         let t = uebertragungstag;
         match self {
@@ -374,13 +309,12 @@ impl VorlaufShape {
 
     /// The anchors that a transmission day may ask for ('The span of anchors').
     ///
-    /// `Outside` where an end leaves the calendar. Only the window's span can be empty.
+    /// `None` where an end leaves the calendar. Only the window's span can be empty.
     ///
     /// `LatestWerktageBefore(1)` from Saturday 10 January 2026: from Tuesday 13 January. `LatestMonateBefore(1)` from
     /// 31 January 2026: from 1 March.
-    pub fn span(self, uebertragungstag: Tag, cal: HolidayCalendar) -> Span
-        requires { (uebertragungstag ≡ tag_at uebertragungstag.index) × (uebertragungstag.index ≤ last) }
-        ensures { (result ≡ span_of (is_werktag cal) self uebertragungstag.index) × InsideSpan result }
+    pub fn span(self, uebertragungstag: Tag, cal: HolidayCalendar) -> Option<Span>
+        ensures { result ≡ span_of (is_werktag cal) self uebertragungstag }
     {
         let t = uebertragungstag;
         match self {

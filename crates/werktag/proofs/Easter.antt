@@ -228,3 +228,5 @@ easter_between = each_year Between between
         let q = leb-true e 116 (and_right (leb 80 e) (leb e 116) t) in
         let z : 1996 + k - 1996 ≡ k = omega arith in
         rw (z, easter_is k) (omega arith, omega arith)
+
+pub ruleset sunday_rules = (room, enough, below_30, march_valid, number_from, number_fits, easter_number)

@@ -3,5 +3,6 @@ pub mod Signed
 pub mod Easter
 pub mod Reasons
 pub mod EasterDistance
+pub mod Tables
 pub mod Rules
 pub mod OutsideValues

@@ -4,6 +4,7 @@
 --   is_fixed m d             = whether it is one of them
 --   is_buss_und_bettag m d w = whether it is the Wednesday from 16 to 22 November, w being its weekday
 --   easter_offsets           = the days from Easter Sunday to each feast that moves with it
+--   at_feast i e             = whether the day with index i lies at one of these distances from the day with index e
 --   is_feast i y o           = whether the day with index i lies o days from Easter Sunday of the year y
 --   is_easter_feast i y      = whether it is one of the feasts of the year y that move with Easter
 --   is_listed i d            = whether the day with index i and date d is in the list
@@ -14,7 +15,7 @@
 -- Source: GPKE Teil 1 (Werktag: 'alle Tage .., die kein Samstag, Sonntag oder gesetzlicher Feiertag sind'; a holiday of
 -- one Land counts everywhere; 24.12. and 31.12. count as holidays); document 01, 'lib.rs, calendar', for the list.
 use Rattle.std.specs.Prelude.{ℕ, ◌+◌, Bool, false, not, ◌&&◌, ◌||◌, List, [], ◌∷◌, eqb, leb, ℤ, pos, negsuc, neg_ℤ}
-use Rattle.std.specs.Prelude.{◌+ℤ◌}
+use Rattle.std.specs.Prelude.{◌+ℤ◌, ◌-ℤ◌}
 use Rattle.zaehlung.specs.Lists.{any}
 use Rattle.datum.specs.declared.Date.{Date}
 use Rattle.datum.specs.Calendar.{year_start, year_of, date_in, weekday}
@@ -49,6 +50,9 @@ is_buss_und_bettag m d w = eqb m 11 && (leb 16 d && (leb d 22 && eqb w 2))
 -- 'then Easter Sunday −2, +1, +39, +49, +50, +60 days'
 abbrev pub easter_offsets : List ℤ
 easter_offsets = neg_ℤ (pos 2) ∷ pos 1 ∷ pos 39 ∷ pos 49 ∷ pos 50 ∷ pos 60 ∷ []
+
+unfoldable pub at_feast : ℕ → ℕ → Bool
+at_feast i e = any (eq_z (pos i -ℤ pos e)) easter_offsets
 
 abbrev pub is_feast : ℕ → ℕ → ℤ → Bool
 is_feast i y o = eq_z (pos i) (pos (easter_index y) +ℤ o)

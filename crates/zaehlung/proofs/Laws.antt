@@ -30,17 +30,16 @@ use mathlib.Core.Path.{◌≡◌, refl, sym, ap, ◌∙◌}
 use native.Mathlib.Omega.{arith}
 use native.Mathlib.Decide.{dec_lt}
 use borrow.Author.Tests.{lt-ltb, le-ltb}
-use Rattle.zaehlung.specs.declared.Step.{Step}
-use Rattle.zaehlung.specs.declared.Step.TheVariants.{Day, Outside}
 use Rattle.zaehlung.specs.Walk.{last, on_step, day_after, day_before, add, sub, next, W, between, among, count}
 use Rattle.zaehlung.proofs.Turns.{up_none, past_none, down_none}
 use Rattle.zaehlung.proofs.Count.{count_open, count_step, count_back, count_among}
 use Rattle.zaehlung.proofs.Reach.{up_out, past_out, first_day_lem, first_out, down_out, add_day, sub_day, w_day}
+use Rattle.std.specs.Prelude.{Option, Some, None}
 
 module _ (w : ℕ → Bool) where
   pub add_iff :
       (d n e : ℕ) → d ≤ last → 1 ≤ n →
-      (add w d n ≡ Day e) ↔ ((w e ≡ true) × (count w (suc e) ≡ count w (suc d) + n) × (e ≤ last))
+      (add w d n ≡ Some e) ↔ ((w e ≡ true) × (count w (suc e) ≡ count w (suc d) + n) × (e ≤ last))
   add_iff d n e h m = (
     λ p.
         let r = (add_day w d n e h).0 p in
@@ -50,7 +49,7 @@ module _ (w : ℕ → Bool) where
         (add_day w d n e h).1 (record { counted = r.1; after = omega arith; within = r.2; is_open = λ _. r.0 }),
   )
 
-  pub sub_iff : (d n e : ℕ) → 1 ≤ n → (sub w d n ≡ Day e) ↔ ((w e ≡ true) × (count w e + n ≡ count w d))
+  pub sub_iff : (d n e : ℕ) → 1 ≤ n → (sub w d n ≡ Some e) ↔ ((w e ≡ true) × (count w e + n ≡ count w d))
   sub_iff d n e m = (
     λ p.
         let r = (sub_day w d n e).0 p in
@@ -60,13 +59,13 @@ module _ (w : ℕ → Bool) where
         (sub_day w d n e).1 (record { counted = r.1; before = omega arith; is_open = λ _. r.0 }),
   )
 
-  pub next_iff : (d e : ℕ) → d ≤ last → (next w d ≡ Day e) ↔ ((w e ≡ true) × (count w e ≡ count w d) × (e ≤ last))
+  pub next_iff : (d e : ℕ) → d ≤ last → (next w d ≡ Some e) ↔ ((w e ≡ true) × (count w e ≡ count w d) × (e ≤ last))
   unfolding next
   next_iff d e h = let q : d + (last - d) ≡ last = omega arith in rw q at (first_day_lem w (last - d) d e)
 
   pub w_iff :
       (t n e : ℕ) → t ≤ last → 1 ≤ n →
-      (W w t n ≡ Day e) ↔ ((v : ℕ) × (e ≡ suc v) × (w v ≡ true) × (count w e ≡ count w t + n) × (e ≤ last))
+      (W w t n ≡ Some e) ↔ ((v : ℕ) × (e ≡ suc v) × (w v ≡ true) × (count w e ≡ count w t + n) × (e ≤ last))
   w_iff t n e h m = (
     λ p.
         let r = (w_day w t n e h).0 p in
@@ -85,44 +84,44 @@ module _ (w : ℕ → Bool) where
         }),
   )
 
-  pub add_out_iff : (d n : ℕ) → d ≤ last → (add w d n ≡ Outside) ↔ (count w (suc last) < count w (suc d) + n)
+  pub add_out_iff : (d n : ℕ) → d ≤ last → (add w d n ≡ None) ↔ (count w (suc last) < count w (suc d) + n)
   unfolding add
   add_out_iff d n h = let q : suc d + (last - d) ≡ suc last = omega arith in rw q at (up_out w (last - d) d n)
 
-  pub sub_out_iff : (d n : ℕ) → (sub w d n ≡ Outside) ↔ (count w d < n)
+  pub sub_out_iff : (d n : ℕ) → (sub w d n ≡ None) ↔ (count w d < n)
   unfolding sub
   sub_out_iff d n = down_out w d n
 
-  pub next_out_iff : (d : ℕ) → d ≤ last → (next w d ≡ Outside) ↔ (count w (suc last) < count w d + 1)
+  pub next_out_iff : (d : ℕ) → d ≤ last → (next w d ≡ None) ↔ (count w (suc last) < count w d + 1)
   unfolding next
   next_out_iff d h = let q : d + suc (last - d) ≡ suc last = omega arith in rw q at (first_out w (last - d) d)
 
-  pub w_out_iff : (t n : ℕ) → t ≤ last → (W w t n ≡ Outside) ↔ (count w last < count w t + n)
+  pub w_out_iff : (t n : ℕ) → t ≤ last → (W w t n ≡ None) ↔ (count w last < count w t + n)
   unfolding W
   w_out_iff t n h = let q : t + (last - t) ≡ last = omega arith in rw q at (past_out w (last - t) t n)
 
-  pub add_none : (d : ℕ) → add w d 0 ≡ Day d
+  pub add_none : (d : ℕ) → add w d 0 ≡ Some d
   unfolding add
   add_none d = up_none w (last - d) d
 
-  pub sub_none : (d : ℕ) → sub w d 0 ≡ Day d
+  pub sub_none : (d : ℕ) → sub w d 0 ≡ Some d
   unfolding sub
   sub_none d = down_none w d
 
-  pub w_none : (t : ℕ) → W w t 0 ≡ Day t
+  pub w_none : (t : ℕ) → W w t 0 ≡ Some t
   unfolding W
   w_none t = past_none w (last - t) t
 
-  pub add_inside : (d n e : ℕ) → d ≤ last → add w d n ≡ Day e → e ≤ last
+  pub add_inside : (d n e : ℕ) → d ≤ last → add w d n ≡ Some e → e ≤ last
   add_inside d n e h p = ((add_day w d n e h).0 p).within
 
-  pub sub_inside : (d n e : ℕ) → d ≤ last → sub w d n ≡ Day e → e ≤ last
+  pub sub_inside : (d n e : ℕ) → d ≤ last → sub w d n ≡ Some e → e ≤ last
   sub_inside d n e h p = omega (arith, ((sub_day w d n e).0 p).before)
 
-  pub next_inside : (d e : ℕ) → d ≤ last → next w d ≡ Day e → e ≤ last
+  pub next_inside : (d e : ℕ) → d ≤ last → next w d ≡ Some e → e ≤ last
   next_inside d e h p = ((next_iff d e h).0 p).2
 
-  pub w_inside : (t n e : ℕ) → t ≤ last → W w t n ≡ Day e → e ≤ last
+  pub w_inside : (t n e : ℕ) → t ≤ last → W w t n ≡ Some e → e ≤ last
   w_inside t n e h p = ((w_day w t n e h).0 p).within
 
   -- steps that end at the same open day, wherever they start
@@ -130,30 +129,30 @@ module _ (w : ℕ → Bool) where
     pub add_add : (d n : ℕ) → d ≤ last → 1 ≤ n → count w (suc d) + n ≡ count w (suc e) + m → add w d n ≡ add w e m
     add_add d n h p c = go (add w d n) refl
       where
-        go : (s : Step) → add w d n ≡ s → add w d n ≡ add w e m
-        go (Day x) r =
+        go : (s : Option ℕ) → add w d n ≡ s → add w d n ≡ add w e m
+        go (Some x) r =
             let i = (add_iff d n x h p).0 r in
             r ∙ sym ((add_iff e m x g q).1 (i.0, omega arith, i.2))
-        go Outside r = r ∙ sym ((add_out_iff e m g).1 (omega (arith, (add_out_iff d n h).0 r)))
+        go None r = r ∙ sym ((add_out_iff e m g).1 (omega (arith, (add_out_iff d n h).0 r)))
 
     pub sub_add : (d n : ℕ) → d ≤ last → 1 ≤ n → count w (suc e) + m + n ≡ count w d + 1 → sub w d n ≡ add w e m
     sub_add d n h p c = go (sub w d n) refl
       where
-        go : (s : Step) → sub w d n ≡ s → sub w d n ≡ add w e m
-        go (Day x) r =
+        go : (s : Option ℕ) → sub w d n ≡ s → sub w d n ≡ add w e m
+        go (Some x) r =
             let i = (sub_iff d n x p).0 r in
             let k = count_open w x i.0 in
             r ∙ sym ((add_iff e m x g q).1 (i.0, omega arith, sub_inside d n x h r))
-        go Outside r = absurd (omega (arith, (sub_out_iff d n).0 r))
+        go None r = absurd (omega (arith, (sub_out_iff d n).0 r))
 
     pub w_add :
         (t n : ℕ) → t ≤ last → 1 ≤ n → count w t + n ≡ count w (suc e) + m →
-        W w t n ≡ on_step Outside (add w e m) day_after
+        W w t n ≡ on_step None (add w e m) day_after
     unfolding day_after
     w_add t n h p c = go (add w e m) refl
       where
-        go : (s : Step) → add w e m ≡ s → W w t n ≡ on_step Outside (add w e m) day_after
-        go (Day x) r =
+        go : (s : Option ℕ) → add w e m ≡ s → W w t n ≡ on_step None (add w e m) day_after
+        go (Some x) r =
             let i = (add_iff e m x g q).0 r in
             let k = count_open w x i.0 in
             rw r
@@ -164,7 +163,7 @@ module _ (w : ℕ → Bool) where
                   let y = ap (count w) z in
                   rw (le-ltb x last (omega arith)) ((w_out_iff t n h).1 (omega arith))
             ])
-        go Outside r =
+        go None r =
             rw r ((w_out_iff t n h).1 (omega (arith, (add_out_iff e m g).0 r, count_step w last)))
 
   pub between_count : (a b : ℕ) → a ≤ b → between w a b + count w (suc a) ≡ count w (suc b)
@@ -175,12 +174,12 @@ module _ (w : ℕ → Bool) where
   unfolding between among
   between_later a b h = let q : b - a ≡ 0 = omega arith in rw q
 
-  pub add_between : (d n e : ℕ) → d ≤ last → add w d n ≡ Day e → between w d e ≡ n
+  pub add_between : (d n e : ℕ) → d ≤ last → add w d n ≡ Some e → between w d e ≡ n
   add_between d n e h p =
       let r = (add_day w d n e h).0 p in
       omega (arith, between_count d e r.after)
 
-pub day_after_is : (d e : ℕ) → day_after d ≡ Day e → (e ≡ suc d) × (e ≤ last)
+pub day_after_is : (d e : ℕ) → day_after d ≡ Some e → (e ≡ suc d) × (e ≤ last)
 unfolding day_after
 day_after_is d e p =
     elim (dec_lt d last) [
@@ -188,11 +187,11 @@ day_after_is d e p =
       | no h ↦ let z : ◌≡◌ {A = ℕ} 0 1 = cc (rw (le-ltb d last (omega arith)) at p) in absurd (omega arith)
     ]
 
-pub day_before_is : (d e : ℕ) → day_before d ≡ Day e → d ≡ suc e
+pub day_before_is : (d e : ℕ) → day_before d ≡ Some e → d ≡ suc e
 day_before_is zero e p = let z : ◌≡◌ {A = ℕ} 0 1 = cc in absurd (omega arith)
 day_before_is (suc d) e p = cc
 
-pub on_step_day : (s : Step) (f : ℕ → Step) (e : ℕ) → on_step Outside s f ≡ Day e →
-    (d : ℕ) × (s ≡ Day d) × (f d ≡ Day e)
-on_step_day (Day d) f e p = (d, refl, p)
-on_step_day Outside f e p = let z : ◌≡◌ {A = ℕ} 0 1 = cc in absurd (omega arith)
+pub on_step_day : (s : Option ℕ) (f : ℕ → Option ℕ) (e : ℕ) → on_step None s f ≡ Some e →
+    (d : ℕ) × (s ≡ Some d) × (f d ≡ Some e)
+on_step_day (Some d) f e p = (d, refl, p)
+on_step_day None f e p = let z : ◌≡◌ {A = ℕ} 0 1 = cc in absurd (omega arith)

@@ -9,16 +9,15 @@ use mathlib.Core.Path.{◌≡◌, refl, sym, ap, ◌∙◌}
 use native.Mathlib.Omega.{arith}
 use native.Mathlib.Decide.{dec_lt}
 use borrow.Author.Tests.{lt-ltb, le-ltb}
-use Rattle.zaehlung.specs.declared.Step.{Step}
-use Rattle.zaehlung.specs.declared.Step.TheVariants.{Day, Outside}
 use Rattle.zaehlung.specs.Walk.{last, on_step, day_after, up, first, add, next, W}
 use Rattle.zaehlung.proofs.Turns.{up_none, up_edge, up_open, up_shut, past_none, past_edge, past_open}
 use Rattle.zaehlung.proofs.Turns.{first_edge, first_open, first_shut}
 use Rattle.zaehlung.proofs.Count.{count_open, count_shut}
 use Rattle.zaehlung.proofs.Laws.{add_none, w_add}
+use Rattle.std.specs.Prelude.{Option, Some, None}
 
 module _ (w : ℕ → Bool) where
-  pub next_open : (t : ℕ) → w t ≡ true → next w t ≡ Day t
+  pub next_open : (t : ℕ) → w t ≡ true → next w t ≡ Some t
   unfolding next
   next_open t h = first_open w (last - t) t h
 
@@ -49,7 +48,7 @@ module _ (w : ℕ → Bool) where
             rw (k, le-ltb t last (omega arith)) (past_edge w t 0)
       ]
 
-  pub w_open : (t n : ℕ) → t ≤ last → 1 ≤ n → w t ≡ true → W w t n ≡ on_step Outside (add w t (n - 1)) day_after
+  pub w_open : (t n : ℕ) → t ≤ last → 1 ≤ n → w t ≡ true → W w t n ≡ on_step None (add w t (n - 1)) day_after
   w_open t n h m o =
       elim (dec_lt 1 n) [
         | yes l ↦ w_add w t (n - 1) h (omega arith) t n h m (omega (arith, count_open w t o))
@@ -57,8 +56,8 @@ module _ (w : ℕ → Bool) where
             let e : n ≡ 1 = omega arith in
             let z : n - 1 ≡ 0 = omega arith in
             ap (W w t) e ∙ w_first t h o
-            ∙ sym (ap (λ (x : Step). on_step Outside x day_after) (ap (add w t) z ∙ add_none w t))
+            ∙ sym (ap (λ (x : Option ℕ). on_step None x day_after) (ap (add w t) z ∙ add_none w t))
       ]
 
-  pub w_shut : (t n : ℕ) → t ≤ last → 1 ≤ n → w t ≡ false → W w t n ≡ on_step Outside (add w t n) day_after
+  pub w_shut : (t n : ℕ) → t ≤ last → 1 ≤ n → w t ≡ false → W w t n ≡ on_step None (add w t n) day_after
   w_shut t n h m o = w_add w t n h m t n h m (omega (arith, count_shut w t o))

@@ -21,13 +21,12 @@ use mathlib.Core.Path.{◌≡◌, refl, sym, ap, ◌∙◌}
 use native.Mathlib.Omega.{arith}
 use native.Mathlib.Nat.{add-zero}
 use native.Mathlib.Decide.{dec_le, dec_lt}
-use Rattle.zaehlung.specs.declared.Step.{Step}
-use Rattle.zaehlung.specs.declared.Step.TheVariants.{Day, Outside}
 use Rattle.zaehlung.specs.Walk.{on_step, last, up, past, down, first, add, sub, W, count}
 use Rattle.zaehlung.proofs.Every.{split}
 use Rattle.zaehlung.proofs.Turns.{up_none, up_edge, up_open, up_shut, past_none, past_edge, past_open, past_shut}
 use Rattle.zaehlung.proofs.Turns.{down_none, down_edge, down_open, down_shut, first_edge, first_open, first_shut}
 use Rattle.zaehlung.proofs.Count.{count_none, count_open, count_shut, count_mono, count_back, count_at}
+use Rattle.std.specs.Prelude.{Option, Some, None}
 
 pub record Past (w : ℕ → Bool) (m d n e : ℕ) : Type 0 where
   pub counted : count w e ≡ count w d + n
@@ -47,41 +46,41 @@ pub record Down (w : ℕ → Bool) (d n e : ℕ) : Type 0 where
   pub is_open : e < d → w e ≡ true
 
 -- the day after the one that a step reaches
-abbrev later : Step → Step
-later s = on_step Outside s (λ e. Day (suc e))
+abbrev later : Option ℕ → Option ℕ
+later s = on_step None s (λ e. Some (suc e))
 
 -- a day is not Outside
-never : {A : Type 0} (s : Step) (d : ℕ) → s ≡ Day d → s ≡ Outside → A
+never : {A : Type 0} (s : Option ℕ) (d : ℕ) → s ≡ Some d → s ≡ None → A
 never s d p q = let z : ◌≡◌ {A = ℕ} 0 1 = cc in absurd (omega arith)
 
-later_day : (s : Step) (e : ℕ) → later s ≡ Day (suc e) → s ≡ Day e
-later_day (Day f) e p = cc
-later_day Outside e p = never Outside (suc e) p refl
+later_day : (s : Option ℕ) (e : ℕ) → later s ≡ Some (suc e) → s ≡ Some e
+later_day (Some f) e p = cc
+later_day None e p = never None (suc e) p refl
 
-later_out : (s : Step) → later s ≡ Outside → s ≡ Outside
-later_out (Day f) p = never (Day (suc f)) (suc f) refl p
-later_out Outside p = refl
+later_out : (s : Option ℕ) → later s ≡ None → s ≡ None
+later_out (Some f) p = never (Some (suc f)) (suc f) refl p
+later_out None p = refl
 
 -- Where each outcome of a step brings a fact, P e of Day e and Q of Outside, and no two of these facts hold together,
 -- an outcome is there exactly if its fact is.
-module _ {s : Step} {P : ℕ → Type 0} {Q : Type 0} (day : (e : ℕ) → s ≡ Day e → P e) (out : s ≡ Outside → Q) where
-  exactly_day : ((e f : ℕ) → P e → P f → e ≡ f) → ((e : ℕ) → P e → Q → ⊥) → (e : ℕ) → (s ≡ Day e) ↔ P e
+module _ {s : Option ℕ} {P : ℕ → Type 0} {Q : Type 0} (day : (e : ℕ) → s ≡ Some e → P e) (out : s ≡ None → Q) where
+  exactly_day : ((e f : ℕ) → P e → P f → e ≡ f) → ((e : ℕ) → P e → Q → ⊥) → (e : ℕ) → (s ≡ Some e) ↔ P e
   exactly_day one not e = (day e, λ p. go s refl p)
     where
-      go : (r : Step) → s ≡ r → P e → s ≡ Day e
-      go (Day f) q p = q ∙ ap Day (one f e (day f q) p)
-      go Outside q p = absurd (not e p (out q))
+      go : (r : Option ℕ) → s ≡ r → P e → s ≡ Some e
+      go (Some f) q p = q ∙ ap Some (one f e (day f q) p)
+      go None q p = absurd (not e p (out q))
 
-  exactly_out : ((e : ℕ) → P e → Q → ⊥) → (s ≡ Outside) ↔ Q
+  exactly_out : ((e : ℕ) → P e → Q → ⊥) → (s ≡ None) ↔ Q
   exactly_out not = (out, λ x. go s refl x)
     where
-      go : (r : Step) → s ≡ r → Q → s ≡ Outside
-      go (Day f) q x = absurd (not f (day f q) x)
-      go Outside q x = q
+      go : (r : Option ℕ) → s ≡ r → Q → s ≡ None
+      go (Some f) q x = absurd (not f (day f q) x)
+      go None q x = q
 
 module _ (w : ℕ → Bool) where
   -- past, turn by turn
-  past_here : (k d e : ℕ) → past w k d 0 ≡ Day e → Past w (d + k) d 0 e
+  past_here : (k d e : ℕ) → past w k d 0 ≡ Some e → Past w (d + k) d 0 e
   past_here k d e p =
       let q : d ≡ e = cc (past_none w k d) in
       let c = ap (count w) q in
@@ -111,7 +110,7 @@ module _ (w : ℕ → Bool) where
         is_open = λ v m g. r.is_open v (omega (arith, count_back w (suc d) e (omega arith))) g;
       }
 
-  past_to : (k d n e : ℕ) → past w k d n ≡ Day e → Past w (d + k) d n e
+  past_to : (k d n e : ℕ) → past w k d n ≡ Some e → Past w (d + k) d n e
   past_to zero d zero e p = past_here zero d e p
   past_to (suc k) d zero e p = past_here (suc k) d e p
   past_to zero d (suc n) e p = never (past w zero d (suc n)) e p (past_edge w d n)
@@ -120,7 +119,7 @@ module _ (w : ℕ → Bool) where
       (λ h. past_took k d n e h (past_to k (suc d) n e (sym (past_open w k d n h) ∙ p)))
       (λ h. past_left k d n e h (past_to k (suc d) (suc n) e (sym (past_shut w k d n h) ∙ p)))
 
-  past_few : (k d n : ℕ) → past w k d n ≡ Outside → count w (d + k) < count w d + n
+  past_few : (k d n : ℕ) → past w k d n ≡ None → count w (d + k) < count w d + n
   past_few zero d zero p = never (past w zero d 0) d (past_none w zero d) p
   past_few (suc k) d zero p = never (past w (suc k) d 0) d (past_none w (suc k) d) p
   past_few zero d (suc n) p = rw add-zero (omega arith)
@@ -150,14 +149,14 @@ module _ (w : ℕ → Bool) where
   past_not : (m d n e : ℕ) → Past w m d n e → count w m < count w d + n → ⊥
   past_not m d n e p q = omega (arith, count_mono w e m p.within)
 
-  pub past_day : (k d n e : ℕ) → (past w k d n ≡ Day e) ↔ Past w (d + k) d n e
+  pub past_day : (k d n e : ℕ) → (past w k d n ≡ Some e) ↔ Past w (d + k) d n e
   past_day k d n = exactly_day (past_to k d n) (past_few k d n) (past_one (d + k) d n) (past_not (d + k) d n)
 
-  pub past_out : (k d n : ℕ) → (past w k d n ≡ Outside) ↔ (count w (d + k) < count w d + n)
+  pub past_out : (k d n : ℕ) → (past w k d n ≡ None) ↔ (count w (d + k) < count w d + n)
   past_out k d n = exactly_out (past_to k d n) (past_few k d n) (past_not (d + k) d n)
 
   -- down, turn by turn
-  down_here : (d e : ℕ) → down w d 0 ≡ Day e → Down w d 0 e
+  down_here : (d e : ℕ) → down w d 0 ≡ Some e → Down w d 0 e
   down_here d e p =
       let q : d ≡ e = cc (down_none w d) in
       let c = ap (count w) q in
@@ -179,7 +178,7 @@ module _ (w : ℕ → Bool) where
         is_open = λ m. r.is_open (count_back w e d (omega arith));
       }
 
-  down_to : (d n e : ℕ) → down w d n ≡ Day e → Down w d n e
+  down_to : (d n e : ℕ) → down w d n ≡ Some e → Down w d n e
   down_to zero zero e p = down_here zero e p
   down_to (suc d) zero e p = down_here (suc d) e p
   down_to zero (suc n) e p = never (down w zero (suc n)) e p (down_edge w n)
@@ -188,7 +187,7 @@ module _ (w : ℕ → Bool) where
       (λ h. down_took d n e h (down_to d n e (sym (down_open w d n h) ∙ p)))
       (λ h. down_left d n e h (down_to d (suc n) e (sym (down_shut w d n h) ∙ p)))
 
-  down_few : (d n : ℕ) → down w d n ≡ Outside → count w d < n
+  down_few : (d n : ℕ) → down w d n ≡ None → count w d < n
   down_few zero zero p = never (down w zero 0) 0 (down_none w zero) p
   down_few (suc d) zero p = never (down w (suc d) 0) (suc d) (down_none w (suc d)) p
   down_few zero (suc n) p = omega (arith, count_none w)
@@ -210,18 +209,18 @@ module _ (w : ℕ → Bool) where
   down_not : (d n e : ℕ) → Down w d n e → count w d < n → ⊥
   down_not d n e p q = omega arith
 
-  pub down_day : (d n e : ℕ) → (down w d n ≡ Day e) ↔ Down w d n e
+  pub down_day : (d n e : ℕ) → (down w d n ≡ Some e) ↔ Down w d n e
   down_day d n = exactly_day (down_to d n) (down_few d n) (down_one d n) (down_not d n)
 
-  pub down_out : (d n : ℕ) → (down w d n ≡ Outside) ↔ (count w d < n)
+  pub down_out : (d n : ℕ) → (down w d n ≡ None) ↔ (count w d < n)
   down_out d n = exactly_out (down_to d n) (down_few d n) (down_not d n)
 
   -- up and first stop the day before past, which starts a day later, or has n = 1: what holds of them follows
-  before_day : (k d n : ℕ) (s : Step) → past w k d n ≡ later s → (e : ℕ) → (s ≡ Day e) ↔ Past w (d + k) d n (suc e)
+  before_day : (k d n : ℕ) (s : Option ℕ) → past w k d n ≡ later s → (e : ℕ) → (s ≡ Some e) ↔ Past w (d + k) d n (suc e)
   before_day k d n s q e =
       (λ p. (past_day k d n (suc e)).0 (q ∙ ap later p), λ r. later_day s e (sym q ∙ (past_day k d n (suc e)).1 r))
 
-  before_out : (k d n : ℕ) (s : Step) → past w k d n ≡ later s → (s ≡ Outside) ↔ (count w (d + k) < count w d + n)
+  before_out : (k d n : ℕ) (s : Option ℕ) → past w k d n ≡ later s → (s ≡ None) ↔ (count w (d + k) < count w d + n)
   before_out k d n s q =
       (λ p. (past_out k d n).0 (q ∙ ap later p), λ r. later_out s (sym q ∙ (past_out k d n).1 r))
 
@@ -234,10 +233,10 @@ module _ (w : ℕ → Bool) where
       (λ h. rw (past_open w k (suc d) n h, up_open w k d n h) (up_past k (suc d) n))
       (λ h. rw (past_shut w k (suc d) n h, up_shut w k d n h) (up_past k (suc d) (suc n)))
 
-  pub up_day : (k d n e : ℕ) → (up w k d n ≡ Day e) ↔ Up w (d + k) d n e
+  pub up_day : (k d n e : ℕ) → (up w k d n ≡ Some e) ↔ Up w (d + k) d n e
   up_day k d n e = (λ p. to (b.0 p), λ r. b.1 (from r))
     where
-      b : (up w k d n ≡ Day e) ↔ Past w (suc d + k) (suc d) n (suc e)
+      b : (up w k d n ≡ Some e) ↔ Past w (suc d + k) (suc d) n (suc e)
       b = before_day k (suc d) n (up w k d n) (up_past k d n) e
 
       to : Past w (suc d + k) (suc d) n (suc e) → Up w (d + k) d n e
@@ -253,7 +252,7 @@ module _ (w : ℕ → Bool) where
             is_open = λ v h g. let q : v ≡ e = omega arith in rw q (r.is_open (omega arith));
           }
 
-  pub up_out : (k d n : ℕ) → (up w k d n ≡ Outside) ↔ (count w (suc d + k) < count w (suc d) + n)
+  pub up_out : (k d n : ℕ) → (up w k d n ≡ None) ↔ (count w (suc d + k) < count w (suc d) + n)
   up_out k d n = before_out k (suc d) n (up w k d n) (up_past k d n)
 
   first_past : (k d : ℕ) → past w (suc k) d 1 ≡ later (first w k d)
@@ -266,10 +265,10 @@ module _ (w : ℕ → Bool) where
       (λ h. rw (past_open w (suc k) d 0 h, first_open w (suc k) d h) (past_none w (suc k) (suc d)))
       (λ h. rw (past_shut w (suc k) d 0 h, first_shut w k d h) (first_past k (suc d)))
 
-  pub first_day_lem : (k d e : ℕ) → (first w k d ≡ Day e) ↔ ((w e ≡ true) × (count w e ≡ count w d) × (e ≤ d + k))
+  pub first_day_lem : (k d e : ℕ) → (first w k d ≡ Some e) ↔ ((w e ≡ true) × (count w e ≡ count w d) × (e ≤ d + k))
   first_day_lem k d e = (λ p. to (b.0 p), λ r. b.1 (from r))
     where
-      b : (first w k d ≡ Day e) ↔ Past w (d + suc k) d 1 (suc e)
+      b : (first w k d ≡ Some e) ↔ Past w (d + suc k) d 1 (suc e)
       b = before_day (suc k) d 1 (first w k d) (first_past k d) e
 
       to : Past w (d + suc k) d 1 (suc e) → (w e ≡ true) × (count w e ≡ count w d) × (e ≤ d + k)
@@ -286,17 +285,17 @@ module _ (w : ℕ → Bool) where
             is_open = λ v h g. let q : v ≡ e = omega arith in rw q r.0;
           }
 
-  pub first_out : (k d : ℕ) → (first w k d ≡ Outside) ↔ (count w (d + suc k) < count w d + 1)
+  pub first_out : (k d : ℕ) → (first w k d ≡ None) ↔ (count w (d + suc k) < count w d + 1)
   first_out k d = before_out (suc k) d 1 (first w k d) (first_past k d)
 
-  pub add_day : (d n e : ℕ) → d ≤ last → (add w d n ≡ Day e) ↔ Up w last d n e
+  pub add_day : (d n e : ℕ) → d ≤ last → (add w d n ≡ Some e) ↔ Up w last d n e
   unfolding add
   add_day d n e h = let q : d + (last - d) ≡ last = omega arith in rw q at (up_day (last - d) d n e)
 
-  pub sub_day : (d n e : ℕ) → (sub w d n ≡ Day e) ↔ Down w d n e
+  pub sub_day : (d n e : ℕ) → (sub w d n ≡ Some e) ↔ Down w d n e
   unfolding sub
   sub_day d n e = down_day d n e
 
-  pub w_day : (t n e : ℕ) → t ≤ last → (W w t n ≡ Day e) ↔ Past w last t n e
+  pub w_day : (t n e : ℕ) → t ≤ last → (W w t n ≡ Some e) ↔ Past w last t n e
   unfolding W
   w_day t n e h = let q : t + (last - t) ≡ last = omega arith in rw q at (past_day (last - t) t n e)

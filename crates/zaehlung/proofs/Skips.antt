@@ -12,10 +12,9 @@ use mathlib.Core.Bool.{Bool, true, false}
 use mathlib.Core.Path.{◌≡◌, sym, ap, ◌∙◌}
 use native.Mathlib.Omega.{arith}
 use native.Mathlib.Nat.{add-zero}
-use Rattle.zaehlung.specs.declared.Step.{Step}
-use Rattle.zaehlung.specs.declared.Step.TheVariants.{Outside}
 use Rattle.zaehlung.specs.Walk.{last, bit, add, sub, among, between}
 use Rattle.zaehlung.proofs.Turns.{up_edge, up_open, up_shut, down_edge, down_open, down_shut}
+use Rattle.std.specs.Prelude.{Option, None}
 
 module _ (w : ℕ → Bool) where
   abbrev pub ShutOn : ℕ → ℕ → Type 0
@@ -37,7 +36,7 @@ module _ (w : ℕ → Bool) where
       let k : last - d ≡ suc (last - suc d) = omega arith in
       rw k (up_open w (last - suc d) d n t)
 
-  add_edge : (n : ℕ) → add w last (suc n) ≡ Outside
+  add_edge : (n : ℕ) → add w last (suc n) ≡ None
   unfolding add
   add_edge n = up_edge w last n
 
@@ -53,7 +52,7 @@ module _ (w : ℕ → Bool) where
       ∙ pass_on k (suc d) n (later d k f) (omega arith)
       ∙ ap (λ (x : ℕ). add w x (suc n)) e
 
-  module _ (x : Step) (d n k : ℕ) (i : x ≡ add w d n) (m : 0 < n) where
+  module _ (x : Option ℕ) (d n k : ℕ) (i : x ≡ add w d n) (m : 0 < n) where
     asked : x ≡ add w d (suc (n - 1))
     asked = let e : n ≡ suc (n - 1) = omega arith in i ∙ ap (add w d) e
 
@@ -75,7 +74,7 @@ module _ (w : ℕ → Bool) where
         ∙ add_shut (d + (k - 1)) (n - 1) (omega arith) (rw e t)
         ∙ rw (e, o)
 
-    pub leap_edge : d ≤ last → last - d < k → ShutOn d (k - 1) → Outside ≡ x
+    pub leap_edge : d ≤ last → last - d < k → ShutOn d (k - 1) → None ≡ x
     leap_edge h g f =
         let e : d + (last - d) ≡ last = omega arith in
         sym
@@ -93,7 +92,7 @@ module _ (w : ℕ → Bool) where
   unfolding sub
   sub_open d n t = down_open w d n t
 
-  sub_edge : (n : ℕ) → sub w 0 (suc n) ≡ Outside
+  sub_edge : (n : ℕ) → sub w 0 (suc n) ≡ None
   unfolding sub
   sub_edge n = down_edge w n
 
@@ -112,7 +111,7 @@ module _ (w : ℕ → Bool) where
       ∙ pass_back k (d - 1) n (earlier d k (omega arith) f) (omega arith)
       ∙ ap (λ (x : ℕ). sub w x (suc n)) e
 
-  module _ (x : Step) (d n k : ℕ) (i : x ≡ sub w d n) (m : 0 < n) where
+  module _ (x : Option ℕ) (d n k : ℕ) (i : x ≡ sub w d n) (m : 0 < n) where
     wanted : x ≡ sub w d (suc (n - 1))
     wanted = let e : n ≡ suc (n - 1) = omega arith in i ∙ ap (sub w d) e
 
@@ -129,7 +128,7 @@ module _ (w : ℕ → Bool) where
         let o : suc (n - 1) ≡ n = omega arith in
         to_first a f h ∙ sub_shut (d - k) (n - 1) t ∙ ap (sub w (d - k)) o
 
-    pub back_edge : d < k → ShutBack d (k - 1) → Outside ≡ x
+    pub back_edge : d < k → ShutBack d (k - 1) → None ≡ x
     back_edge h f =
         let e : d - d ≡ 0 = omega arith in
         sym

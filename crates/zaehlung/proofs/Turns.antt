@@ -8,16 +8,16 @@
 use Prim.Native.Nat.{ℕ, zero, suc}
 use mathlib.Core.Bool.{Bool, true, false}
 use mathlib.Core.Path.{◌≡◌, refl}
-use Rattle.zaehlung.specs.declared.Step.TheVariants.{Day, Outside}
 use Rattle.zaehlung.specs.Walk.{up, past, down, first}
+use Rattle.std.specs.Prelude.{Some, None}
 
 module _ (w : ℕ → Bool) where
-  pub up_none : (k d : ℕ) → up w k d 0 ≡ Day d
+  pub up_none : (k d : ℕ) → up w k d 0 ≡ Some d
   unfolding up
   up_none zero d = refl
   up_none (suc k) d = refl
 
-  pub up_edge : (d n : ℕ) → up w 0 d (suc n) ≡ Outside
+  pub up_edge : (d n : ℕ) → up w 0 d (suc n) ≡ None
   unfolding up
   up_edge d n = refl
 
@@ -29,12 +29,12 @@ module _ (w : ℕ → Bool) where
   unfolding up
   up_shut k d n h = rw (h, up)
 
-  pub past_none : (k d : ℕ) → past w k d 0 ≡ Day d
+  pub past_none : (k d : ℕ) → past w k d 0 ≡ Some d
   unfolding past
   past_none zero d = refl
   past_none (suc k) d = refl
 
-  pub past_edge : (d n : ℕ) → past w 0 d (suc n) ≡ Outside
+  pub past_edge : (d n : ℕ) → past w 0 d (suc n) ≡ None
   unfolding past
   past_edge d n = refl
 
@@ -46,12 +46,12 @@ module _ (w : ℕ → Bool) where
   unfolding past
   past_shut k d n h = rw (h, past)
 
-  pub down_none : (d : ℕ) → down w d 0 ≡ Day d
+  pub down_none : (d : ℕ) → down w d 0 ≡ Some d
   unfolding down
   down_none zero = refl
   down_none (suc d) = refl
 
-  pub down_edge : (n : ℕ) → down w 0 (suc n) ≡ Outside
+  pub down_edge : (n : ℕ) → down w 0 (suc n) ≡ None
   unfolding down
   down_edge n = refl
 
@@ -63,11 +63,11 @@ module _ (w : ℕ → Bool) where
   unfolding down
   down_shut d n h = rw (h, down)
 
-  pub first_edge : (d : ℕ) → w d ≡ false → first w 0 d ≡ Outside
+  pub first_edge : (d : ℕ) → w d ≡ false → first w 0 d ≡ None
   unfolding first
   first_edge d h = rw (h, first)
 
-  pub first_open : (k d : ℕ) → w d ≡ true → first w k d ≡ Day d
+  pub first_open : (k d : ℕ) → w d ≡ true → first w k d ≡ Some d
   unfolding first
   first_open zero d h = rw (h, first)
   first_open (suc k) d h = rw (h, first)

@@ -21,46 +21,44 @@
 --   day_before d  = the day before d; Outside before day 0
 -- Source: document 01, lib.rs, and 'The span of anchors' for W.
 -- Assumes nothing.
-use Rattle.std.specs.Prelude.{ℕ, zero, suc, ◌+◌, ◌-◌, Bool, true, false, cond, ltb}
-use Rattle.zaehlung.specs.declared.Step.{Step}
-use Rattle.zaehlung.specs.declared.Step.TheVariants.{Day, Outside}
+use Rattle.std.specs.Prelude.{ℕ, zero, suc, ◌+◌, ◌-◌, Bool, true, false, cond, ltb, Option, Some, None}
 
 -- 'A date lies from 1 January 1996 to 31 December 2899 (330,180 days).'
 abbrev pub last : ℕ
 last = 330179
 
-abbrev pub on_step : {A : Type 0} → A → Step → (ℕ → A) → A
-on_step z (Day d) f = f d
-on_step z Outside f = z
+abbrev pub on_step : {A : Type 0} → A → Option ℕ → (ℕ → A) → A
+on_step z (Some d) f = f d
+on_step z None f = z
 
-unfoldable pub day_after : ℕ → Step
-day_after d = cond (ltb d last) (Day (suc d)) Outside
+unfoldable pub day_after : ℕ → Option ℕ
+day_after d = cond (ltb d last) (Some (suc d)) None
 
-abbrev pub day_before : ℕ → Step
-day_before zero = Outside
-day_before (suc d) = Day d
+abbrev pub day_before : ℕ → Option ℕ
+day_before zero = None
+day_before (suc d) = Some d
 
 -- 'Loops over days end at the calendar's edge': a walk with an open day still to find and no day left is Outside.
-unfoldable pub up : (ℕ → Bool) → ℕ → ℕ → ℕ → Step
-up w zero d zero = Day d
-up w (suc k) d zero = Day d
-up w zero d (suc n) = Outside
+unfoldable pub up : (ℕ → Bool) → ℕ → ℕ → ℕ → Option ℕ
+up w zero d zero = Some d
+up w (suc k) d zero = Some d
+up w zero d (suc n) = None
 up w (suc k) d (suc n) = elim (w (suc d)) [ true ↦ up w k (suc d) n | false ↦ up w k (suc d) (suc n) ]
 
-unfoldable pub past : (ℕ → Bool) → ℕ → ℕ → ℕ → Step
-past w zero d zero = Day d
-past w (suc k) d zero = Day d
-past w zero d (suc n) = Outside
+unfoldable pub past : (ℕ → Bool) → ℕ → ℕ → ℕ → Option ℕ
+past w zero d zero = Some d
+past w (suc k) d zero = Some d
+past w zero d (suc n) = None
 past w (suc k) d (suc n) = elim (w d) [ true ↦ past w k (suc d) n | false ↦ past w k (suc d) (suc n) ]
 
-unfoldable pub first : (ℕ → Bool) → ℕ → ℕ → Step
-first w zero d = elim (w d) [ true ↦ Day d | false ↦ Outside ]
-first w (suc k) d = elim (w d) [ true ↦ Day d | false ↦ first w k (suc d) ]
+unfoldable pub first : (ℕ → Bool) → ℕ → ℕ → Option ℕ
+first w zero d = elim (w d) [ true ↦ Some d | false ↦ None ]
+first w (suc k) d = elim (w d) [ true ↦ Some d | false ↦ first w k (suc d) ]
 
-unfoldable pub down : (ℕ → Bool) → ℕ → ℕ → Step
-down w zero zero = Day zero
-down w (suc d) zero = Day (suc d)
-down w zero (suc n) = Outside
+unfoldable pub down : (ℕ → Bool) → ℕ → ℕ → Option ℕ
+down w zero zero = Some zero
+down w (suc d) zero = Some (suc d)
+down w zero (suc n) = None
 down w (suc d) (suc n) = elim (w d) [ true ↦ down w d n | false ↦ down w d (suc n) ]
 
 abbrev pub bit : Bool → ℕ
@@ -72,18 +70,18 @@ among w d zero = 0
 among w d (suc k) = bit (w d) + among w (suc d) k
 
 -- '`add_werktage` and `sub_werktage` with 0 give the date unchanged, Werktag or not.'
-unfoldable pub add : (ℕ → Bool) → ℕ → ℕ → Step
+unfoldable pub add : (ℕ → Bool) → ℕ → ℕ → Option ℕ
 add w d n = up w (last - d) d n
 
-unfoldable pub sub : (ℕ → Bool) → ℕ → ℕ → Step
+unfoldable pub sub : (ℕ → Bool) → ℕ → ℕ → Option ℕ
 sub w d n = down w d n
 
 -- `next_werktag` of lib.rs: 'the first Werktag that is on or after `from`'.
-unfoldable pub next : (ℕ → Bool) → ℕ → Step
+unfoldable pub next : (ℕ → Bool) → ℕ → Option ℕ
 next w d = first w (last - d) d
 
 -- 'W(n) is t for n = 0, else the day after the n-th Werktag on or after t.'
-unfoldable pub W : (ℕ → Bool) → ℕ → ℕ → Step
+unfoldable pub W : (ℕ → Bool) → ℕ → ℕ → Option ℕ
 W w t n = past w (last - t) t n
 
 -- '`werktage_between` counts Werktage after `from` up to and including `to`; 0 if `to` isn't later.'

@@ -2,14 +2,9 @@
 // has the definitions, proofs/ the theorems. The code is what they speak of, the outcome of a step.
 #![tactic(auto)]
 
-/// The calendar's first day, 1 January 1996, and its last, 31 December 2899, as indexes from the first.
+/// The calendar's first day, 1 January 1996, and its last, 31 December 2899, as indexes from the first. A day known by
+/// its index alone is a number and no type of its own: the code counts with it, and would open such a value and make it
+/// anew at each step.
 pub const FIRST: u32 = 0;
 
 pub const LAST: u32 = 330179;
-
-/// What a step reaches: a day, given by its index from 1 January 1996, or none, because the step leaves the calendar.
-#[derive(Clone, Copy)]
-pub enum Step {
-    Day(u32),
-    Outside,
-}

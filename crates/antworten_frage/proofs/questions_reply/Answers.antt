@@ -1,61 +1,34 @@
--- `antworten_frage::questions_reply` meets its contract, by the invariants beside it.
--- Assumes nothing.
-use mathlib.Core.Path.{◌∙◌, ap}
-use mathlib.Core.Bool.{not}
-use borrow.Author.Rules.{rules}
-use Rattle.antworten_frage.proofs.Rules.{one_more, file_answered, file_rules}
+use mathlib.Core.Path.{◌∙◌}
+use native.Mathlib.Omega.{arith}
+use Prim.Native.Nat.{◌*◌}
+use Rattle.werktag.specs.Werktag.{is_werktag}
+use Rattle.antworten_frage.proofs.Rules.{none_answered, one_more, no_file, file_lengths, file_answered}
 use Rattle.antworten_frage.proofs.questions_reply.Goals as goal
 
-pub is_file-requires : goal.is_file-requires
-is_file-requires c = search (rules, file_rules)
-
 pub returns-then-not-is_file : goal.returns-then-not-is_file
-returns-then-not-is_file c = search (rules, file_rules)
+returns-then-not-is_file c =
+    rw c.number.ensures
+    (no_file (is_werktag c.args.cal) c.args.questions.now c.args.answers.now _ c.is_file.ensures c.if-not-is_file.true)
 
-pub loop-at-init : goal.loop-at-init
-loop-at-init c = search (rules, file_rules)
+pub loop-k-init : goal.loop-k-init
+loop-k-init c =
+    let w = is_werktag c.args.cal in
+    let f = file_lengths w c.args.questions.now c.args.answers.now _ c.is_file.ensures c.if-not-is_file.false in
+    (none_answered w c.args.questions.now c.args.answers.now, f.same, f.multiple, omega arith)
 
-pub overflow_add-at : goal.overflow_add-at
-overflow_add-at c = search (rules, file_rules)
-
-pub slice_bounds-question_of-count : goal.slice_bounds-question_of-count
-slice_bounds-question_of-count c = search (rules, file_rules)
-
-pub question_of-question-requires : goal.question_of-question-requires
-question_of-question-requires c = search (rules, file_rules)
-
-pub overflow_add-at-in-loop-at : goal.overflow_add-at-in-loop-at
-overflow_add-at-in-loop-at c = search (rules, file_rules)
-
-pub slice_bounds-question_reply-count : goal.slice_bounds-question_reply-count
-slice_bounds-question_reply-count c = search (rules, file_rules)
-
-pub question_reply-requires : goal.question_reply-requires
-question_reply-requires c = search (rules, file_rules)
-
-pub overflow_add-at-in-loop-at-2 : goal.overflow_add-at-in-loop-at-2
-overflow_add-at-in-loop-at-2 c = search (rules, file_rules)
-
-pub loop-at-smaller : goal.loop-at-smaller
-loop-at-smaller c = search (rules, file_rules)
-
-pub loop-at-preserved : goal.loop-at-preserved
-loop-at-preserved c =
-    let i = c.loop-at.invariant in (
-      one_more _ _ _ _ _ _ _
-          (i.1 ∙ i.2) i.3 i.4 c.loop-at-test.true c.question_of-question.ensures
-          c.question_reply.ensures i.0,
-      search rules,
-      search rules,
-      search rules,
-      search rules,
-      search rules,
+pub loop-k-preserved : goal.loop-k-preserved
+loop-k-preserved c =
+    let i = c.loop-k.invariant in (
+      one_more (is_werktag c.args.cal) c.args.questions.now c.loop-k.answers (c.loop-k.k * 32) _ _ _ _
+          (c.loop-k.auto.answers ∙ i.1) i.2 (omega arith) (omega arith)
+          c.question_of-question.ensures c.question_answer-answer.ensures c.reply.ensures _ (omega arith) i.0,
+      i.1,
+      i.2,
+      omega arith,
     )
-
-pub shape_of-answers : goal.shape_of-answers
-shape_of-answers c = search (rules, file_rules)
 
 pub returns : goal.returns
 returns c =
-    let i = c.loop-at.invariant in
-    file_answered _ _ _ _ c.is_file.ensures _ _ (ap not c.if-not-is_file.false) i.0 (i.1 ∙ i.2) c.loop-at-test.false
+    file_answered (is_werktag c.args.cal) c.args.questions.now c.args.answers.now _ c.is_file.ensures _
+    (c.loop-k.k * 32)
+    c.if-not-is_file.false c.loop-k.invariant.0 c.loop-k.auto.answers (omega arith)

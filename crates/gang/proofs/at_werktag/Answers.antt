@@ -1,8 +1,8 @@
--- `gang::at_werktag` meets its contract.
--- Assumes nothing.
+use mathlib.Core.Path.{◌∙◌}
+use borrow.Author.Tests.{lt-leb}
 use Rattle.gang.proofs.Rules.{weekend_closed}
-use borrow.Author.Rules.{rules}
 use Rattle.gang.proofs.at_werktag.Goals as goal
 
-pub returns-then-stand-gt-FRIDAY : goal.returns-then-stand-gt-FRIDAY
-returns-then-stand-gt-FRIDAY c = search (rules, weekend_closed)
+pub returns-else-day-le-FRIDAY : goal.returns-else-day-le-FRIDAY
+returns-else-day-le-FRIDAY c = lt-leb _ _ c.if-day-le-FRIDAY.false ∙ rw (← c.stand.view_is) (rw (← c.day.view_is)
+    (weekend_closed c.args.cal _ _ c.day.invariant.0 c.if-day-le-FRIDAY.false))

@@ -1,7 +1,5 @@
--- `gang::from_weekday` meets its contract.
--- Assumes nothing.
-use Rattle.gang.proofs.Rules.{from_monday, from_sunday, from_last}
 use borrow.Author.Rules.{rules}
+use Rattle.gang.proofs.Rules.{from_monday, from_sunday, from_last}
 use Rattle.gang.proofs.from_weekday.Goals as goal
 
 pub returns-then-wday-eq-MONDAY : goal.returns-then-wday-eq-MONDAY

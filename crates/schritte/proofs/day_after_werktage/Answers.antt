@@ -1,29 +1,28 @@
--- `schritte::day_after_werktage` meets its contract: the day after the Werktag that a step from today reaches.
--- Assumes nothing.
-use borrow.Author.Rules.{rules}
-use Rattle.schritte.proofs.Rules.{w_rules}
+use mathlib.Core.Path.{◌∙◌}
+use native.Mathlib.Omega.{arith}
+use Rattle.werktag.specs.Werktag.{is_werktag}
+use Prim.Native.Nat.{◌≤◌}
+use Rattle.zaehlung.specs.Walk.{last}
+use Rattle.schritte.proofs.Rules.{w_here, w_gone, w_is}
 use Rattle.schritte.proofs.day_after_werktage.Goals as goal
 
 pub returns-then-n-eq0 : goal.returns-then-n-eq0
-returns-then-n-eq0 c = search (rules, w_rules)
+returns-then-n-eq0 c = w_here (is_werktag c.args.cal) c.args.t c.args.n c.if-n-eq0.true
 
-pub after_today-requires : goal.after_today-requires
-after_today-requires c = search (rules, w_rules)
-
-pub add_werktage-requires : goal.add_werktage-requires
-add_werktage-requires c = search (rules, w_rules)
-
-pub enum_known-werktag : goal.enum_known-werktag
-enum_known-werktag c = search (rules, w_rules)
-
-pub enum_told-1 : goal.enum_told-1
-enum_told-1 c = search (rules, w_rules)
-
-pub returns-in_default : goal.returns-in_default
-returns-in_default c = search (rules, w_rules)
-
-pub day_after-requires : goal.day_after-requires
-day_after-requires c = search (rules, w_rules)
+pub returns-in_err-werktag : goal.returns-in_err-werktag
+returns-in_err-werktag c =
+    let h : c.args.t ≤ last = omega (arith, c.t.invariant.1, c.t.view_is) in
+    c.from_residual.ensures ∙ w_gone (is_werktag c.args.cal) c.args.t h c.args.n _ (omega (
+      arith,
+      c.if-n-eq0.false,
+    )) c.after_today.ensures _
+    c.add_werktage.ensures c.in_err-werktag.was
 
 pub returns : goal.returns
-returns c = search (rules, w_rules)
+returns c =
+    let h : c.args.t ≤ last = omega (arith, c.t.invariant.1, c.t.view_is) in
+    w_is (is_werktag c.args.cal) c.args.t h c.args.n _ (omega (
+      arith,
+      c.if-n-eq0.false,
+    )) c.after_today.ensures _ _ _ c.add_werktage.ensures
+    c.in_ok-werktag.was c.day_after.ensures

@@ -1,7 +1,5 @@
--- `datum::tage::into_next_month` meets its contract: a rule for each return.
--- Assumes nothing.
-use Rattle.datum.proofs.TagRules.{later_rules}
 use borrow.Author.Rules.{rules}
+use Rattle.datum.proofs.TagRules.{later_rules}
 use Rattle.datum.proofs.tage.into_next_month.Goals as goal
 
 pub overflow_add-day : goal.overflow_add-day
@@ -9,6 +7,12 @@ overflow_add-day c = search (rules, later_rules)
 
 pub overflow_add-result-2 : goal.overflow_add-result-2
 overflow_add-result-2 c = search (rules, later_rules)
+
+pub invariant_of-result : goal.invariant_of-result
+invariant_of-result c = search (rules, later_rules)
+
+pub invariant_of-result-2 : goal.invariant_of-result-2
+invariant_of-result-2 c = search (rules, later_rules)
 
 pub returns : goal.returns
 returns c = search (rules, later_rules)

@@ -1,8 +1,5 @@
--- `datum::tage::later` meets its contract: in the month, or past its end.
--- Assumes nothing.
-use Rattle.datum.proofs.TagRules.{later_rules}
-use borrow.Author.Rules.{rules}
+use Rattle.datum.proofs.TagRules.{day_of_fits}
 use Rattle.datum.proofs.tage.later.Goals as goal
 
-pub overflow_add-tag : goal.overflow_add-tag
-overflow_add-tag c = search (rules, later_rules)
+pub overflow_add-tag-inside : goal.overflow_add-tag-inside
+overflow_add-tag-inside c = day_of_fits _ _ _ _ c.tag.invariant c.tag.view_is c.requires.0 c.requires.1

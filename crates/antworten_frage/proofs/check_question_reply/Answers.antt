@@ -1,9 +1,0 @@
--- `antworten_frage::check_question_reply` meets its contract: the single call's parameters are the fields.
--- Assumes nothing.
-use Rattle.antworten_frage.specs.Frage.{check_question_answer}
-use borrow.Author.Rules.{rules}
-use Rattle.antworten_frage.proofs.check_question_reply.Goals as goal
-
-pub returns : goal.returns
-unfolding check_question_answer
-returns c = search rules

@@ -1,9 +1,0 @@
--- `antworten_frage::frist_question_reply` meets its contract: the single call's parameters are the fields, and hour,
--- minute and second those of the second count.
--- Assumes nothing.
-use Rattle.antworten_frage.proofs.Rules.{asked_rules}
-use borrow.Author.Rules.{rules}
-use Rattle.antworten_frage.proofs.frist_question_reply.Goals as goal
-
-pub returns : goal.returns
-returns c = search (rules, asked_rules)

@@ -1,5 +1,0 @@
--- `vektoren::take_all` ends: the measure is the number of turns that are left.
-use Rattle.vektoren.proofs.take_all.Given as goal
-
-abbrev pub decreases-loop-turns : goal.decreases-loop-turns
-decreases-loop-turns g l = l.turns
