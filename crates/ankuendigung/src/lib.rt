@@ -12,7 +12,7 @@ use berlin::Moment;
 use datum::tage::Tag;
 use werktag::HolidayCalendar;
 
-/// Whether the Frist was kept; or neither, from the beginning on.
+/// Whether the Frist was kept; or neither, from the beginning on, which is an answer and no missing one.
 #[derive(Clone, Copy, PartialEq, Eq)]
 pub enum Fristgerecht {
     Nein,

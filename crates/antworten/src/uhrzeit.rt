@@ -9,7 +9,8 @@ use antwortsatz::{Answer, Refusal};
 use berlin::{Clock, Moment, Sparte};
 use datum::Date;
 
-/// The Sparte of a code, in the Rust's order of its cases: 0 is Strom, 1 Gas, and any other refusal 2.
+/// The Sparte of a code, in the Rust's order of its cases: 0 is Strom, 1 Gas, and any other refusal 2. No
+/// `TryFrom`: both types are of other crates.
 pub fn sparte_of(code: u8) -> Result<Sparte, Refusal>
     ensures { result ≡ ok_or (slice_get sparten code) UnknownCode }
 {

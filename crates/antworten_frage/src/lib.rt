@@ -68,6 +68,7 @@ pub fn questions_reply(questions: &[u8], answers: &mut [u8], cal: HolidayCalenda
     if !fragesatz::is_file(questions.len(), answers.len()) {
         return Refusal::FileLength.number();
     }
+    // By index: of a part that `chunks_mut` lends a proof does not learn where it stands.
     for k in 0..questions.len() / QUESTION_BYTES {
         let at = k * QUESTION_BYTES;
         let question = fragesatz::question_of(&questions[at..at + QUESTION_BYTES]);

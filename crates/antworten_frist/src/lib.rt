@@ -1,4 +1,5 @@
-// What the calls for due instants answer: document 01, refusals 2, 4, 5, 6 and 8.
+// What the calls for due instants answer: document 01, refusals 2, 4, 5, 6 and 8. There is one function for each call
+// of C, named as it.
 #![tactic(auto)]
 
 ghost use Rattle.std.specs.Prelude.{◌≡◌, ok_or, slice_get};
@@ -31,7 +32,8 @@ fn anlass_of(code: u8) -> Result<ContrlAnlass, Refusal>
     }
 }
 
-// The seconds and nanoseconds of a due instant beside a kind, or refusal 6 or 8.
+// The seconds and nanoseconds of a due instant beside a kind, or refusal 6 or 8. No `From`: both types are of other
+// crates.
 fn due_answer(kind: u8, due: Result<Moment, NoDue>) -> Result<Answer, Refusal>
     ensures { result ≡ due_answer kind due }
 {
@@ -58,15 +60,9 @@ fn shape_of(code: u8, werktage: u32, clock: Option<Clock>) -> Result<Option<Fris
     ensures { result ≡ ok_or (slice_get (frist_shapes werktage clock) code) UnknownCode }
 {
     match code {
-        0 => match clock {
-            Some(at) => Ok(Some(FristShape::WerktagAt { werktage, at })),
-            None => Ok(None),
-        },
+        0 => Ok(clock.map(|at| FristShape::WerktagAt { werktage, at })),
         1 => Ok(Some(FristShape::EndOfWerktag(werktage))),
-        2 => match clock {
-            Some(at) => Ok(Some(FristShape::SameDayAt(at))),
-            None => Ok(None),
-        },
+        2 => Ok(clock.map(FristShape::SameDayAt)),
         3 => Ok(Some(FristShape::SameDay)),
         _ => Err(Refusal::UnknownCode),
     }

@@ -1,6 +1,5 @@
 -- What the proofs cite: each rule's premises have the form in which a proof has them, so that `search` finds the rule.
---   call_rules    for every host call: its answer is what a definition gives, so what `reply` promises of the answer
---                 holds of the definition; a slice of another length than 32 is left as it was
+--   reply_other   a slice of another length than 32 is left as it was
 --   reply_whole   what a slice of 32 bytes gets
 --   reply_done    for `reply`: all 32 bytes are written, and the first is returned
 -- Assumes nothing.
@@ -14,17 +13,10 @@ use Rattle.antwortsatz.specs.declared.Answer.{Answer}
 use Rattle.antwortsatz.specs.declared.Refusal.{Refusal}
 use Rattle.antwortsatz.specs.Bytes.{refusal_of, bytes_of, reply}
 
-pub call_replied :
-    (l l' : List ℕ) (a b : Result Answer Refusal) (r : ℕ) →
-    a ≡ b → (r, l') ≡ reply l a → (r, l') ≡ reply l b
-call_replied l l' a b r e p = rw (← e) p
-
 pub reply_other :
     (l : List ℕ) (a : Result Answer Refusal) (r : ℕ) → r ≡ 1 → (length l ≡ 32 → ⊥) → (r, l) ≡ reply l a
 unfolding reply
 reply_other l a r e h = rw (ne_eqb (length l) 32 h, e)
-
-pub ruleset call_rules = (call_replied, reply_other)
 
 pub reply_whole : (l : List ℕ) (a : Result Answer Refusal) → length l ≡ 32 → reply l a ≡ (refusal_of a, bytes_of a)
 unfolding reply

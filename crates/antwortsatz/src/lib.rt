@@ -2,7 +2,9 @@
 // calendar.
 #![tactic(auto)]
 
-ghost use Rattle.std.specs.Prelude.{◌≡◌};
+ghost use Rattle.std.specs.Prelude.{◌≡◌, Result};
+ghost use Rattle.antwortsatz.specs.declared.Answer.{Answer};
+ghost use Rattle.antwortsatz.specs.declared.Refusal.{Refusal};
 ghost use Rattle.antwortsatz.specs.Refusals.{number};
 ghost use Rattle.antwortsatz.specs.Bytes.{bytes_of, reply};
 ghost use Rattle.antwortsatz.specs.Answers.{zero_date, date_word, filled, of_kind, counted, dated};
@@ -181,7 +183,8 @@ pub fn bytes_of(a: Result<Answer, Refusal>) -> [u8; 32]
 }
 
 /// Writes the answer and returns its refusal number, or 0, if the slice has 32 bytes; else returns 1, "which leaves the
-/// slice untouched", as one of 31 bytes. The one writer: no host call fills an answer without it.
+/// slice untouched", as one of 31 bytes. The one writer: no host call fills an answer without it. A number and no
+/// `Result`: that is what a host call returns.
 #[tactic(auto, using(crate::proofs::Rules::reply_rules))]
 pub fn reply(answer: &mut [u8], a: Result<Answer, Refusal>) -> u8
     ensures { (result, answer.new) ≡ reply answer.old a }
@@ -192,4 +195,17 @@ pub fn reply(answer: &mut [u8], a: Result<Answer, Refusal>) -> u8
     let bytes = bytes_of(a);
     answer.copy_from_slice(&bytes);
     bytes[0]
+}
+
+/// Asks for an answer and writes it, as `reply`; where the slice has another length than 32 it does not ask: "which
+/// leaves the slice untouched", and costs no answer.
+pub fn reply_with<F: FnOnce() -> Result<Answer, Refusal>>(answer: &mut [u8], ask: F) -> u8
+    requires { F.IsAlwaysCallable ask }
+    ensures { (a : Result Answer Refusal) → ((r : Result Answer Refusal) → F.post ask r → r ≡ a) →
+        (result, answer.new) ≡ reply answer.old a }
+{
+    if answer.len() != ANSWER_BYTES {
+        return Refusal::AnswerLength.number();
+    }
+    reply(answer, ask())
 }

@@ -1,6 +1,7 @@
 pub mod SummerTime
 pub mod LocalTime
 pub mod Rules
+pub mod Order
 pub mod Found
 pub mod Proper
 pub mod Tiling

@@ -130,7 +130,8 @@ pub fn o_clock(hour: u32) -> Clock
     }
 }
 
-/// Whether an instant is earlier than another: 'instants are compared', to the nanosecond.
+/// Whether an instant is earlier than another: 'instants are compared', to the nanosecond. It is the derived order,
+/// under the definition's name.
 ///
 /// Two equal instants: no, either way. 9 January 2026 13:00 is before a nanosecond later.
 #[tactic(auto, unfolding(crate::specs::Berlin::is_before))]

@@ -13,7 +13,6 @@ ghost use Rattle.antworten_frist.specs.Frist.{deadline_at_werktage_answer, end_o
 ghost use Rattle.antworten_frist.specs.Frist.{next_werktag_at_answer};
 ghost use Rattle.antworten_frist.specs.Frist.{nth_werktag_at_answer, frist_due_at_answer};
 
-use antwortsatz::{ANSWER_BYTES, Refusal};
 use werktag::HolidayCalendar;
 
 /// When a CONTRL is due: 6 hours after its receipt, 45 minutes for `GasAlocat`; `StromUtilmdOderOrders` 15 minutes, 6
@@ -24,13 +23,10 @@ pub fn mf_contrl_due_at(seconds: i64, nanos: u32, anlass: u8, answer: &mut [u8])
     ensures { (result, answer.new) ≡ reply answer.old
         (contrl_due_at_answer (read_instant seconds nanos) anlass) }
 {
-    if answer.len() != ANSWER_BYTES {
-        return Refusal::AnswerLength.number();
-    }
     let instant = berlin::read_instant(seconds, nanos);
-    antwortsatz::reply(
+    antwortsatz::reply_with(
         answer,
-        antworten_frist::contrl_due_at_answer(instant, anlass),
+        || antworten_frist::contrl_due_at_answer(instant, anlass),
     )
 }
 
@@ -41,12 +37,11 @@ pub fn mf_aperak_strom_due_at(seconds: i64, nanos: u32, answer: &mut [u8]) -> u8
     ensures { (result, answer.new) ≡ reply answer.old
         (aperak_strom_due_at_answer (read_instant seconds nanos)) }
 {
-    if answer.len() != ANSWER_BYTES {
-        return Refusal::AnswerLength.number();
-    }
     let instant = berlin::read_instant(seconds, nanos);
-    let a = antworten_frist::aperak_strom_due_at_answer(instant);
-    antwortsatz::reply(answer, a)
+    antwortsatz::reply_with(
+        answer,
+        || antworten_frist::aperak_strom_due_at_answer(instant),
+    )
 }
 
 /// When any other Strom APERAK is due: "12:00 of the first Werktag after the receipt day". Received 2 April 2026, it is
@@ -55,15 +50,14 @@ pub fn mf_aperak_strom_allgemein_due_at(seconds: i64, nanos: u32, answer: &mut [
     ensures { (result, answer.new) ≡ reply answer.old
         (aperak_strom_allgemein_due_at_answer (is_werktag BdewMaKo) (read_instant seconds nanos)) }
 {
-    if answer.len() != ANSWER_BYTES {
-        return Refusal::AnswerLength.number();
-    }
     let instant = berlin::read_instant(seconds, nanos);
-    let a = antworten_frist::aperak_strom_allgemein_due_at_answer(
-        instant,
-        HolidayCalendar::BdewMaKo,
-    );
-    antwortsatz::reply(answer, a)
+    antwortsatz::reply_with(
+        answer,
+        || antworten_frist::aperak_strom_allgemein_due_at_answer(
+            instant,
+            HolidayCalendar::BdewMaKo,
+        ),
+    )
 }
 
 /// When the Gas APERAK of a follow-up process is due, kind 0: 12:00 of the first Werktag after the receipt day, as
@@ -72,15 +66,14 @@ pub fn mf_aperak_gas_folgeprozess_due_at(seconds: i64, nanos: u32, answer: &mut 
     ensures { (result, answer.new) ≡ reply answer.old
         (aperak_gas_folgeprozess_due_at_answer (is_werktag BdewMaKo) (read_instant seconds nanos)) }
 {
-    if answer.len() != ANSWER_BYTES {
-        return Refusal::AnswerLength.number();
-    }
     let instant = berlin::read_instant(seconds, nanos);
-    let a = antworten_frist::aperak_gas_folgeprozess_due_at_answer(
-        instant,
-        HolidayCalendar::BdewMaKo,
-    );
-    antwortsatz::reply(answer, a)
+    antwortsatz::reply_with(
+        answer,
+        || antworten_frist::aperak_gas_folgeprozess_due_at_answer(
+            instant,
+            HolidayCalendar::BdewMaKo,
+        ),
+    )
 }
 
 /// When the Gas APERAK of an initial process is due, kind 1: "end of the third Werktag after the receipt day". Received
@@ -89,15 +82,14 @@ pub fn mf_aperak_gas_initialprozess_due_at(seconds: i64, nanos: u32, answer: &mu
     ensures { (result, answer.new) ≡ reply answer.old
         (aperak_gas_initialprozess_due_at_answer (is_werktag BdewMaKo) (read_instant seconds nanos)) }
 {
-    if answer.len() != ANSWER_BYTES {
-        return Refusal::AnswerLength.number();
-    }
     let instant = berlin::read_instant(seconds, nanos);
-    let a = antworten_frist::aperak_gas_initialprozess_due_at_answer(
-        instant,
-        HolidayCalendar::BdewMaKo,
-    );
-    antwortsatz::reply(answer, a)
+    antwortsatz::reply_with(
+        answer,
+        || antworten_frist::aperak_gas_initialprozess_due_at_answer(
+            instant,
+            HolidayCalendar::BdewMaKo,
+        ),
+    )
 }
 
 /// When the Gas APERAK of a Prüfidentifikator is due, "kind 1 for the initial process, else 0": 44001, 44016, 44039 and
@@ -106,12 +98,11 @@ pub fn mf_aperak_gas_due_at(pid: u32, seconds: i64, nanos: u32, answer: &mut [u8
     ensures { (result, answer.new) ≡ reply answer.old
         (aperak_gas_due_at_answer (is_werktag BdewMaKo) pid (read_instant seconds nanos)) }
 {
-    if answer.len() != ANSWER_BYTES {
-        return Refusal::AnswerLength.number();
-    }
     let instant = berlin::read_instant(seconds, nanos);
-    let a = antworten_frist::aperak_gas_due_at_answer(pid, instant, HolidayCalendar::BdewMaKo);
-    antwortsatz::reply(answer, a)
+    antwortsatz::reply_with(
+        answer,
+        || antworten_frist::aperak_gas_due_at_answer(pid, instant, HolidayCalendar::BdewMaKo),
+    )
 }
 
 /// Some hours later, on the time line and not on the clock: 28 March 2026 12:00 Berlin and 24 hours is 29 March 13:00.
@@ -120,12 +111,8 @@ pub fn mf_add_hours(seconds: i64, nanos: u32, hours: u32, answer: &mut [u8]) -> 
     ensures { (result, answer.new) ≡ reply answer.old
         (add_hours_answer (read_instant seconds nanos) hours) }
 {
-    if answer.len() != ANSWER_BYTES {
-        return Refusal::AnswerLength.number();
-    }
     let instant = berlin::read_instant(seconds, nanos);
-    let a = antworten_frist::add_hours_answer(instant, hours);
-    antwortsatz::reply(answer, a)
+    antwortsatz::reply_with(answer, || antworten_frist::add_hours_answer(instant, hours))
 }
 
 /// The end of the n-th Werktag after the Berlin day of an instant; with 0 that day's own end, Werktag or not. From 2
@@ -134,16 +121,15 @@ pub fn mf_deadline_at_werktage(seconds: i64, nanos: u32, werktage: u32, answer: 
     ensures { (result, answer.new) ≡ reply answer.old
         (deadline_at_werktage_answer (is_werktag BdewMaKo) (read_instant seconds nanos) werktage) }
 {
-    if answer.len() != ANSWER_BYTES {
-        return Refusal::AnswerLength.number();
-    }
     let instant = berlin::read_instant(seconds, nanos);
-    let a = antworten_frist::deadline_at_werktage_answer(
-        instant,
-        werktage,
-        HolidayCalendar::BdewMaKo,
-    );
-    antwortsatz::reply(answer, a)
+    antwortsatz::reply_with(
+        answer,
+        || antworten_frist::deadline_at_werktage_answer(
+            instant,
+            werktage,
+            HolidayCalendar::BdewMaKo,
+        ),
+    )
 }
 
 /// The end of the n-th Werktag after the receipt day; with 0 that day's own end. Received 2 April 2026, with 3: the end
@@ -152,16 +138,15 @@ pub fn mf_end_of_werktag_after(seconds: i64, nanos: u32, werktage: u32, answer: 
     ensures { (result, answer.new) ≡ reply answer.old
         (end_of_werktag_after_answer (is_werktag BdewMaKo) (read_instant seconds nanos) werktage) }
 {
-    if answer.len() != ANSWER_BYTES {
-        return Refusal::AnswerLength.number();
-    }
     let instant = berlin::read_instant(seconds, nanos);
-    let a = antworten_frist::end_of_werktag_after_answer(
-        instant,
-        werktage,
-        HolidayCalendar::BdewMaKo,
-    );
-    antwortsatz::reply(answer, a)
+    antwortsatz::reply_with(
+        answer,
+        || antworten_frist::end_of_werktag_after_answer(
+            instant,
+            werktage,
+            HolidayCalendar::BdewMaKo,
+        ),
+    )
 }
 
 /// A clock time on the first Werktag after the receipt day: received 2 April 2026, 12:00 of 7 April. 24:00 is no clock:
@@ -179,13 +164,12 @@ pub fn mf_next_werktag_at(
         (next_werktag_at_answer (is_werktag BdewMaKo) (read_instant seconds nanos)
         (read_clock hour minute second nanos_of_second)) }
 {
-    if answer.len() != ANSWER_BYTES {
-        return Refusal::AnswerLength.number();
-    }
     let instant = berlin::read_instant(seconds, nanos);
     let clock = berlin::read_clock(hour, minute, second, nanos_of_second);
-    let a = antworten_frist::next_werktag_at_answer(instant, clock, HolidayCalendar::BdewMaKo);
-    antwortsatz::reply(answer, a)
+    antwortsatz::reply_with(
+        answer,
+        || antworten_frist::next_werktag_at_answer(instant, clock, HolidayCalendar::BdewMaKo),
+    )
 }
 
 /// A clock time on the n-th Werktag after the receipt day; "with 0 equals 1". Received 2 April 2026, with 2: 8 April.
@@ -203,13 +187,12 @@ pub fn mf_nth_werktag_at(
         (nth_werktag_at_answer (is_werktag BdewMaKo) (read_instant seconds nanos) n
         (read_clock hour minute second nanos_of_second)) }
 {
-    if answer.len() != ANSWER_BYTES {
-        return Refusal::AnswerLength.number();
-    }
     let instant = berlin::read_instant(seconds, nanos);
     let clock = berlin::read_clock(hour, minute, second, nanos_of_second);
-    let a = antworten_frist::nth_werktag_at_answer(instant, n, clock, HolidayCalendar::BdewMaKo);
-    antwortsatz::reply(answer, a)
+    antwortsatz::reply_with(
+        answer,
+        || antworten_frist::nth_werktag_at_answer(instant, n, clock, HolidayCalendar::BdewMaKo),
+    )
 }
 
 /// When an answer of a shape is due. "`SameDayAt` received exactly at the clock time goes to the next Werktag": 12:00,
@@ -229,17 +212,16 @@ pub fn mf_frist_due_at(
         (frist_due_at_answer (is_werktag BdewMaKo) shape werktage (read_clock hour minute second nanos_of_second)
         (read_instant seconds nanos)) }
 {
-    if answer.len() != ANSWER_BYTES {
-        return Refusal::AnswerLength.number();
-    }
     let clock = berlin::read_clock(hour, minute, second, nanos_of_second);
     let instant = berlin::read_instant(seconds, nanos);
-    let a = antworten_frist::frist_due_at_answer(
-        shape,
-        werktage,
-        clock,
-        instant,
-        HolidayCalendar::BdewMaKo,
-    );
-    antwortsatz::reply(answer, a)
+    antwortsatz::reply_with(
+        answer,
+        || antworten_frist::frist_due_at_answer(
+            shape,
+            werktage,
+            clock,
+            instant,
+            HolidayCalendar::BdewMaKo,
+        ),
+    )
 }

@@ -9,7 +9,6 @@ ghost use Rattle.antworten.specs.Kalender.{is_werktag_answer, next_werktag_answe
 ghost use Rattle.antworten.specs.Kalender.{sub_werktage_answer};
 ghost use Rattle.antworten.specs.Kalender.{werktage_between_answer, add_months_answer, subtract_months_answer};
 
-use antwortsatz::{ANSWER_BYTES, Refusal};
 use datum::Date;
 use werktag::HolidayCalendar;
 
@@ -19,12 +18,11 @@ pub fn mf_is_werktag(year: u16, month: u8, day: u8, answer: &mut [u8]) -> u8
     ensures { (result, answer.new) ≡ reply answer.old
         (is_werktag_answer (reason BdewMaKo) (date_from year month day)) }
 {
-    if answer.len() != ANSWER_BYTES {
-        return Refusal::AnswerLength.number();
-    }
     let date = Date { year, month, day };
-    let a = antworten::kalender::is_werktag_answer(date, HolidayCalendar::BdewMaKo);
-    antwortsatz::reply(answer, a)
+    antwortsatz::reply_with(
+        answer,
+        || antworten::kalender::is_werktag_answer(date, HolidayCalendar::BdewMaKo),
+    )
 }
 
 /// The first Werktag on or after a date, in the answer's date: 3 April 2026 gives 7 April, 7 April itself. On 31
@@ -33,12 +31,11 @@ pub fn mf_next_werktag(year: u16, month: u8, day: u8, answer: &mut [u8]) -> u8
     ensures { (result, answer.new) ≡ reply answer.old
         (next_werktag_answer (is_werktag BdewMaKo) (date_from year month day)) }
 {
-    if answer.len() != ANSWER_BYTES {
-        return Refusal::AnswerLength.number();
-    }
     let date = Date { year, month, day };
-    let a = antworten::kalender::next_werktag_answer(date, HolidayCalendar::BdewMaKo);
-    antwortsatz::reply(answer, a)
+    antwortsatz::reply_with(
+        answer,
+        || antworten::kalender::next_werktag_answer(date, HolidayCalendar::BdewMaKo),
+    )
 }
 
 /// The n-th Werktag after a date; "with 0 give the date unchanged, Werktag or not": 2 April 2026 plus 1 is 7 April, 4
@@ -47,12 +44,11 @@ pub fn mf_add_werktage(year: u16, month: u8, day: u8, n: u32, answer: &mut [u8])
     ensures { (result, answer.new) ≡ reply answer.old
         (add_werktage_answer (is_werktag BdewMaKo) (date_from year month day) n) }
 {
-    if answer.len() != ANSWER_BYTES {
-        return Refusal::AnswerLength.number();
-    }
     let date = Date { year, month, day };
-    let a = antworten::kalender::add_werktage_answer(date, n, HolidayCalendar::BdewMaKo);
-    antwortsatz::reply(answer, a)
+    antwortsatz::reply_with(
+        answer,
+        || antworten::kalender::add_werktage_answer(date, n, HolidayCalendar::BdewMaKo),
+    )
 }
 
 /// The n-th Werktag before a date; with 0 the date unchanged, Werktag or not: 7 April 2026 less 1 is 2 April. 2 January
@@ -61,12 +57,11 @@ pub fn mf_sub_werktage(year: u16, month: u8, day: u8, n: u32, answer: &mut [u8])
     ensures { (result, answer.new) ≡ reply answer.old
         (sub_werktage_answer (is_werktag BdewMaKo) (date_from year month day) n) }
 {
-    if answer.len() != ANSWER_BYTES {
-        return Refusal::AnswerLength.number();
-    }
     let date = Date { year, month, day };
-    let a = antworten::kalender::sub_werktage_answer(date, n, HolidayCalendar::BdewMaKo);
-    antwortsatz::reply(answer, a)
+    antwortsatz::reply_with(
+        answer,
+        || antworten::kalender::sub_werktage_answer(date, n, HolidayCalendar::BdewMaKo),
+    )
 }
 
 /// The count of "Werktage after `from` up to and including `to`; 0 if `to` isn't later": from 2 to 8 April 2026 there
@@ -83,17 +78,16 @@ pub fn mf_werktage_between(
     ensures { (result, answer.new) ≡ reply answer.old
         (werktage_between_answer (is_werktag BdewMaKo) (date_from year month day) (date_from year2 month2 day2)) }
 {
-    if answer.len() != ANSWER_BYTES {
-        return Refusal::AnswerLength.number();
-    }
     let first = Date { year, month, day };
     let second = Date {
         year: year2,
         month: month2,
         day: day2,
     };
-    let a = antworten::kalender::werktage_between_answer(first, second, HolidayCalendar::BdewMaKo);
-    antwortsatz::reply(answer, a)
+    antwortsatz::reply_with(
+        answer,
+        || antworten::kalender::werktage_between_answer(first, second, HolidayCalendar::BdewMaKo),
+    )
 }
 
 /// A date n months later; "a day the target month lacks becomes its last": 31 January 2026 plus 1 is 28 February.
@@ -102,12 +96,8 @@ pub fn mf_add_months(year: u16, month: u8, day: u8, n: u32, answer: &mut [u8]) -
     ensures { (result, answer.new) ≡ reply answer.old
         (add_months_answer (date_from year month day) n) }
 {
-    if answer.len() != ANSWER_BYTES {
-        return Refusal::AnswerLength.number();
-    }
     let date = Date { year, month, day };
-    let a = antworten::kalender::add_months_answer(date, n);
-    antwortsatz::reply(answer, a)
+    antwortsatz::reply_with(answer, || antworten::kalender::add_months_answer(date, n))
 }
 
 /// A date n months earlier; a day that the month lacks becomes its last: 31 March 2026 less 1 is 28 February. Refusal 8
@@ -116,10 +106,9 @@ pub fn mf_subtract_months(year: u16, month: u8, day: u8, n: u32, answer: &mut [u
     ensures { (result, answer.new) ≡ reply answer.old
         (subtract_months_answer (date_from year month day) n) }
 {
-    if answer.len() != ANSWER_BYTES {
-        return Refusal::AnswerLength.number();
-    }
     let date = Date { year, month, day };
-    let a = antworten::kalender::subtract_months_answer(date, n);
-    antwortsatz::reply(answer, a)
+    antwortsatz::reply_with(
+        answer,
+        || antworten::kalender::subtract_months_answer(date, n),
+    )
 }

@@ -2,9 +2,9 @@
 //
 // Each call's promise is one equation: the number that it returns and the slices as it leaves them are what a
 // definition gives, which stands in specs/ of `antworten`, `antworten_frist`, `antworten_vorlauf`, `antworten_frage` or
-// `antworten_portfolio`. Refusal 1 is found before anything is read: a host that lends a wrong length should not pay
-// for an answer. Every other is decided in the answer, but 9, which is a file's.
-#![tactic(auto, using(antwortsatz::proofs::Rules::reply_other))]
+// `antworten_portfolio`. Refusal 1 is found before an answer is asked for: a host that lends a wrong length should not
+// pay for one. Every other is decided in the answer, but 9, which is a file's.
+#![tactic(auto)]
 
 mod fragen;
 mod frist;

@@ -6,7 +6,6 @@ ghost use Rattle.antworten.specs.Reading.{date_from};
 ghost use Rattle.antworten.specs.Uhrzeit.{berlin_at_answer, berlin_midnight_answer, end_of_day_berlin_answer};
 ghost use Rattle.antworten.specs.Uhrzeit.{tagesbeginn_utc_answer, berlin_date_answer, tag_des_beginns_answer};
 
-use antwortsatz::{ANSWER_BYTES, Refusal};
 use datum::Date;
 
 /// The instant at which the Berlin clock shows a time on a date. "A repeated local time means its earlier instant": 25
@@ -24,13 +23,9 @@ pub fn mf_berlin_at(
     ensures { (result, answer.new) ≡ reply answer.old
         (berlin_at_answer (date_from year month day) (read_clock hour minute second nanos_of_second)) }
 {
-    if answer.len() != ANSWER_BYTES {
-        return Refusal::AnswerLength.number();
-    }
     let date = Date { year, month, day };
     let clock = berlin::read_clock(hour, minute, second, nanos_of_second);
-    let a = antworten::uhrzeit::berlin_at_answer(date, clock);
-    antwortsatz::reply(answer, a)
+    antwortsatz::reply_with(answer, || antworten::uhrzeit::berlin_at_answer(date, clock))
 }
 
 /// The first instant of a Berlin day: 9 January 2026 begins on the 8th at 23:00 UTC, 9 July on the 8th at 22:00.
@@ -39,12 +34,8 @@ pub fn mf_berlin_midnight(year: u16, month: u8, day: u8, answer: &mut [u8]) -> u
     ensures { (result, answer.new) ≡ reply answer.old
         (berlin_midnight_answer (date_from year month day)) }
 {
-    if answer.len() != ANSWER_BYTES {
-        return Refusal::AnswerLength.number();
-    }
     let date = Date { year, month, day };
-    let a = antworten::uhrzeit::berlin_midnight_answer(date);
-    antwortsatz::reply(answer, a)
+    antwortsatz::reply_with(answer, || antworten::uhrzeit::berlin_midnight_answer(date))
 }
 
 /// The last instant of a Berlin day, 23:59:59.999999999: that of 9 January 2026 is 22:59:59.999999999 UTC. It is never
@@ -53,12 +44,11 @@ pub fn mf_end_of_day_berlin(year: u16, month: u8, day: u8, answer: &mut [u8]) ->
     ensures { (result, answer.new) ≡ reply answer.old
         (end_of_day_berlin_answer (date_from year month day)) }
 {
-    if answer.len() != ANSWER_BYTES {
-        return Refusal::AnswerLength.number();
-    }
     let date = Date { year, month, day };
-    let a = antworten::uhrzeit::end_of_day_berlin_answer(date);
-    antwortsatz::reply(answer, a)
+    antwortsatz::reply_with(
+        answer,
+        || antworten::uhrzeit::end_of_day_berlin_answer(date),
+    )
 }
 
 /// The instant at which a day begins in a Sparte: "Strom begins at 00:00, Gas at 06:00 Berlin." The Gas day 29 March
@@ -67,12 +57,11 @@ pub fn mf_tagesbeginn_utc(year: u16, month: u8, day: u8, sparte: u8, answer: &mu
     ensures { (result, answer.new) ≡ reply answer.old
         (tagesbeginn_utc_answer (date_from year month day) sparte) }
 {
-    if answer.len() != ANSWER_BYTES {
-        return Refusal::AnswerLength.number();
-    }
     let date = Date { year, month, day };
-    let a = antworten::uhrzeit::tagesbeginn_utc_answer(date, sparte);
-    antwortsatz::reply(answer, a)
+    antwortsatz::reply_with(
+        answer,
+        || antworten::uhrzeit::tagesbeginn_utc_answer(date, sparte),
+    )
 }
 
 /// The Berlin date of an instant, not the UTC date: 8 January 2026 23:30 UTC is 9 January. Seconds before 820,450,800
@@ -81,12 +70,8 @@ pub fn mf_berlin_date(seconds: i64, nanos: u32, answer: &mut [u8]) -> u8
     ensures { (result, answer.new) ≡ reply answer.old
         (berlin_date_answer (read_instant seconds nanos)) }
 {
-    if answer.len() != ANSWER_BYTES {
-        return Refusal::AnswerLength.number();
-    }
     let instant = berlin::read_instant(seconds, nanos);
-    let a = antworten::uhrzeit::berlin_date_answer(instant);
-    antwortsatz::reply(answer, a)
+    antwortsatz::reply_with(answer, || antworten::uhrzeit::berlin_date_answer(instant))
 }
 
 /// The date of the day that begins at an instant in a Sparte: 29 March 2026 04:00 UTC begins the Gas day 29 March, and
@@ -95,10 +80,9 @@ pub fn mf_tag_des_beginns(seconds: i64, nanos: u32, sparte: u8, answer: &mut [u8
     ensures { (result, answer.new) ≡ reply answer.old
         (tag_des_beginns_answer (read_instant seconds nanos) sparte) }
 {
-    if answer.len() != ANSWER_BYTES {
-        return Refusal::AnswerLength.number();
-    }
     let instant = berlin::read_instant(seconds, nanos);
-    let a = antworten::uhrzeit::tag_des_beginns_answer(instant, sparte);
-    antwortsatz::reply(answer, a)
+    antwortsatz::reply_with(
+        answer,
+        || antworten::uhrzeit::tag_des_beginns_answer(instant, sparte),
+    )
 }

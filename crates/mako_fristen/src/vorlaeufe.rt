@@ -9,7 +9,6 @@ ghost use Rattle.antworten_vorlauf.specs.Vorlauf.{vorlauf_check_answer, vorlauf_
 ghost use Rattle.antworten_vorlauf.specs.Vorlauf.{abmeldung_fuer_answer, abmeldung_check_answer};
 ghost use Rattle.antworten_vorlauf.specs.Vorlauf.{eog_ankuendigung_fristgerecht_answer};
 
-use antwortsatz::{ANSWER_BYTES, Refusal};
 use datum::Date;
 use werktag::HolidayCalendar;
 
@@ -33,24 +32,23 @@ pub fn mf_vorlauf_check(
         (vorlauf_check_answer (is_werktag BdewMaKo) shape count count2 (date_from year month day)
         (date_from year2 month2 day2)) }
 {
-    if answer.len() != ANSWER_BYTES {
-        return Refusal::AnswerLength.number();
-    }
     let first = Date { year, month, day };
     let second = Date {
         year: year2,
         month: month2,
         day: day2,
     };
-    let a = antworten_vorlauf::vorlauf_check_answer(
-        shape,
-        count,
-        count2,
-        first,
-        second,
-        HolidayCalendar::BdewMaKo,
-    );
-    antwortsatz::reply(answer, a)
+    antwortsatz::reply_with(
+        answer,
+        || antworten_vorlauf::vorlauf_check_answer(
+            shape,
+            count,
+            count2,
+            first,
+            second,
+            HolidayCalendar::BdewMaKo,
+        ),
+    )
 }
 
 /// The same for a transmission instant and an anchor given as a day's beginning: "4 for either, 7 for the anchor, 8".
@@ -71,21 +69,20 @@ pub fn mf_vorlauf_check_at(
         (vorlauf_check_at_answer (is_werktag BdewMaKo) shape count count2 sparte (read_instant seconds nanos)
         (read_instant seconds2 nanos2)) }
 {
-    if answer.len() != ANSWER_BYTES {
-        return Refusal::AnswerLength.number();
-    }
     let instant = berlin::read_instant(seconds, nanos);
     let beginning = berlin::read_instant(seconds2, nanos2);
-    let a = antworten_vorlauf::vorlauf_check_at_answer(
-        shape,
-        count,
-        count2,
-        sparte,
-        instant,
-        beginning,
-        HolidayCalendar::BdewMaKo,
-    );
-    antwortsatz::reply(answer, a)
+    antwortsatz::reply_with(
+        answer,
+        || antworten_vorlauf::vorlauf_check_at_answer(
+            shape,
+            count,
+            count2,
+            sparte,
+            instant,
+            beginning,
+            HolidayCalendar::BdewMaKo,
+        ),
+    )
 }
 
 /// The anchors that a shape takes for a transmission date: "Kind 0 no last day, 1 both, 2 empty with both dates zero".
@@ -103,18 +100,17 @@ pub fn mf_vorlauf_span(
     ensures { (result, answer.new) ≡ reply answer.old
         (vorlauf_span_answer (is_werktag BdewMaKo) shape count count2 (date_from year month day)) }
 {
-    if answer.len() != ANSWER_BYTES {
-        return Refusal::AnswerLength.number();
-    }
     let date = Date { year, month, day };
-    let a = antworten_vorlauf::vorlauf_span_answer(
-        shape,
-        count,
-        count2,
-        date,
-        HolidayCalendar::BdewMaKo,
-    );
-    antwortsatz::reply(answer, a)
+    antwortsatz::reply_with(
+        answer,
+        || antworten_vorlauf::vorlauf_span_answer(
+            shape,
+            count,
+            count2,
+            date,
+            HolidayCalendar::BdewMaKo,
+        ),
+    )
 }
 
 /// The case of a deregistration: "only the three bytes "ZQ7" are the deactivation reason; "zq7", "ZQ7 " and an empty
@@ -124,11 +120,10 @@ pub fn mf_abmeldung_fuer(reason: &[u8], eeg: u8, answer: &mut [u8]) -> u8
     ensures { (result, answer.new) ≡ reply answer.old
         (abmeldung_fuer_answer reason.now eeg) }
 {
-    if answer.len() != ANSWER_BYTES {
-        return Refusal::AnswerLength.number();
-    }
-    let a = antworten_vorlauf::abmeldung_fuer_answer(reason, eeg);
-    antwortsatz::reply(answer, a)
+    antwortsatz::reply_with(
+        answer,
+        || antworten_vorlauf::abmeldung_fuer_answer(reason, eeg),
+    )
 }
 
 /// The verdict of a deregistration, kind 3 where it has no shape: "ZQ7, or an unknown EEG mark". Its two dates are
@@ -148,23 +143,22 @@ pub fn mf_abmeldung_check(
         (abmeldung_check_answer (is_werktag BdewMaKo) reason.now eeg (date_from year month day)
         (date_from year2 month2 day2)) }
 {
-    if answer.len() != ANSWER_BYTES {
-        return Refusal::AnswerLength.number();
-    }
     let first = Date { year, month, day };
     let second = Date {
         year: year2,
         month: month2,
         day: day2,
     };
-    let a = antworten_vorlauf::abmeldung_check_answer(
-        reason,
-        eeg,
-        first,
-        second,
-        HolidayCalendar::BdewMaKo,
-    );
-    antwortsatz::reply(answer, a)
+    antwortsatz::reply_with(
+        answer,
+        || antworten_vorlauf::abmeldung_check_answer(
+            reason,
+            eeg,
+            first,
+            second,
+            HolidayCalendar::BdewMaKo,
+        ),
+    )
 }
 
 /// Whether an announcement keeps its Frist, 13:00 of the last Werktag before the beginning: for 12 January 2026, 9
@@ -181,15 +175,14 @@ pub fn mf_eog_ankuendigung_fristgerecht(
         (eog_ankuendigung_fristgerecht_answer (is_werktag BdewMaKo) (read_instant seconds nanos)
         (date_from year month day)) }
 {
-    if answer.len() != ANSWER_BYTES {
-        return Refusal::AnswerLength.number();
-    }
     let date = Date { year, month, day };
     let instant = berlin::read_instant(seconds, nanos);
-    let a = antworten_vorlauf::eog_ankuendigung_fristgerecht_answer(
-        instant,
-        date,
-        HolidayCalendar::BdewMaKo,
-    );
-    antwortsatz::reply(answer, a)
+    antwortsatz::reply_with(
+        answer,
+        || antworten_vorlauf::eog_ankuendigung_fristgerecht_answer(
+            instant,
+            date,
+            HolidayCalendar::BdewMaKo,
+        ),
+    )
 }

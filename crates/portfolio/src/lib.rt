@@ -181,6 +181,7 @@ pub fn counts_of(from: &[u32], to: &[u32], counts: &mut [u32], cal: HolidayCalen
 {
     let mut run = None;
     let mut read = 0;
+    // By index, since the days of a pair stand in two other lists.
     for (i, count) in counts.iter_mut().enumerate() {
         read += u32::from(go_on(&mut run, from[i], to[i], cal));
         *count = pair_count(&run, from[i], to[i], cal);

@@ -56,6 +56,7 @@ fn read_hex<const N: usize>(line: &[u8; LINE_BYTES], from: usize) -> Option<[u8;
     ensures { result ≡ bytes_at line.now from N }
 {
     let mut bytes = [0u8; N];
+    // By place: a byte is two digits.
     for (i, byte) in bytes.iter_mut().enumerate() {
         let high = digit(line[from + 2 * i])?;
         let low = digit(line[from + 2 * i + 1])?;
@@ -77,6 +78,7 @@ fn ask(q: &[u8; QUESTION_BYTES], answer: &mut [u8]) -> Option<u8> {
     let (seconds2, nanos2) = (zahlen::i64_at(q, 36), zahlen::u32_at(q, 44));
     let code2 = q[48];
     let reason = q.get(REASON_AT..REASON_AT + usize::from(q[49]));
+    // The numbers of the stored file, each with parameters of its own.
     let number = match q[0] {
         // Calendar steps and counts.
         0 => mako_fristen::mf_is_werktag(year, month, day, answer),
@@ -185,7 +187,8 @@ fn is_equal(line: &[u8; LINE_BYTES]) -> Option<bool> {
     Some(is_expected(number, &answer, &expected))
 }
 
-// An input's bytes, one after the other. They are read in blocks: from `at` to `end` of this one are still to come.
+// An input's bytes, one after the other. They are read in blocks: from `at` to `end` of this one are still to come. No
+// `BufReader`: that has its block on the heap.
 #[derive(Drop)]
 struct Bytes<R> {
     input: R,
@@ -215,6 +218,7 @@ impl<R: Read> Bytes<R> {
 // Reads the next line, and asks its question.
 fn replay_next<R: Read>(bytes: &mut Bytes<R>) -> io::Result<Option<Replayed>> {
     let mut line = [0u8; LINE_BYTES];
+    // A proved loop has to end, and nothing says that a line does.
     for held in 0..usize::MAX {
         let Some(byte) = bytes.next()? else {
             // A last line without its end is of another form.

@@ -10,7 +10,7 @@ use super::{VorlaufShape, VorlaufVerdict};
 use datum::tage::Tag;
 use werktag::HolidayCalendar;
 
-/// Whether the object is an EEG-Marktlokation or a Tranche of one.
+/// Whether the object is an EEG-Marktlokation or a Tranche of one. No `Option<bool>`: unknown is an answer of its own.
 #[derive(Clone, Copy)]
 pub enum Eeg {
     Nein,

@@ -40,7 +40,7 @@ pub enum VorlaufShape {
     LatestMonateUndWerktageBefore { monate: u32, werktage: u32 },
 }
 
-/// The verdict on a transmission day and an anchor.
+/// The verdict on a transmission day and an anchor. No `Result`: TooLate and TooEarly are answers, and no failures.
 #[derive(Clone, Copy)]
 pub enum VorlaufVerdict {
     /// The date respects the window.
@@ -128,10 +128,7 @@ fn latest_werktage_after(n: u32, t: Tag, a: Tag, cal: HolidayCalendar) -> Option
     ensures { result ≡ check_of (is_werktag cal) (VorlaufShape.LatestWerktageAfter n) t a }
 {
     let closes = schritte::add_werktage(a, n, cal)?;
-    if t.index <= closes.index {
-        return Some(VorlaufVerdict::Ok);
-    }
-    Some(too_late(t, closes, a, cal))
+    not_after(t, closes, a, cal)
 }
 
 /// The anchor, the date requested, is the `n`-th Werktag after t at the earliest.
@@ -155,10 +152,7 @@ fn korridor(n: u32, t: Tag, a: Tag, cal: HolidayCalendar) -> Option<VorlaufVerdi
         let excess_wt = schritte::werktage_between(t, opens, cal);
         return Some(VorlaufVerdict::TooEarly { excess_wt });
     }
-    if t.index <= closes.index {
-        return Some(VorlaufVerdict::Ok);
-    }
-    Some(too_late(t, closes, opens, cal))
+    not_after(t, closes, opens, cal)
 }
 
 /// The day after the first Werktag strictly after t: a full Werktag has to lie between t and the date. From a Monday

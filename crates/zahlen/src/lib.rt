@@ -1,4 +1,5 @@
-// Numbers that stand as bytes at a place, lowest byte first.
+// Numbers that stand as bytes at a place, lowest byte first. Three sizes, a line each: a trait over them would be
+// longer.
 #![tactic(auto)]
 
 ghost use Rattle.std.specs.Prelude.{◌≡◌, ◌+◌, ◌≤◌, length};
