@@ -283,7 +283,6 @@ LONG = [
     ("crates/andere/specs/Lang.antt", "ä" * 120 + "\n"),
     ("docs/lang.md", "| " + "x" * 200 + " |\n\n```\n" + "x" * 200 + "\n```\n"),
     ("host/src/lang.rs", "//! | " + "x" * 200 + " |\n"),
-    ("crates/andere/src/lang.rt", "#[tactic(auto, using(" + "x" * 200 + "))]\n"),
     ("crates/andere/data/lang.md", "x" * 200 + "\n"),
 ]
 

@@ -276,13 +276,8 @@ def names(root):
 # The length of lines.
 
 TEXTS = {".rt", ".antt", ".rs", ".edit", ".md", ".toml", ".py", ".sh"}
-# What cannot be broken: a row of a table, in Markdown or in the Markdown of a Rust comment, and an attribute that names
-# what a proof uses, which `rt fmt` lays on one line.
-UNBROKEN = {
-    ".md": re.compile(r"\s*\|"),
-    ".rs": re.compile(r"\s*//[/!] \|"),
-    ".rt": re.compile(r"\s*#!?\[tactic\("),
-}
+# A row of a table, in Markdown or in the Markdown of a Rust comment, cannot be broken.
+TABLE_ROW = {".md": re.compile(r"\s*\|"), ".rs": re.compile(r"\s*//[/!] \|")}
 FENCE = re.compile(r" {0,3}(```|~~~)")
 
 
@@ -300,13 +295,13 @@ def lines(root):
     for path in tree(root):
         if Path(root, path).is_symlink() or not is_text(root, path):
             continue
-        unbroken, fence = UNBROKEN.get(path.suffix), None
+        table_row, fence = TABLE_ROW.get(path.suffix), None
         for number, line in enumerate(read(root, path).split("\n"), 1):
             looked += 1
             mark = FENCE.match(line) if path.suffix == ".md" else None
             if mark and fence in (None, mark[1]):
                 fence = None if fence else mark[1]
-            if len(line) > LONGEST_LINE and not fence and not (unbroken and unbroken.match(line)):
+            if len(line) > LONGEST_LINE and not fence and not (table_row and table_row.match(line)):
                 faults.append(f"{path}:{number}: {len(line)} characters, over {LONGEST_LINE}")
         if fence:
             faults.append(f"{path}: a block of code that does not end")

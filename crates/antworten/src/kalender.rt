@@ -11,22 +11,21 @@ use antwortsatz::{Answer, Refusal};
 use datum::Date;
 use datum::tage::{Tag, tag_of};
 use schritte::tested::count_werktage;
-use werktag::HolidayCalendar;
+use werktag::{HolidayCalendar, Reason};
 
-/// The date of the day that a step reached, or refusal 8.
+/// The date that a step or a shift by months reached, or refusal 8.
+fn shift_answer(reached: Option<Date>) -> Result<Answer, Refusal>
+    ensures { result ≡ shift_answer reached }
+{
+    let date = reached.ok_or(Refusal::LeavesCalendar)?;
+    Ok(antwortsatz::dated(date))
+}
+
+/// The same of the day that a step reached.
 fn step_answer(step: Option<Tag>) -> Result<Answer, Refusal>
     ensures { result ≡ step_answer step }
 {
-    let day = step.ok_or(Refusal::LeavesCalendar)?;
-    Ok(antwortsatz::dated(day.date))
-}
-
-/// The date that a shift by months reached, or refusal 8.
-fn shift_answer(shifted: Option<Date>) -> Result<Answer, Refusal>
-    ensures { result ≡ shift_answer shifted }
-{
-    let date = shifted.ok_or(Refusal::LeavesCalendar)?;
-    Ok(antwortsatz::dated(date))
+    shift_answer(step.map(|day| day.date))
 }
 
 /// The reason of a date as kind: "0 Werktag, 1 Saturday, 2 Sunday, 3 to 22 the holidays". Refusal 3 for no date of the
@@ -36,7 +35,8 @@ pub fn is_werktag_answer(date: Date, cal: HolidayCalendar) -> Result<Answer, Ref
     ensures { result ≡ is_werktag_answer (reason cal) date }
 {
     let day = tag_of(date).ok_or(Refusal::NoDate)?;
-    Ok(antwortsatz::of_kind(werktag::reason(day, cal).number()))
+    let number = werktag::reason(day, cal).map_or(0, Reason::number);
+    Ok(antwortsatz::of_kind(number))
 }
 
 /// The first Werktag on or after a date: 3 April 2026 gives 7 April, the Tuesday after Ostern, and 7 April itself. From

@@ -1,5 +1,5 @@
 // Clock on a date (document 01, refusals 3, 5, 6) and day of an instant (4, 7).
-ghost use Rattle.std.specs.Prelude.{◌≡◌, ok_or, slice_get};
+ghost use Rattle.std.specs.Prelude.{◌≡◌, ◌<◌, length, get_or, ok_or, slice_get};
 ghost use Rattle.antwortsatz.specs.declared.Refusal.TheVariants.{UnknownCode};
 ghost use Rattle.antworten.specs.Reading.{sparten, moment_answer, resolved_answer};
 ghost use Rattle.antworten.specs.Uhrzeit.{berlin_at_answer, berlin_midnight_answer, end_of_day_berlin_answer};
@@ -9,16 +9,28 @@ use antwortsatz::{Answer, Refusal};
 use berlin::{Clock, Moment, Sparte};
 use datum::Date;
 
-/// The Sparte of a code, in the Rust's order of its cases: 0 is Strom, 1 Gas, and any other refusal 2. No
-/// `TryFrom`: both types are of other crates.
-pub fn sparte_of(code: u8) -> Result<Sparte, Refusal>
-    ensures { result ≡ ok_or (slice_get sparten code) UnknownCode }
+/// How many Sparten have a code.
+pub const SPARTEN: u8 = 2;
+
+/// The Sparte of a code, in the Rust's order of its cases: 0 is Strom, 1 Gas. Whoever calls has refused any other.
+pub fn sparte_of(code: u8) -> Sparte
+    requires { code < length sparten }
+    ensures { result ≡ get_or sparten code Sparte.Strom }
 {
     match code {
-        0 => Ok(Sparte::Strom),
-        1 => Ok(Sparte::Gas),
-        _ => Err(Refusal::UnknownCode),
+        0 => Sparte::Strom,
+        _ => Sparte::Gas,
     }
+}
+
+/// The Sparte of any code, and refusal 2 where it is none: that of 2. No `TryFrom`: both types are of other crates.
+pub fn read_sparte(code: u8) -> Result<Sparte, Refusal>
+    ensures { result ≡ ok_or (slice_get sparten code) UnknownCode }
+{
+    if SPARTEN <= code {
+        return Err(Refusal::UnknownCode);
+    }
+    Ok(sparte_of(code))
 }
 
 /// The seconds and nanoseconds of an instant.
@@ -72,7 +84,7 @@ pub fn end_of_day_berlin_answer(date: Date) -> Result<Answer, Refusal>
 pub fn tagesbeginn_utc_answer(date: Date, code: u8) -> Result<Answer, Refusal>
     ensures { result ≡ tagesbeginn_utc_answer date code }
 {
-    let sparte = sparte_of(code)?;
+    let sparte = read_sparte(code)?;
     let day = datum::index_of(date).ok_or(Refusal::NoDate)?;
     Ok(moment_answer(berlin::tagesbeginn_utc(day, sparte)))
 }
@@ -92,7 +104,7 @@ pub fn berlin_date_answer(instant: Option<Moment>) -> Result<Answer, Refusal>
 pub fn tag_des_beginns_answer(instant: Option<Moment>, code: u8) -> Result<Answer, Refusal>
     ensures { result ≡ tag_des_beginns_answer instant code }
 {
-    let sparte = sparte_of(code)?;
+    let sparte = read_sparte(code)?;
     let at = instant.ok_or(Refusal::InstantOutside)?;
     let day = berlin::tag_des_beginns(at, sparte).ok_or(Refusal::NoBeginning)?;
     Ok(antwortsatz::dated(datum::date_of(day)))

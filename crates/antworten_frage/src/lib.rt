@@ -61,7 +61,8 @@ pub fn question_answer(q: Question, cal: HolidayCalendar) -> Result<Answer, Refu
 }
 
 /// Answers a file: "One answer of 32 bytes goes out per question, in the questions' order, refusals included." Returns
-/// 0, or 9 for lengths that no file has, and then leaves the answers as they were.
+/// 0, or 9 for lengths that no file has, and then leaves the answers as they were. A number and no `Result`: that is
+/// what the C interface returns, and a question's refusal stands in its answer.
 pub fn questions_reply(questions: &[u8], answers: &mut [u8], cal: HolidayCalendar) -> u8
     ensures { (result, answers.new) ≡ questions_reply (is_werktag cal) questions.now answers.old }
 {

@@ -20,7 +20,8 @@ use berlin::{Clock, Moment};
 use fristen::{ContrlAnlass, FristShape, GasProzess, NoDue};
 use werktag::HolidayCalendar;
 
-// The occasion of a code, in the Rust's order of its cases.
+// The occasion of a code, in the Rust's order of its cases. No `TryFrom`: the codes are the C interface's, and the
+// enum's crate knows none.
 fn anlass_of(code: u8) -> Result<ContrlAnlass, Refusal>
     ensures { result ≡ ok_or (slice_get anlaesse code) UnknownCode }
 {
@@ -55,7 +56,7 @@ fn prozess_kind(prozess: GasProzess) -> u8
 }
 
 // The shape of a code, its count and clock, in the Rust's order of its cases; no shape where it uses the clock and that
-// is none. A count or clock that the shape does not use is not looked at.
+// is none. A count or clock that the shape does not use is not looked at. No `TryFrom`, as for the occasion.
 fn shape_of(code: u8, werktage: u32, clock: Option<Clock>) -> Result<Option<FristShape>, Refusal>
     ensures { result ≡ ok_or (slice_get (frist_shapes werktage clock) code) UnknownCode }
 {

@@ -10,7 +10,8 @@ use antwortsatz::{ANSWER_BYTES, Refusal};
 use werktag::HolidayCalendar;
 
 /// Counts the Werktage of each pair into the third list, and writes the answer. Returns 0; 1 for an answer of another
-/// length, and then touches nothing; 10 for lists that are no portfolio, and then leaves the third list as it was.
+/// length, and then touches nothing; 10 for lists that are no portfolio, and then leaves the third list as it was. A
+/// number and no `Result`: that is what the C interface returns.
 ///
 /// Of the days 20,545 (2 April 2026) and 20,549 with 20,550 each the counts are 1 and 1, and the answer has count 1.
 #[tactic(auto, using(crate::proofs::Rules::portfolio_reply_rules))]
@@ -25,6 +26,7 @@ pub fn portfolio_reply(
         ≡ portfolio_reply (is_werktag cal) from.now to.now counts.old
         answer.old }
 {
+    // Before the lists, and not by the writer alone: the third is not touched then.
     if answer.len() != ANSWER_BYTES {
         return Refusal::AnswerLength.number();
     }

@@ -12,7 +12,7 @@ use Rattle.datum.proofs.Dates.{date_index, valid_is}
 use Rattle.antwortsatz.specs.declared.Answer.{Answer}
 use Rattle.antwortsatz.specs.declared.Refusal.{Refusal}
 use Rattle.antwortsatz.specs.declared.Refusal.TheVariants.{NoDate, LeavesCalendar}
-use Rattle.antwortsatz.specs.Answers.{zero_date, spanned}
+use Rattle.antwortsatz.specs.Answers.{spanned}
 use Rattle.antworten.specs.Reading.{on_date}
 use Rattle.vorlauf.specs.Span.{span_from}
 use Rattle.antworten_vorlauf.specs.VorlaufReading.{span_answer}
@@ -28,10 +28,9 @@ module _ (d : Date) (n : ℕ) (b : Bool) (e : b ≡ is_date d) where
 
   module _ (g : b ≡ true) (s : Option Date) (p : to_step s ≡ M n (days_before d)) where
     pub month_first :
-        (f z : Date) (r : Answer) → InsideShift s → s ≡ Some f → z ≡ zero_date → r ≡ spanned 0 f z →
-        Ok r ≡ month_span d n
+        (f : Date) (r : Answer) → InsideShift s → s ≡ Some f → r ≡ spanned 0 f None → Ok r ≡ month_span d n
     unfolding index_of
-    month_first f z r h q u v = rw (sym e ∙ g, ← p, q, date_index f (valid_is f (rw q at h)), v, u)
+    month_first f r h q v = rw (sym e ∙ g, ← p, q, date_index f (valid_is f (rw q at h)), v)
 
     pub month_gone : s ≡ None → Err LeavesCalendar ≡ month_span d n
     unfolding index_of

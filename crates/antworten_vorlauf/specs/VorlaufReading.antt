@@ -11,7 +11,7 @@
 -- Source: document 01, 'Host calls and their refusals': 'Codes count from 0 in the Rust's order of its cases; an EEG
 -- mark is 0 no, 1 yes, 2 unknown'.
 -- Assumes nothing.
-use Rattle.std.specs.Prelude.{ℕ, List, [], ◌∷◌, Option, Result, Ok, Err}
+use Rattle.std.specs.Prelude.{ℕ, List, [], ◌∷◌, Option, Some, None, Result, Ok, Err}
 use Rattle.datum.specs.Calendar.{date_of}
 use Rattle.vorlauf.specs.declared.VorlaufShape.{VorlaufShape}
 use Rattle.vorlauf.specs.declared.VorlaufShape.TheVariants.{LatestWerktageBefore, WindowWerktageBefore}
@@ -36,7 +36,7 @@ use Rattle.antwortsatz.specs.declared.Answer.{Answer}
 use Rattle.antwortsatz.specs.declared.Refusal.{Refusal}
 use Rattle.antwortsatz.specs.declared.Refusal.TheVariants.{LeavesCalendar}
 use Rattle.antworten.specs.Reading.{on_read}
-use Rattle.antwortsatz.specs.Answers.{zero_date, of_kind, judged, spanned}
+use Rattle.antwortsatz.specs.Answers.{of_kind, judged, spanned}
 
 abbrev pub vorlauf_shapes : ℕ → ℕ → List VorlaufShape
 vorlauf_shapes n m =
@@ -55,9 +55,9 @@ eeg_marks = Nein ∷ Ja ∷ Unbekannt ∷ []
 
 -- 'Kind 0 Ok, 1 TooLate, 2 TooEarly'; 'A verdict has its Werktage in the count and its earliest date in the date'
 abbrev pub judged_answer : VorlaufVerdict → Answer
-judged_answer InTime = judged 0 0 zero_date
-judged_answer (TooLate b y) = judged 1 b (date_of y)
-judged_answer (TooEarly b) = judged 2 b zero_date
+judged_answer InTime = judged 0 0 None
+judged_answer (TooLate b y) = judged 1 b (Some (date_of y))
+judged_answer (TooEarly b) = judged 2 b None
 
 -- '8, a date that the Rust computes for this call leaves the calendar'
 abbrev pub verdict_answer : Option VorlaufVerdict → Result Answer Refusal
@@ -71,8 +71,8 @@ abmeldung_answer (Err Outside) = Err LeavesCalendar
 
 -- 'Kind 0 no last day, 1 both, 2 empty with both dates zero'
 abbrev pub ends_answer : Span → Answer
-ends_answer (From f) = spanned 0 (date_of f) zero_date
-ends_answer (Both f l) = spanned 1 (date_of f) (date_of l)
+ends_answer (From f) = spanned 0 (date_of f) None
+ends_answer (Both f l) = spanned 1 (date_of f) (Some (date_of l))
 ends_answer Empty = of_kind 2
 
 -- '8, an end leaves the calendar'

@@ -24,7 +24,9 @@ use vorlauf::abmeldung::{AbmeldungVorlauf, Eeg, NoVerdict};
 use vorlauf::{Span, VorlaufShape, VorlaufVerdict};
 use werktag::HolidayCalendar;
 
-// The shape of a code and its counts, in the Rust's order of its cases.
+// The shape of a code and its counts, in the Rust's order of its cases. No `TryFrom`: the codes are the C interface's,
+// and the enum's crate knows none. The three numbers stand as in the call: a struct of them would be taken apart here
+// alone.
 fn shape_of(code: u8, count: u32, count2: u32) -> Result<VorlaufShape, Refusal>
     ensures { result ≡ ok_or (slice_get (vorlauf_shapes count count2) code) UnknownCode }
 {
@@ -47,7 +49,7 @@ fn shape_of(code: u8, count: u32, count2: u32) -> Result<VorlaufShape, Refusal>
     }
 }
 
-// The EEG mark of a code: "0 no, 1 yes, 2 unknown".
+// The EEG mark of a code: "0 no, 1 yes, 2 unknown". No `TryFrom`, as for the shape.
 fn eeg_of(code: u8) -> Result<Eeg, Refusal>
     ensures { result ≡ ok_or (slice_get eeg_marks code) UnknownCode }
 {
@@ -64,14 +66,12 @@ fn judged_answer(verdict: VorlaufVerdict) -> Answer
     ensures { result ≡ judged_answer verdict }
 {
     match verdict {
-        VorlaufVerdict::Ok => antwortsatz::judged(0, 0, antwortsatz::zero_date()),
+        VorlaufVerdict::Ok => antwortsatz::judged(0, 0, None),
         VorlaufVerdict::TooLate {
             shortfall_wt,
             earliest_possible,
-        } => antwortsatz::judged(1, shortfall_wt, earliest_possible.date),
-        VorlaufVerdict::TooEarly { excess_wt } => {
-            antwortsatz::judged(2, excess_wt, antwortsatz::zero_date())
-        }
+        } => antwortsatz::judged(1, shortfall_wt, Some(earliest_possible.date)),
+        VorlaufVerdict::TooEarly { excess_wt } => antwortsatz::judged(2, excess_wt, None),
     }
 }
 
@@ -99,8 +99,8 @@ fn ends_answer(span: Span) -> Answer
     ensures { result ≡ ends_answer span }
 {
     match span {
-        Span::From(first) => antwortsatz::spanned(0, first.date, antwortsatz::zero_date()),
-        Span::Both(first, last) => antwortsatz::spanned(1, first.date, last.date),
+        Span::From(first) => antwortsatz::spanned(0, first.date, None),
+        Span::Both(first, last) => antwortsatz::spanned(1, first.date, Some(last.date)),
         Span::Empty => antwortsatz::of_kind(2),
     }
 }
@@ -182,7 +182,7 @@ pub fn vorlauf_check_at_answer(
     ensures { result ≡ vorlauf_check_at_answer (is_werktag cal) code count count2 sparte instant beginning }
 {
     let shape = shape_of(code, count, count2)?;
-    let anchor_by = antworten::uhrzeit::sparte_of(sparte)?;
+    let anchor_by = antworten::uhrzeit::read_sparte(sparte)?;
     check_at_instants(shape, anchor_by, instant, beginning, cal)
 }
 
@@ -194,7 +194,7 @@ fn month_span_answer(date: Date, n: u32) -> Result<Answer, Refusal>
         return Err(Refusal::NoDate);
     }
     match datum::monate::months_or_first_date(date, n) {
-        Some(first) => Ok(antwortsatz::spanned(0, first, antwortsatz::zero_date())),
+        Some(first) => Ok(antwortsatz::spanned(0, first, None)),
         None => Err(Refusal::LeavesCalendar),
     }
 }

@@ -1,7 +1,7 @@
 -- What the proofs cite: each rule's premises have the form in which a proof has them, so that `search` finds the rule.
 --   reply_other   a slice of another length than 32 is left as it was
 --   reply_whole   what a slice of 32 bytes gets
---   reply_done    for `reply`: all 32 bytes are written, and the first is returned
+--   reply_done    for `reply_with`: all 32 bytes are written, and the first is returned
 -- Assumes nothing.
 use Prim.Native.Nat.{ℕ}
 use mathlib.Core.Path.{◌≡◌, refl}

@@ -7,8 +7,7 @@ ghost use Rattle.antwortsatz.specs.declared.Answer.{Answer};
 ghost use Rattle.antwortsatz.specs.declared.Refusal.{Refusal};
 ghost use Rattle.antwortsatz.specs.Refusals.{number};
 ghost use Rattle.antwortsatz.specs.Bytes.{bytes_of, reply};
-ghost use Rattle.antwortsatz.specs.Answers.{zero_date, date_word, filled, of_kind, counted, dated};
-ghost use Rattle.antwortsatz.specs.Answers.{at_instant, judged, spanned};
+ghost use Rattle.antwortsatz.specs.Answers.{date_word, filled, of_kind, counted, dated, at_instant, judged, spanned};
 
 use datum::Date;
 
@@ -49,10 +48,10 @@ impl Refusal {
 /// The answer's length in bytes.
 pub const ANSWER_BYTES: usize = 32;
 
-/// The fields of an answer, in the order of their bytes. A field that a call does not use is 0. Bytes 20 to 31 are
-/// three words, named by their first byte: a date is one, and a number, a signed one's bits or an instant have room
-/// there too.
-#[derive(Clone, Copy)]
+/// The fields of an answer, in the order of their bytes. A field that a call does not use is 0, as all are by default.
+/// Bytes 20 to 31 are three words, named by their first byte: a date is one, and a number, a signed one's bits or an
+/// instant have room there too.
+#[derive(Clone, Copy, Default)]
 pub struct Answer {
     pub kind: u8,
     pub count: u32,
@@ -63,8 +62,8 @@ pub struct Answer {
     pub word28: u32,
 }
 
-/// An answer of all its fields, in the order of their bytes: what every named answer is made by. "Unused fields are
-/// zero": the day test of 3 April 2026, Karfreitag, is `filled(17, 0, 0, 0, 0, 0, 0)`.
+/// An answer of all its fields, in the order of their bytes, for who has every one: the named answers below fill the
+/// fields that they have by name. The day test of 3 April 2026, Karfreitag, is `filled(17, 0, 0, 0, 0, 0, 0)`.
 pub fn filled(
     kind: u8,
     count: u32,
@@ -87,18 +86,6 @@ pub fn filled(
     }
 }
 
-/// The date of a field that is not used, as the last of a span that has none: that of `LatestWerktageBefore(1)` for
-/// 10 January 2026.
-pub fn zero_date() -> Date
-    ensures { result ≡ zero_date }
-{
-    Date {
-        year: 0,
-        month: 0,
-        day: 0,
-    }
-}
-
 /// A date as a word: "year 2 bytes, month, day", from the lowest byte up. 7 April 2026 is 0x070407ea: bytes ea 07 04
 /// 07.
 pub fn date_word(date: Date) -> u32
@@ -114,7 +101,10 @@ pub fn date_word(date: Date) -> u32
 pub fn of_kind(kind: u8) -> Answer
     ensures { result ≡ of_kind kind }
 {
-    filled(kind, 0, 0, 0, 0, 0, 0)
+    Answer {
+        kind,
+        ..Answer::default()
+    }
 }
 
 /// A count, and the days that were tested for it: "a count [fills] the count", "how many days it tested, in bytes 24 to
@@ -123,7 +113,11 @@ pub fn of_kind(kind: u8) -> Answer
 pub fn counted(count: u32, tested: u32) -> Answer
     ensures { result ≡ counted count tested }
 {
-    filled(0, count, 0, 0, 0, tested, 0)
+    Answer {
+        count,
+        word24: tested,
+        ..Answer::default()
+    }
 }
 
 /// A date alone: "A step fills the date". 2 April 2026 plus 1 Werktag is `dated` of 7 April.
@@ -131,7 +125,10 @@ pub fn counted(count: u32, tested: u32) -> Answer
 pub fn dated(date: Date) -> Answer
     ensures { result ≡ dated date }
 {
-    filled(0, 0, 0, 0, date_word(date), 0, 0)
+    Answer {
+        word20: date_word(date),
+        ..Answer::default()
+    }
 }
 
 /// An instant beside a kind: a clock on a date, a due instant. "A Gas due instant [has] kind 1 for the initial process,
@@ -140,25 +137,41 @@ pub fn dated(date: Date) -> Answer
 pub fn at_instant(kind: u8, seconds: i64, nanos: u32) -> Answer
     ensures { result ≡ at_instant kind seconds nanos }
 {
-    filled(kind, 0, seconds, nanos, 0, 0, 0)
+    Answer {
+        kind,
+        seconds,
+        nanos,
+        ..Answer::default()
+    }
 }
 
 /// A kind, a count of Werktage and a date: "A verdict has its Werktage in the count and its earliest date in the date."
-/// `LatestWerktageBefore(1)`, 10 January 2026 against the 12th, is `judged(1, 0, ..)` of the 12th.
+/// What a verdict has no date for is zero. `LatestWerktageBefore(1)`, 10 January 2026 against the 12th, is
+/// `judged(1, 0, Some(..))` of the 12th.
 #[tactic(auto, unfolding(crate::specs::Answers::judged))]
-pub fn judged(kind: u8, count: u32, date: Date) -> Answer
+pub fn judged(kind: u8, count: u32, date: Option<Date>) -> Answer
     ensures { result ≡ judged kind count date }
 {
-    filled(kind, count, 0, 0, date_word(date), 0, 0)
+    Answer {
+        kind,
+        count,
+        word20: date.map_or(0, date_word),
+        ..Answer::default()
+    }
 }
 
-/// A kind and two dates: a span, "24 to 27 the span's last date". `LatestWerktageBefore(1)` for 10 January 2026 is
-/// `spanned(0, .., zero_date())` of 13 January: it has no last day.
+/// A kind and two dates: a span, "24 to 27 the span's last date", zero where it has none. `LatestWerktageBefore(1)` for
+/// 10 January 2026 is `spanned(0, .., None)` of 13 January.
 #[tactic(auto, unfolding(crate::specs::Answers::spanned))]
-pub fn spanned(kind: u8, first: Date, last: Date) -> Answer
+pub fn spanned(kind: u8, first: Date, last: Option<Date>) -> Answer
     ensures { result ≡ spanned kind first last }
 {
-    filled(kind, 0, 0, 0, date_word(first), date_word(last), 0)
+    Answer {
+        kind,
+        word20: date_word(first),
+        word24: last.map_or(0, date_word),
+        ..Answer::default()
+    }
 }
 
 /// The 32 bytes of an answer, "little-endian, no header". "A refusal leaves bytes 1 to 31 zero": those of
@@ -183,22 +196,16 @@ pub fn bytes_of(a: Result<Answer, Refusal>) -> [u8; 32]
 }
 
 /// Writes the answer and returns its refusal number, or 0, if the slice has 32 bytes; else returns 1, "which leaves the
-/// slice untouched", as one of 31 bytes. The one writer: no host call fills an answer without it. A number and no
-/// `Result`: that is what a host call returns.
-#[tactic(auto, using(crate::proofs::Rules::reply_rules))]
+/// slice untouched", as one of 31 bytes. A number and no `Result`: that is what a host call returns.
 pub fn reply(answer: &mut [u8], a: Result<Answer, Refusal>) -> u8
     ensures { (result, answer.new) ≡ reply answer.old a }
 {
-    if answer.len() != ANSWER_BYTES {
-        return Refusal::AnswerLength.number();
-    }
-    let bytes = bytes_of(a);
-    answer.copy_from_slice(&bytes);
-    bytes[0]
+    reply_with(answer, || a)
 }
 
 /// Asks for an answer and writes it, as `reply`; where the slice has another length than 32 it does not ask: "which
-/// leaves the slice untouched", and costs no answer.
+/// leaves the slice untouched", and costs no answer. The one writer: no host call fills an answer without it.
+#[tactic(auto, using(crate::proofs::Rules::reply_rules))]
 pub fn reply_with<F: FnOnce() -> Result<Answer, Refusal>>(answer: &mut [u8], ask: F) -> u8
     requires { F.IsAlwaysCallable ask }
     ensures { (a : Result Answer Refusal) → ((r : Result Answer Refusal) → F.post ask r → r ≡ a) →
@@ -207,5 +214,7 @@ pub fn reply_with<F: FnOnce() -> Result<Answer, Refusal>>(answer: &mut [u8], ask
     if answer.len() != ANSWER_BYTES {
         return Refusal::AnswerLength.number();
     }
-    reply(answer, ask())
+    let bytes = bytes_of(ask());
+    answer.copy_from_slice(&bytes);
+    bytes[0]
 }

@@ -106,7 +106,7 @@ const LAST_UTC_DAY: u64 = (CALENDAR_START + LAST) as u64;
 
 const EDGE: u64 = (23 * HOUR) as u64;
 
-/// How far Berlin is ahead of UTC.
+/// How far Berlin is ahead of UTC. Numbers and no enum: they are added to the seconds of a day and taken off them.
 const WINTER: u32 = HOUR;
 
 const SUMMER: u32 = 2 * HOUR;
@@ -165,7 +165,8 @@ pub fn split_instant(s: i64) -> Split
 }
 
 /// Whether an instant, by its UTC day and second, is not after the calendar's last, 31 December 2899 23:00 UTC less a
-/// nanosecond.
+/// nanosecond. Two numbers and no struct: a sum may lie behind the last, and only the test says whether it is an
+/// instant.
 ///
 /// Day 339,675 counts up to second 82,799.
 pub fn is_by_last(utcday: u64, second: u64) -> bool
@@ -176,7 +177,8 @@ pub fn is_by_last(utcday: u64, second: u64) -> bool
 }
 
 /// Whether an instant, by its UTC day and second, has a Berlin day of the calendar: day 9,495 counts from second 82,800
-/// on, 31 December 1995 23:00 UTC.
+/// on, 31 December 1995 23:00 UTC. Two numbers here too: of a host's seconds only this test says whether they are an
+/// instant.
 #[tactic(auto, unfolding(crate::specs::Berlin::in_limits))]
 fn in_limits(utcday: u64, second: u64) -> bool
     requires { second < day_seconds }

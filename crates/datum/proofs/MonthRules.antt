@@ -20,29 +20,22 @@ use Rattle.datum.proofs.Dates.{len_ge}
 use Rattle.datum.proofs.Signed.{back, clash, pos_fits, neg_fits, back_pos, sub_fits}
 use Rattle.std.specs.Prelude.{Option, Some, None}
 
--- in_month: n is what `days_in_month` returned
-module _ (y m x : ℕ) (l : Bool) (n : ℕ) (a : 1996 ≤ y) (b : y ≤ 2899) (g : l ≡ is_leap y)
-    (e : n ≡ days_in_month l m) where
-  pub cut : n < x → ◌≡◌ {A = Option Date} (Some (record { year = y; month = m; day = n })) (in_month y m x)
-  unfolding in_month
-  cut h =
-      let q : n ≡ min x (days_in_month (is_leap y) m) =
-      (let k : n ≡ days_in_month (is_leap y) m = rw g at e in omega arith) in rw (le-leb 1996 y a, le-leb y 2899 b, q)
-
-  pub kept : x ≤ n → ◌≡◌ {A = Option Date} (Some (record { year = y; month = m; day = x })) (in_month y m x)
-  unfolding in_month
-  kept h =
-      let q : min x (days_in_month (is_leap y) m) ≡ x =
-      (let k : n ≡ days_in_month (is_leap y) m = rw g at e in omega arith) in rw (le-leb 1996 y a, le-leb y 2899 b, q)
+-- in_month: n is what `days_in_month` returned, r the smaller of it and the day
+pub cut :
+    (y m x n r : ℕ) (l : Bool) → 1996 ≤ y → y ≤ 2899 → l ≡ is_leap y → n ≡ days_in_month l m → r ≡ min x n →
+    ◌≡◌ {A = Option Date} (Some (record { year = y; month = m; day = r })) (in_month y m x)
+unfolding in_month
+cut y m x n r l a b g e q = rw (le-leb 1996 y a, le-leb y 2899 b, q, rw g at e)
 
 -- a day that every month has
 pub kept_in_all :
     (y m x : ℕ) → 1996 ≤ y → y ≤ 2899 → 1 ≤ m → m ≤ 12 → x ≤ 28 →
     ◌≡◌ {A = Option Date} (Some (record { year = y; month = m; day = x })) (in_month y m x)
 kept_in_all y m x a b c e h =
-    kept y m x (is_leap y) (days_in_month (is_leap y) m) a b refl refl (omega (arith, len_ge (is_leap y) m c e))
+    let n = days_in_month (is_leap y) m in
+    cut y m x n x (is_leap y) a b refl refl (omega (arith, len_ge (is_leap y) m c e))
 
-pub ruleset in_month_rules = (cut, kept, kept_in_all)
+pub ruleset in_month_rules = (cut, kept_in_all)
 
 pub record InRange (t y m : ℤ) : Type 0 where
   pub months : ℕ

@@ -10,7 +10,7 @@ use lib.Dec.{eqb, leb}
 use lib.ListN.{get_or-eq_default}
 use mir.Syntax.{w8, w32}
 use mir.Val.{Fits}
-use borrow.Author.Tests.{eqb-true, leb-true, ne_eqb, le-leb, lt-leb}
+use borrow.Author.Tests.{eqb-true, leb-true, ne_eqb, le-leb}
 use Rattle.zaehlung.specs.Walk.{bit, last}
 use Rattle.zaehlung.specs.Blocks.{start, at}
 use Rattle.zaehlung.proofs.BlockLaws.{at_sum, at_below}
@@ -333,64 +333,20 @@ module _ (d : Date) (v : is_date d ≡ true) where
 
 pub ruleset days_rules = (year_by, year_few, month_from_1, month_by_13, day_some, days_are, days_few)
 
--- is_date
-module _ (d : Date) where
-  pub too_early : d.year < 1996 → false ≡ is_date d
-  unfolding is_date
-  too_early a = rw (lt-leb 1996 d.year a)
-
-  pub too_late : 1996 ≤ d.year → 2899 < d.year → false ≡ is_date d
-  unfolding is_date
-  too_late a b = rw (le-leb 1996 d.year a, lt-leb d.year 2899 b)
-
-  module _ (a : 1996 ≤ d.year) (b : d.year ≤ 2899) where
-    pub no_month : d.month < 1 → false ≡ is_date d
-    unfolding is_date
-    no_month c = rw (le-leb 1996 d.year a, le-leb d.year 2899 b, lt-leb 1 d.month c)
-
-    pub month_over : 1 ≤ d.month → 12 < d.month → false ≡ is_date d
-    unfolding is_date
-    month_over c e =
-        rw (le-leb 1996 d.year a, le-leb d.year 2899 b, le-leb 1 d.month c, lt-leb d.month 12 e)
-
-    module _ (c : 1 ≤ d.month) (e : d.month ≤ 12) where
-      pub no_day_lem : d.day < 1 → false ≡ is_date d
-      unfolding is_date
-      no_day_lem f = rw (
-        le-leb 1996 d.year a,
-        le-leb d.year 2899 b,
-        le-leb 1 d.month c,
-        le-leb d.month 12 e,
-        lt-leb 1 d.day f,
-      )
-
-      pub in_every_month : 1 ≤ d.day → d.day ≤ 28 → true ≡ is_date d
-      in_every_month f h =
-          sym (is_valid d (record {
-            from = a;
-            to = b;
-            month_from = c;
-            month_to = e;
-            day_from = f;
-            day_to = omega (arith, len_ge (is_leap d.year) d.month c e);
-          }))
-
-      -- l and n are what `is_leap` and `days_in_month` returned
-      pub by_length :
-          (l : Bool) (n : ℕ) → 1 ≤ d.day → l ≡ is_leap d.year → n ≡ days_in_month l d.month →
-          leb d.day n ≡ is_date d
-      unfolding is_date
-      by_length l n f g h = rw (
-        le-leb 1996 d.year a,
-        le-leb d.year 2899 b,
-        le-leb 1 d.month c,
-        le-leb d.month 12 e,
-        le-leb 1 d.day f,
-        ← g,
-        h,
-      )
-
-pub ruleset valid_rules = (too_early, too_late, no_month, month_over, no_day_lem, in_every_month, by_length)
+-- is_date: a day that every month has
+pub in_every_month :
+    (d : Date) → 1996 ≤ d.year → d.year ≤ 2899 → 1 ≤ d.month → d.month ≤ 12 → 1 ≤ d.day → d.day ≤ 28 →
+    leb d.day 28 ≡ is_date d
+in_every_month d a b c e f h =
+    le-leb d.day 28 h
+    ∙ sym (is_valid d (record {
+      from = a;
+      to = b;
+      month_from = c;
+      month_to = e;
+      day_from = f;
+      day_to = omega (arith, len_ge (is_leap d.year) d.month c e);
+    }))
 
 -- index_of: b is what `is_date` returned, r what `days_before` did
 module _ (d : Date) (b : Bool) (g : b ≡ is_date d) where

@@ -6,7 +6,6 @@
 --   sub_pos     a difference of naturals that is not negative; sub_neg one that is
 --   sub_fits    a difference of naturals that fit, fits
 --   below       -(k) - 1 is the number below -k
---   same_bits   two locals with the same bits hold the same number
 -- Assumes nothing.
 use Prim.Native.Nat.{ℕ, zero, suc, ◌-◌, ◌^◌, ◌≤◌, ◌<◌}
 use mathlib.Core.Bool.{Bool, true, false}
@@ -54,6 +53,3 @@ sub_fits a n h g =
       | yes l ↦ rw (sub_pos a n l) (pos_fits (a - n) (omega arith))
       | no l ↦ rw (sub_neg a n (omega arith)) (neg_fits (n - suc a) (omega arith))
     ]
-
-pub same_bits : (a b : ℤ) → SFits w64 a → SFits w64 b → of_z w64 a ≡ of_z w64 b → a ≡ b
-same_bits a b f g e = sym (to_z-of_z f) ∙ ap (to_z w64) e ∙ to_z-of_z g

@@ -2,7 +2,6 @@
 -- that stands beside it, and no other date has that index.
 --   tag_date       what is known of a day taken apart
 --   tag_is         a date of the range beside its index
---   tag_index tag_again tag_within  what a function gave for the day with an index, by its own
 --   year_rules     its year, and the year's first day
 --   near_rules     `date_near`
 --   later_rules, earlier_rules  the returns of the functions of days later and earlier: in the month, past its end or
@@ -121,9 +120,6 @@ enough_days n m s d x g h i o = omega (arith, len_ge x (m - 1) (omega arith) (om
 -- a date with the index j
 pub tag_of_rule : (d : Date) (j : ℕ) → index_of d ≡ Some j → (d ≡ date_of j) × (j ≤ last)
 tag_of_rule d j e = let v = has_index d j e in tag_is d j v.0 v.1
-
-pub tag_at_rule : (d : Date) (j : ℕ) → d ≡ date_of j → j ≤ last → (d ≡ date_of j) × (j ≤ last)
-tag_at_rule d j e h = (e, h)
 
 -- d is the date of the day i
 module _ (i n : ℕ) (d : Date) (e : d ≡ date_of i) (g : n ≤ 28) where

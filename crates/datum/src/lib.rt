@@ -3,7 +3,7 @@
 // Document 01, lib.rs (calendar). Inside, a day is its index; a date stands at the edge.
 #![tactic(auto)]
 
-ghost use Rattle.std.specs.Prelude.{true, ◌≡◌, ◌+◌, ◌-◌, ◌*◌, ◌/◌, ◌≤◌, ◌<◌, pos};
+ghost use Rattle.std.specs.Prelude.{true, Some, ◌≡◌, ◌+◌, ◌-◌, ◌*◌, ◌/◌, ◌≤◌, ◌<◌, pos};
 ghost use Rattle.zaehlung.specs.Walk.{last, bit};
 ghost use Rattle.datum.specs.Calendar.{is_leap, year_start, year_of, days_in_month, month_start, month_of};
 ghost use Rattle.datum.specs.Calendar.{first_year, last_year, is_date, days_before, index_of, date_of, weekday};
@@ -42,10 +42,10 @@ const DECEMBER_DAYS: u8 = 31;
 const LEAP_FEBRUARY: u8 = SHORTEST_MONTH + 1;
 
 /// The days of a week; Monday is 0.
-const WEEK: u32 = 7;
+pub const WEEK: u32 = 7;
 
 /// A date by value. Any three numbers may stand in it; `index_of` says which are a date of the range.
-#[derive(Clone, Copy)]
+#[derive(Clone, Copy, PartialEq, Eq)]
 pub struct Date {
     pub year: u16,
     pub month: u8,
@@ -120,7 +120,8 @@ pub fn year_start(k: u32) -> u32
     365 * k + (y / 4 + y / 400 - y / 100) - LEAP_DAYS_BEFORE
 }
 
-/// A year, counted from 1996, and a day of it, counted from 0.
+/// A year, counted from 1996, and a day of it, counted from 0. Both are numbers: they are added and compared, and types
+/// of them would be taken apart at each use.
 #[derive(Clone, Copy)]
 pub struct YearDay {
     pub year: u32,
@@ -135,6 +136,7 @@ pub fn year_of(index: u32) -> YearDay
     ensures { (result.year ≡ (year_of index).0) × (result.day ≡ (year_of index).1) × (result.year ≤ 903) }
 {
     let mut k = index * 400 / 146097;
+    // No iterator: each loop takes a step where the guess is wrong, and mostly none.
     while index < year_start(k) {
         k -= 1;
     }
@@ -181,6 +183,7 @@ pub fn days_before(date: Date) -> u32
     requires { is_date date ≡ true }
     ensures { (result ≡ days_before date) × (result ≤ last) }
 {
+    // Asked, and no type made of it: most callers write the date down, and would prove the same there.
     let k = (date.year - FIRST_YEAR) as u32;
     let leap = is_leap(date.year);
     let month = date.month as u32;
@@ -193,31 +196,15 @@ pub fn days_before(date: Date) -> u32
 /// Any numbers may be asked, 0 and 255 too.
 ///
 /// 29 February 2024 is one, 29 February 2026 and 1 January 2900 are none.
+#[tactic(auto, using(crate::proofs::Rules::in_every_month), unfolding(crate::specs::Calendar::is_date))]
 pub fn is_date(date: Date) -> bool
     ensures { result ≡ is_date date }
 {
-    let year = date.year;
-    let month = date.month;
-    let day = date.day;
-    if year < FIRST_YEAR {
-        return false;
-    }
-    if LAST_YEAR < year {
-        return false;
-    }
-    if month < 1 {
-        return false;
-    }
-    if MONTHS < month {
-        return false;
-    }
-    if day < 1 {
-        return false;
-    }
-    if day <= SHORTEST_MONTH {
-        return true;
-    }
-    day <= days_in_month(is_leap(year), month)
+    let Date { year, month, day } = date;
+    (FIRST_YEAR..=LAST_YEAR).contains(&year)
+        && (1..=MONTHS).contains(&month)
+        && 1 <= day
+        && (day <= SHORTEST_MONTH || day <= days_in_month(is_leap(year), month))
 }
 
 /// The index of a date, counted from 1 January 1996.
@@ -251,7 +238,8 @@ fn date_parts(index: u32) -> Date
     }
 }
 
-/// A date as one number, which a call returns in a register; three parts would go through memory.
+/// A date as one number, which a call returns in a register; three parts would go through memory. By arithmetic, as its
+/// definition is: through bytes it would be as long. The word of a date in an answer is alike by chance.
 fn date_number(index: u32) -> u32
     requires { index ≤ last }
     ensures { result ≡ number_of (date_of index) }
@@ -287,6 +275,7 @@ pub fn date_of(index: u32) -> Date
 pub fn weekday(index: u32) -> u32
     ensures { result ≡ weekday index }
 {
+    // A number and no enum: days are added to it.
     index % WEEK
 }
 
@@ -309,22 +298,20 @@ fn split_months(t: i64) -> YearMonth
 }
 
 /// The day in a month of the calendar; one that the month lacks becomes its last.
-fn in_month(year: u16, month: u8, day: u8) -> Option<Date>
+#[tactic(auto, using(crate::proofs::MonthRules::in_month_rules))]
+fn in_month(year: u16, month: u8, day: u8) -> Date
     requires { (first_year ≤ year) × (year ≤ last_year) × (1 ≤ month) × (month ≤ 12) }
-    ensures { result ≡ in_month year month day }
+    ensures { Some result ≡ in_month year month day }
 {
     if day <= SHORTEST_MONTH {
-        return Some(Date { year, month, day });
+        return Date { year, month, day };
     }
     let longest = days_in_month(is_leap(year), month);
-    if longest < day {
-        return Some(Date {
-            year,
-            month,
-            day: longest,
-        });
+    Date {
+        year,
+        month,
+        day: day.min(longest),
     }
-    Some(Date { year, month, day })
 }
 
 /// The day in the month numbered t from January of year 0.
@@ -340,7 +327,7 @@ fn on_month(t: i64, day: u8) -> Option<Date>
     if LAST_YEAR_64 < year {
         return None;
     }
-    in_month(year as u16, (month + 1) as u8, day)
+    Some(in_month(year as u16, (month + 1) as u8, day))
 }
 
 /// The number of a date's month, counted from January of year 0.

@@ -1,4 +1,5 @@
-// Months before and after a day, BGB §188, and M(n, d) of document 01.
+// Months before and after a day, BGB §188, and M(n, d) of document 01. Before and after are a line each, under the
+// names of the original's.
 ghost use Rattle.std.specs.Prelude.{true, ◌≡◌};
 ghost use Rattle.datum.specs.Calendar.{is_date, days_before};
 ghost use Rattle.datum.specs.Inside.{InsideShift};

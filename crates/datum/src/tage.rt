@@ -7,14 +7,16 @@ use super::{Date, YearDay};
 use std::marker::Model;
 
 /// The days that every month has: so many are counted on into the next month, or back into the one before, and no
-/// further.
+/// further. A number of days has its bound in the contract and no type for it: each caller has a bound of its own.
 const NEAR: u32 = super::SHORTEST_MONTH as u32;
 
 /// A day of the calendar, taken apart: its index beside its date. A clause sees the index alone, which says which day
-/// it is; that the date is that day's is true of every `Tag`.
+/// it is; that the date is that day's is true of every `Tag`. Days are compared by their index alone.
 #[derive(Clone, Copy)]
+#[derive_where(PartialEq, Eq, PartialOrd, Ord)]
 pub struct Tag {
     pub index: u32,
+    #[derive_where(skip(EqHashOrd))]
     pub date: Date,
 }
 

@@ -26,11 +26,11 @@ use Rattle.fristen.specs.Fristen.{contrl_due_at, nth_werktag_at}
 use Rattle.fristen.specs.FristShape.{same_day_at, due_at_of}
 use Rattle.vorlauf.specs.Verdict.{closes, reaches, check_of, fruehester_termin_nach_tag_vor_dem_letzten_werktag}
 use Rattle.vorlauf.specs.Span.{span_of}
-use Rattle.std.specs.Prelude.{Result, Ok, Err}
+use Rattle.std.specs.Prelude.{Some, None, Result, Ok, Err}
 use Rattle.antwortsatz.specs.declared.Answer.{Answer}
 use Rattle.antwortsatz.specs.declared.Refusal.{Refusal}
 use Rattle.antwortsatz.specs.declared.Refusal.TheVariants.{LocalTimeAbsent}
-use Rattle.antwortsatz.specs.Answers.{zero_date, of_kind, dated, at_instant, judged, spanned}
+use Rattle.antwortsatz.specs.Answers.{of_kind, dated, at_instant, judged, spanned}
 use Rattle.antworten.specs.Kalender.{is_werktag_answer, add_werktage_answer}
 use Rattle.antworten.specs.Uhrzeit.{berlin_at_answer, tagesbeginn_utc_answer}
 use Rattle.antworten_frist.specs.Frist.{contrl_due_at_answer, frist_due_at_answer}
@@ -67,12 +67,12 @@ pub cases :
       Ok (of_kind 16)
           ∷ Ok (dated (on 4 7))
           ∷ Ok (dated (on 4 4))
-          ∷ Ok (judged 1 0 (on 1 12))
-          ∷ Ok (spanned 0 (on 1 13) zero_date)
-          ∷ Ok (judged 1 1 (on 1 10))
-          ∷ Ok (judged 0 0 zero_date)
-          ∷ Ok (judged 1 2 (on 2 28))
-          ∷ Ok (spanned 0 (on 3 1) zero_date)
+          ∷ Ok (judged 1 0 (Some (on 1 12)))
+          ∷ Ok (spanned 0 (on 1 13) None)
+          ∷ Ok (judged 1 1 (Some (on 1 10)))
+          ∷ Ok (judged 0 0 None)
+          ∷ Ok (judged 1 2 (Some (on 2 28)))
+          ∷ Ok (spanned 0 (on 3 1) None)
           ∷ Ok (of_kind 2)
           ∷ Ok (at_instant 0 (pos 1774972799) 0)
           ∷ Ok (at_instant 0 (pos 1775080800) 0)

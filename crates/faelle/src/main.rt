@@ -28,7 +28,7 @@ const JANUARY_12: i64 = 1768172400;
 
 const JANUARY_12_12_00: i64 = 1768215600;
 
-// Codes, in the Rust's order of its cases.
+// Codes, in the Rust's order of its cases: numbers, since those are what the C interface takes.
 const LATEST_WERKTAGE_BEFORE: u8 = 0;
 
 const WINDOW_WERKTAGE_BEFORE: u8 = 1;
@@ -51,139 +51,131 @@ fn on(month: u8, day: u8) -> Date {
     }
 }
 
-// Whether a call returns 0 and leaves the bytes of this answer.
-fn gives<F: FnOnce(&mut [u8]) -> u8>(call: F, a: Answer) -> bool
+// Whether a call leaves the bytes of this answer or refusal, and returns their first.
+fn leaves<F: FnOnce(&mut [u8]) -> u8>(call: F, a: Result<Answer, Refusal>) -> bool
     requires { F.IsAlwaysCallable call }
 {
+    let bytes = antwortsatz::bytes_of(a);
     let mut left = [1u8; 32];
-    call(&mut left) == 0 && left == antwortsatz::bytes_of(Ok(a))
-}
-
-// Whether a call returns the number of this refusal and leaves its bytes.
-fn refuses<F: FnOnce(&mut [u8]) -> u8>(call: F, refusal: Refusal) -> bool
-    requires { F.IsAlwaysCallable call }
-{
-    let mut left = [1u8; 32];
-    call(&mut left) == refusal.number() && left == antwortsatz::bytes_of(Err(refusal))
+    call(&mut left) == bytes[0] && left == bytes
 }
 
 // Easter is 5 April.
 fn case_a() -> bool {
-    let easter = datum::date_of(werktag::easter_sunday(2026));
-    easter.month == 4 && easter.day == 5
+    datum::date_of(werktag::easter_sunday(2026)) == on(4, 5)
 }
 
 // 18 November is no Werktag: Buß- und Bettag.
 fn case_b() -> bool {
-    gives(
+    leaves(
         |left| mako_fristen::mf_is_werktag(2026, 11, 18, left),
-        antwortsatz::of_kind(Reason::BussUndBettag.number()),
+        Ok(antwortsatz::of_kind(Reason::BussUndBettag.number())),
     )
 }
 
 // 2 April plus 1 Werktag is 7 April.
 fn case_c() -> bool {
-    gives(
+    leaves(
         |left| mako_fristen::mf_add_werktage(2026, 4, 2, 1, left),
-        antwortsatz::dated(on(4, 7)),
+        Ok(antwortsatz::dated(on(4, 7))),
     )
 }
 
 // 4 April plus 0 is 4 April.
 fn case_d() -> bool {
-    gives(
+    leaves(
         |left| mako_fristen::mf_add_werktage(2026, 4, 4, 0, left),
-        antwortsatz::dated(on(4, 4)),
+        Ok(antwortsatz::dated(on(4, 4))),
     )
 }
 
 // 10 January against 12 January: TooLate, 0, 12 January; span from 13 January.
 fn case_e() -> bool {
     let shape = LATEST_WERKTAGE_BEFORE;
-    gives(
+    leaves(
         |left| mako_fristen::mf_vorlauf_check(shape, 1, 0, 2026, 1, 10, 2026, 1, 12, left),
-        antwortsatz::judged(1, 0, on(1, 12)),
-    ) && gives(
+        Ok(antwortsatz::judged(1, 0, Some(on(1, 12)))),
+    ) && leaves(
         |left| mako_fristen::mf_vorlauf_span(shape, 1, 0, 2026, 1, 10, left),
-        antwortsatz::spanned(0, on(1, 13), antwortsatz::zero_date()),
+        Ok(antwortsatz::spanned(0, on(1, 13), None)),
     )
 }
 
 // 8 January: 9 January TooLate, 1, 10 January; 10 January Ok.
 fn case_f() -> bool {
     let shape = TAG_VOR_DEM_LETZTEN_WERKTAG_VOR;
-    gives(
+    leaves(
         |left| mako_fristen::mf_vorlauf_check(shape, 0, 0, 2026, 1, 8, 2026, 1, 9, left),
-        antwortsatz::judged(1, 1, on(1, 10)),
-    ) && gives(
+        Ok(antwortsatz::judged(1, 1, Some(on(1, 10)))),
+    ) && leaves(
         |left| mako_fristen::mf_vorlauf_check(shape, 0, 0, 2026, 1, 8, 2026, 1, 10, left),
-        antwortsatz::judged(0, 0, antwortsatz::zero_date()),
+        Ok(antwortsatz::judged(0, 0, None)),
     )
 }
 
 // 31 January: 28 February TooLate, 2, 28 February; span from 1 March.
 fn case_g() -> bool {
     let shape = LATEST_MONATE_BEFORE;
-    gives(
+    leaves(
         |left| mako_fristen::mf_vorlauf_check(shape, 1, 0, 2026, 1, 31, 2026, 2, 28, left),
-        antwortsatz::judged(1, 2, on(2, 28)),
-    ) && gives(
+        Ok(antwortsatz::judged(1, 2, Some(on(2, 28)))),
+    ) && leaves(
         |left| mako_fristen::mf_vorlauf_span(shape, 1, 0, 2026, 1, 31, left),
-        antwortsatz::spanned(0, on(3, 1), antwortsatz::zero_date()),
+        Ok(antwortsatz::spanned(0, on(3, 1), None)),
     )
 }
 
 // Window 1 and 1 from 10 January: empty.
 fn case_h() -> bool {
-    gives(
+    leaves(
         |left| mako_fristen::mf_vorlauf_span(WINDOW_WERKTAGE_BEFORE, 1, 1, 2026, 1, 10, left),
-        antwortsatz::of_kind(2),
+        Ok(antwortsatz::of_kind(2)),
     )
 }
 
 // Received 31 March 11:59:59 is due 17:59:59; received 12:00:00, 2 April 00:00.
 fn case_i() -> bool {
-    gives(
+    leaves(
         |left| mako_fristen::mf_contrl_due_at(MARCH_31_11_59_59, 0, REGELFALL, left),
-        antwortsatz::at_instant(0, MARCH_31_17_59_59, 0),
-    ) && gives(
+        Ok(antwortsatz::at_instant(0, MARCH_31_17_59_59, 0)),
+    ) && leaves(
         |left| mako_fristen::mf_contrl_due_at(MARCH_31_12_00, 0, REGELFALL, left),
-        antwortsatz::at_instant(0, APRIL_2, 0),
+        Ok(antwortsatz::at_instant(0, APRIL_2, 0)),
     )
 }
 
 // 29 March 02:30 is absent; 25 October 02:30 is 00:30 UTC.
 fn case_j() -> bool {
-    refuses(
+    leaves(
         |left| mako_fristen::mf_berlin_at(2026, 3, 29, 2, 30, 0, 0, left),
-        Refusal::LocalTimeAbsent,
-    ) && gives(
+        Err(Refusal::LocalTimeAbsent),
+    ) && leaves(
         |left| mako_fristen::mf_berlin_at(2026, 10, 25, 2, 30, 0, 0, left),
-        antwortsatz::at_instant(0, OCTOBER_25_02_30, 0),
+        Ok(antwortsatz::at_instant(0, OCTOBER_25_02_30, 0)),
     )
 }
 
 // Gas day 29 March begins 04:00 UTC.
 fn case_k() -> bool {
-    gives(
+    leaves(
         |left| mako_fristen::mf_tagesbeginn_utc(2026, 3, 29, GAS, left),
-        antwortsatz::at_instant(0, MARCH_29_06_00, 0),
+        Ok(antwortsatz::at_instant(0, MARCH_29_06_00, 0)),
     )
 }
 
 // `SameDayAt` 12:00 received 9 January 12:00: 12 January 12:00.
 fn case_l() -> bool {
-    gives(
+    leaves(
         |left| mako_fristen::mf_frist_due_at(SAME_DAY_AT, 0, 12, 0, 0, 0, JANUARY_9_12_00, 0, left),
-        antwortsatz::at_instant(0, JANUARY_12_12_00, 0),
+        Ok(antwortsatz::at_instant(0, JANUARY_12_12_00, 0)),
     )
 }
 
 // Whether the announcement for 12 January at an instant has an answer of this kind.
 fn is_announced(seconds: i64, nanos: u32, kind: u8) -> bool {
-    gives(
+    leaves(
         |left| mako_fristen::mf_eog_ankuendigung_fristgerecht(seconds, nanos, 2026, 1, 12, left),
-        antwortsatz::of_kind(kind),
+        Ok(antwortsatz::of_kind(kind)),
     )
 }
 

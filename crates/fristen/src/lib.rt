@@ -197,7 +197,7 @@ pub fn aperak_strom_due_at(received: Moment) -> Result<Moment, NoDue>
 }
 
 /// When any other Strom APERAK is due: 'bis zum nächsten Werktag 12 Uhr .. nach Eingang der Übertragungsdatei'. The
-/// receipt day is never that Werktag.
+/// receipt day is never that Werktag. It is `next_werktag_at` at noon, under the original's name.
 ///
 /// Received on Monday, 6 January 2025, a holiday: Tuesday, 7 January 12:00.
 pub fn aperak_strom_allgemein_due_at(
@@ -210,7 +210,8 @@ pub fn aperak_strom_allgemein_due_at(
 }
 
 /// When the Gas APERAK of a follow-up process is due, APERAK AHB 1.1 Kap. 2.3.1: 'bis zum nächsten Werktag 12 Uhr ..
-/// nach Eingang des Geschäftsvorfalls'. The receipt day is never that Werktag.
+/// nach Eingang des Geschäftsvorfalls'. The receipt day is never that Werktag. It is `next_werktag_at` at noon, under
+/// the original's name.
 ///
 /// Received on Friday, 10 January 2025: Monday, 13 January 12:00.
 pub fn aperak_gas_folgeprozess_due_at(
@@ -223,7 +224,8 @@ pub fn aperak_gas_folgeprozess_due_at(
 }
 
 /// When the Gas APERAK of an initial process is due, APERAK AHB 1.1 Kap. 2.3.1: 'spätestens 3 Werktage nach Eingang des
-/// Geschäftsvorfalls', so the whole third Werktag.
+/// Geschäftsvorfalls', so the whole third Werktag. It is `end_of_werktag_after` of 3 Werktage, under the original's
+/// name.
 ///
 /// Received on Monday, 6 January 2025: the end of Thursday, 9 January.
 pub fn aperak_gas_initialprozess_due_at(
@@ -343,7 +345,7 @@ pub fn add_hours(from: Moment, hours: u32) -> Result<Moment, NoDue>
 }
 
 /// The end of the Werktag `werktage` Werktage after `from`: 'Ablauf des n. WT', 'spätester ÜT ist der n. WT nach dem
-/// ÜT'.
+/// ÜT'. It is `end_of_werktag_after`, under the original's name.
 ///
 /// With `werktage = 0`: the end of the receipt day. Monday, 6 January 2025 and 5: the end of Monday, 13 January.
 pub fn deadline_at_werktage(

@@ -1,5 +1,5 @@
 -- What the proofs of the walks cite, with premises in the form in which they stand there.
---   stand_rules     where a walk stands after some days on or back
+--   stand_rules     a step on from the day at which a walk stands
 --   weekday_rules   the days to the next weekday and back to the last
 --   vor_rules, zurueck_rules  the next weekday forward and back, and a walk from there: the days between are weekend
 --   count_rules     a turn and a return of the count from weekday to weekday. x is what it has to give, and the
@@ -11,31 +11,23 @@ use mathlib.Core.Path.{◌≡◌, refl, sym, ap, ◌∙◌}
 use native.Mathlib.Omega.{arith}
 use native.Mathlib.Decide.{dec_lt}
 use borrow.Author.Tests.{eq-eqb, ne_eqb, lt-ltb, le-ltb}
-use mir.Syntax.{w8}
-use mir.Val.{Fits}
 use Rattle.std.specs.Prelude.{None}
 use Rattle.zaehlung.specs.Walk.{last, bit, add, sub, between}
 use Rattle.zaehlung.proofs.Laws.{between_later}
 use Rattle.zaehlung.proofs.Skips.{ShutOn, ShutBack, leap_open, leap_shut, leap_edge, back_open, back_shut, back_edge}
 use Rattle.zaehlung.proofs.Skips.{more_open, more_shut, more_none}
-use Rattle.datum.specs.declared.Date.{Date}
-use Rattle.datum.specs.Calendar.{date_of, weekday}
-use Rattle.datum.proofs.TagRules.{day_of_fits}
+use Rattle.datum.specs.Calendar.{weekday}
 use Rattle.werktag.specs.declared.HolidayCalendar.{HolidayCalendar}
 use Rattle.werktag.specs.Werktag.{is_werktag}
 use Rattle.werktag.proofs.Reasons.{weekend_shut}
-use Rattle.werktag.proofs.Rules.{tag_rules}
+use Rattle.werktag.proofs.Rules.{day_to}
 use Rattle.gang.specs.Stand.{to_weekday, from_weekday}
-
--- a week is less than what is near
-pub week_fits :
-    (j i n : ℕ) (d : Date) → (d ≡ date_of j) × (j ≤ last) → j ≡ i → n ≤ 7 → i + n ≤ last → Fits w8 (d.day + n)
-week_fits j i n d k v g h = day_of_fits j i n d k v (omega arith) h
 
 pub weekend_closed : (cal : HolidayCalendar) (i w : ℕ) → w ≡ weekday i → 4 < w → false ≡ is_werktag cal i
 weekend_closed cal i w p h = sym (weekend_shut cal i (omega arith))
 
-pub ruleset stand_rules = (tag_rules, week_fits)
+-- the day of a month is small enough for a week more
+pub ruleset stand_rules = (day_to)
 
 -- to_weekday, from_weekday
 pub to_next : (w : ℕ) → w < 4 → 1 ≡ to_weekday w
@@ -166,12 +158,5 @@ module _ (cal : HolidayCalendar) (i i' w k : ℕ) (p : w ≡ weekday i) (o : 1 �
         more_shut test x c i b k inv (over i w k p e cal) o (omega arith) (at_day false t)
         ∙ ap (λ (y : ℕ). c + between test y b) (sym q)
 
-pub count_start : (w : ℕ → Bool) (t b : ℕ) → between w t b ≡ 0 + between w t b
-count_start w t b = omega arith
-
 pub count_end : (w : ℕ → Bool) (c d i x : ℕ) → x ≡ c + between w i d → d ≤ i → c ≡ x
 count_end w c d i x inv h = omega (arith, between_later w i d h)
-
--- a day further, and at most one Werktag more
-pub count_more : (c i i' k : ℕ) → c ≤ i → i' ≡ i + k → 1 ≤ k → c + 1 ≤ i'
-count_more c i i' k h q o = omega arith

@@ -65,12 +65,13 @@ impl Stand {
 
 /// The weekday some days later, up to a week.
 ///
-/// A day after Sunday, 6: Monday, 0.
-fn weekday_later(wday: u32, days: u8) -> u32
-    requires { (wday < 7) × (days ≤ 7) }
-    ensures { result ≡ (wday + days) % 7 }
+/// A day after a Sunday: Monday, 0.
+fn weekday_later(day: Kalendertag, days: u8) -> u32
+    requires { days ≤ 7 }
+    ensures { result ≡ weekday (day + days) }
 {
-    let later = wday + (days as u32);
+    // A comparison, here and back: a remainder takes longer, and each step of a walk would wait for it.
+    let later = day.wday + (days as u32);
     if later < WEEK {
         return later;
     }
@@ -79,16 +80,16 @@ fn weekday_later(wday: u32, days: u8) -> u32
 
 /// The weekday some days earlier, up to a week.
 ///
-/// A day before Monday, 0: Sunday, 6.
-fn weekday_earlier(wday: u32, days: u8) -> u32
-    requires { (wday < 7) × (days ≤ 7) }
-    ensures { result ≡ (wday + 7 - days) % 7 }
+/// A day before a Monday: Sunday, 6.
+fn weekday_earlier(day: Kalendertag, days: u8) -> u32
+    requires { (days ≤ 7) × (days ≤ day) }
+    ensures { result ≡ weekday (day - days) }
 {
     let back = days as u32;
-    if wday < back {
-        return wday + WEEK - back;
+    if day.wday < back {
+        return day.wday + WEEK - back;
     }
-    wday - back
+    day.wday - back
 }
 
 /// The days to the next day from Monday to Friday: three from a Friday.
@@ -104,27 +105,33 @@ pub fn to_weekday(wday: u32) -> u8
 }
 
 /// The days back to the last day from Monday to Friday: three from a Monday.
-fn from_weekday(wday: u32) -> u8
-    requires { wday < 7 }
-    ensures { (result ≡ from_weekday wday) × (1 ≤ result) × (result ≤ 3) }
+#[tactic(auto, unfolding(crate::specs::Stand::from_weekday))]
+fn from_weekday(day: Kalendertag) -> u8
+    ensures { (result ≡ from_weekday (weekday day)) × (1 ≤ result) × (result ≤ 3) }
 {
-    if wday == MONDAY {
-        return 3;
+    match day.wday {
+        MONDAY => 3,
+        SUNDAY => 2,
+        _ => 1,
     }
-    if wday == SUNDAY {
-        return 2;
+}
+
+/// A walk stands at a day whose weekday is known: its month's length and its Easter are looked up.
+fn stand_on(tag: Tag, wday: u32) -> Stand
+    requires { wday ≡ weekday tag }
+    ensures { result ≡ tag }
+{
+    Stand {
+        day: Kalendertag::new(tag, wday),
+        length: datum::tage::month_length(tag.date),
     }
-    1
 }
 
 /// A walk begins: the one time that its day's weekday, month and Easter are looked up.
 pub fn stand_at(tag: Tag) -> Stand
     ensures { result ≡ tag }
 {
-    Stand {
-        day: Kalendertag::of(tag),
-        length: datum::tage::month_length(tag.date),
-    }
+    stand_on(tag, datum::weekday(tag.index))
 }
 
 /// Some days on, up to a week: in the month by the parts that are known, past its last day with the next month's length
@@ -133,25 +140,18 @@ pub fn on(stand: Stand, days: u8) -> Stand
     requires { (days ≤ 7) × (stand + days ≤ last) }
     ensures { result ≡ stand + days }
 {
-    let length = stand.length;
     let day = stand.day;
     let tag = day.tag;
-    let wday = weekday_later(day.wday, days);
-    if tag.date.day + days <= length {
+    let wday = weekday_later(day, days);
+    if tag.date.day + days <= stand.length {
         let tag = datum::tage::later_in_month(tag, days);
-        let day = Kalendertag {
-            tag,
-            wday,
-            easter: day.easter,
+        return Stand {
+            day: Kalendertag { tag, wday, ..day },
+            ..stand
         };
-        return Stand { day, length };
     }
-    let tag = datum::tage::into_next_month(tag, length, days);
-    let easter = werktag::easter_for(tag.date.year, tag.date.month);
-    Stand {
-        day: Kalendertag { tag, wday, easter },
-        length: datum::tage::month_length(tag.date),
-    }
+    let tag = datum::tage::into_next_month(tag, stand.length, days);
+    stand_on(tag, wday)
 }
 
 /// Some days back, up to a week.
@@ -161,25 +161,16 @@ pub fn back(stand: Stand, days: u8) -> Stand
 {
     let day = stand.day;
     let tag = day.tag;
-    let wday = weekday_earlier(day.wday, days);
+    let wday = weekday_earlier(day, days);
     if days < tag.date.day {
         let tag = datum::tage::earlier_in_month(tag, days);
-        let day = Kalendertag {
-            tag,
-            wday,
-            easter: day.easter,
-        };
         return Stand {
-            day,
-            length: stand.length,
+            day: Kalendertag { tag, wday, ..day },
+            ..stand
         };
     }
     let tag = datum::tage::into_month_before(tag, days);
-    let easter = werktag::easter_for(tag.date.year, tag.date.month);
-    Stand {
-        day: Kalendertag { tag, wday, easter },
-        length: datum::tage::month_length(tag.date),
-    }
+    stand_on(tag, wday)
 }
 
 /// Whether a walk stands at a Werktag.
@@ -249,7 +240,7 @@ impl Richtung for Zurueck {
 
     fn next_weekday(stand: Stand) -> Option<Stand> {
         let day = stand.day;
-        let days = from_weekday(day.wday);
+        let days = from_weekday(day);
         if stand.index() < (days as u32) {
             return None;
         }
@@ -263,6 +254,7 @@ fn next_werktag<R: Richtung>(stand: Stand, cal: HolidayCalendar) -> Option<Stand
         (λ s. R.step (is_werktag cal) stand m ≡ R.step (is_werktag cal) s (m - 1)) }
 {
     let mut at = R::next_weekday(stand)?;
+    // No iterator: a step is one to three days, and the next begins where it ends.
     while !werktag::is_open_weekday(at.day, cal) {
         at = R::next_weekday(at)?;
     }
@@ -290,7 +282,7 @@ pub fn werktage_between(from: Tag, to: u32, cal: HolidayCalendar) -> u32
 {
     let mut at = stand_at(from);
     let mut count: u32 = 0;
-    // No iterator: a step is one to three days.
+    // No iterator: a step is one to three days, and the next begins where it ends.
     while at.index() < to {
         let day = at.day;
         let days = to_weekday(day.wday);

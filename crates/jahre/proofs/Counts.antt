@@ -28,7 +28,7 @@ use Rattle.datum.proofs.Years.{start_none, year_len_bounds}
 use Rattle.werktag.specs.declared.HolidayCalendar.{HolidayCalendar}
 use Rattle.werktag.specs.declared.HolidayCalendar.TheVariants.{BdewMaKo}
 use Rattle.werktag.specs.Werktag.{is_werktag}
-use Rattle.jahre.specs.declared.Year.{Year}
+use Rattle.jahre.specs.YearNumbers.{YearNumbers}
 use Rattle.jahre.specs.Year.{year_numbers, on_weekday, weekdays, holidays}
 use Rattle.jahre.proofs.Days.{year_for, year_is, open_in, open_is, index_is, Usual, usual}
 
@@ -76,10 +76,10 @@ unfolding on_weekday
 count_weekdays f zero = rw add-zero (omega (arith, count_none (on_weekday f)))
 count_weekdays f (suc n) = rw add-suc (omega (arith, count_weekdays f n, count_suc (on_weekday f) n, step (f + n)))
 
-unfoldable pub in_year : Year → ℕ → ℕ
+unfoldable pub in_year : YearNumbers → ℕ → ℕ
 in_year y n = weekdays (y.first + n) - weekdays y.first - each (on_weekday y.first) (holidays y) n
 
-pub in_year_lem : (y : Year) (n : ℕ) → Usual y → in_year y n ≡ count (open_in y) n
+pub in_year_lem : (y : YearNumbers) (n : ℕ) → Usual y → in_year y n ≡ count (open_in y) n
 unfolding in_year open_in
 in_year_lem y n u =
     let p = on_weekday y.first in
@@ -128,7 +128,7 @@ most f n h =
     )
 
 -- 1 January is a holiday, so it adds nothing
-weeks_in : (y : Year) (q : ℕ) → in_year y (7 * q + 1) ≤ 5 * q
+weeks_in : (y : YearNumbers) (q : ℕ) → in_year y (7 * q + 1) ≤ 5 * q
 unfolding in_year on_weekday holidays each
 weeks_in y q =
     let f = y.first in
@@ -161,6 +161,6 @@ pub years_count : (cal : HolidayCalendar) (k : ℕ) → k ≤ 904 → count (is_
 unfolding start
 years_count cal zero h = rw start_none (count_none (is_werktag cal))
 years_count cal (suc k) h =
-    let y = ap (λ (x : Year). in_year x (year_len k)) (year_is k) in
+    let y = ap (λ (x : YearNumbers). in_year x (year_len k)) (year_is k) in
     let c = count_among (is_werktag cal) (year_start k) (year_len k) in
     omega (arith, years_count cal k (omega arith), year_among cal k (year_len k) h (omega arith))

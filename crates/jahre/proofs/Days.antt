@@ -37,10 +37,10 @@ use Rattle.werktag.specs.declared.HolidayCalendar.TheVariants.{BdewMaKo}
 use Rattle.werktag.specs.Easter.{easter_sunday, easter_index}
 use Rattle.werktag.specs.Werktag.{eq_z, is_fixed, is_buss_und_bettag, is_easter_feast, is_werktag_in, is_werktag}
 use Rattle.werktag.proofs.Easter.{below_7, easter_in, easter_is, easter_between, easter_on_sunday, first_of, weekday_in}
-use Rattle.jahre.specs.declared.Year.{Year}
+use Rattle.jahre.specs.YearNumbers.{YearNumbers}
 use Rattle.jahre.specs.Year.{year_numbers, on_weekday, fixed_in, bettag_in, himmelfahrt_in, feasts_with, holidays}
 
-abbrev pub year_for : ℕ → Year
+abbrev pub year_for : ℕ → YearNumbers
 year_for k = let y = 1996 + k in record { first = first_of k; leaps = bit (is_leap y); easter = easter_in y }
 
 pub year_is : (k : ℕ) → year_numbers k ≡ year_for k
@@ -49,7 +49,7 @@ year_is k =
     let e : easter_index (1996 + k) - year_start k ≡ easter_in (1996 + k) = omega (arith, easter_is k) in
     rw (e, start_is k)
 
-unfoldable pub open_in : Year → ℕ → Bool
+unfoldable pub open_in : YearNumbers → ℕ → Bool
 open_in y = strikes (on_weekday y.first) (holidays y)
 
 -- the fixed days, and the week of Buß- und Bettag: by date and by day of the year, one; computed for a common and a
@@ -205,7 +205,7 @@ all_once : run once_in 904 0 ≡ true
 unfolding run once_in easter_sunday is_leap start days_in_month apart any on_weekday holidays
 all_once = refl
 
-pub record Usual (y : Year) : Type 0 where
+pub record Usual (y : YearNumbers) : Type 0 where
   pub first_to : y.first < 7
   pub leaps_to : y.leaps ≤ 1
   pub easter_from : 80 ≤ y.easter

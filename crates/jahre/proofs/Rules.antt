@@ -1,10 +1,11 @@
 -- What the proofs of this crate's functions cite: a lemma for each return and each turn of the loop, with premises in
 -- the form in which they stand there.
---   year_rules      `year_numbers`: s is what `year_start` returned, d Easter Sunday, i its index, f the weekday of s
+--   year_rules      `year_numbers`: s is what `year_start` returned, i the index of Easter Sunday, f the weekday of s
+--   fields_usual    the same: the fields that it fills are usual
 --   weekday_rules   `weekday_or_none`
---   may_rules       `himmelfahrt`
+--   may_rules       `himmelfahrt`: v is the year, j its fields
 --   listed_is       `weekday_holidays`
---   known_rules     `HolidayYear::new`
+--   known           `HolidayYear::new`
 --   number_rules    `number_before`: m is the number so far, b what place i of the list adds
 --   count_rules     `HolidayYear::werktage`: v is the year, j its fields, a and b are weekdays, m the holidays among
 --                   them
@@ -35,8 +36,10 @@ use Rattle.werktag.specs.declared.HolidayCalendar.TheVariants.{BdewMaKo}
 use Rattle.werktag.specs.Easter.{easter_index}
 use Rattle.werktag.specs.Werktag.{is_werktag}
 use Rattle.werktag.proofs.Easter.{easter_is}
-use Rattle.jahre.specs.declared.Year.{Year}
+use Rattle.jahre.specs.YearNumbers.{YearNumbers}
+use Rattle.jahre.specs.declared.Year.TheInside.{Inside as Fields}
 use Rattle.jahre.specs.declared.HolidayYear.TheInside.{Inside}
+use Rattle.jahre.specs.Fields.{IsUsual}
 use Rattle.jahre.specs.CalendarYear.{CalendarYear}
 use Rattle.jahre.specs.Year.{year_numbers, on_weekday, weekdays, bettag_in, himmelfahrt_in, holidays}
 use Rattle.jahre.specs.Year.{no_day, or_no_day, himmelfahrt_or, weekday_holidays, holiday_year}
@@ -52,11 +55,21 @@ module _ (k s i : ℕ) (p : s ≡ year_start k) (index : i ≡ easter_index (199
   pub in_its_year : s ≤ i
   in_its_year = omega (arith, index, easter_is k)
 
-  pub numbers :
-      (f l : ℕ) → f ≡ weekday s → l ≡ from_bool (is_leap (1996 + k)) →
-      ◌≡◌ {A = Year} (record { first = f; leaps = l; easter = i - s }) (year_numbers k)
-  unfolding year_numbers
-  numbers f l g u = rw (u, g, index, p) (rw (as_bit (is_leap (1996 + k))))
+  module _ (f l : ℕ) (g : f ≡ weekday s) (u : l ≡ from_bool (is_leap (1996 + k))) where
+    pub numbers : ◌≡◌ {A = YearNumbers} (record { first = f; leaps = l; easter = i - s }) (year_numbers k)
+    unfolding year_numbers
+    numbers = rw (u, g, index, p) (rw (as_bit (is_leap (1996 + k))))
+
+    pub fields_usual : k ≤ 903 → IsUsual (record { first = f; leaps = l; easter = i - s })
+    fields_usual h =
+        let y = subst Usual (sym numbers) (usual k (omega arith)) in
+        record {
+          first_small = y.first_to;
+          leaps_small = y.leaps_to;
+          easter_late = omega (arith, y.easter_from);
+          easter_small = y.easter_to;
+          easter_sunday = y.on_sunday;
+        }
 
 pub ruleset year_rules = (in_its_year, numbers)
 
@@ -73,11 +86,18 @@ module _ (f x : ℕ) where
 pub ruleset weekday_rules = (is_weekday, is_none)
 
 -- himmelfahrt
-pub on_may : (l e : ℕ) → e + 39 ≡ 120 + l → no_day ≡ himmelfahrt_or l e
-on_may l e h = rw (eq-eqb (e + 39) (120 + l) h)
+module _
+    (v : YearNumbers) (j : Fields)
+    (view : ◌≡◌ {A = YearNumbers} (record { first = j.first; leaps = j.leaps; easter = j.easter }) v) where
+  pub on_may : j.easter + 39 ≡ 120 + j.leaps → no_day ≡ himmelfahrt_or v.leaps v.easter
+  on_may h =
+      let e : no_day ≡ himmelfahrt_or j.leaps j.easter = rw (eq-eqb (j.easter + 39) (120 + j.leaps) h) in
+      subst (λ (y : YearNumbers). no_day ≡ himmelfahrt_or y.leaps y.easter) view e
 
-pub not_on_may : (l e : ℕ) → (e + 39 ≡ 120 + l → ⊥) → e + 39 ≡ himmelfahrt_or l e
-not_on_may l e h = rw (ne_eqb (e + 39) (120 + l) h)
+  pub not_on_may : (j.easter + 39 ≡ 120 + j.leaps → ⊥) → j.easter + 39 ≡ himmelfahrt_or v.leaps v.easter
+  not_on_may h =
+      let e : j.easter + 39 ≡ himmelfahrt_or j.leaps j.easter = rw (ne_eqb (j.easter + 39) (120 + j.leaps) h) in
+      subst (λ (y : YearNumbers). j.easter + 39 ≡ himmelfahrt_or y.leaps y.easter) view e
 
 pub ruleset may_rules = (on_may, not_on_may)
 
@@ -104,7 +124,7 @@ bettag_on f l = is_weekday f (bettag_in f l) (wednesday f l)
     wednesday : (f l : ℕ) → (f + (325 + l - (f + l + 1) % 7)) % 7 < 5
     wednesday f l = omega arith
 
-module _ (y : Year) where
+module _ (y : YearNumbers) where
   -- a0 to a12 are what `weekday_or_none` returned of the fixed days, h what `himmelfahrt` did
   pub listed_is :
       (a0 a1 a2 a3 a4 a5 a6 a7 a8 a9 a10 a11 a12 h : ℕ) →
@@ -138,32 +158,12 @@ module _ (y : Year) where
       ))
 
 -- HolidayYear::new
-module _ (k : ℕ) (y : Year) (h : k ≤ 903) (e : y ≡ year_numbers k) where
-  is_usual : Usual y
-  is_usual = rw e (usual k (omega arith))
-
-  pub first_small : y.first < 7
-  first_small = is_usual.first_to
-
-  pub leaps_small : y.leaps ≤ 1
-  leaps_small = is_usual.leaps_to
-
-  pub easter_late : 2 ≤ y.easter
-  easter_late = omega (arith, is_usual.easter_from)
-
-  pub easter_small : y.easter ≤ 116
-  easter_small = is_usual.easter_to
-
-  pub easter_sunday_lem : (y.first + y.easter) % 7 ≡ 6
-  easter_sunday_lem = is_usual.on_sunday
-
+module _ (k : ℕ) (y : YearNumbers) (e : y ≡ year_numbers k) where
   pub known :
       (cal : HolidayCalendar) (xs : List ℕ) → xs ≡ weekday_holidays y →
       ◌≡◌ {A = Inside} (record { cal = cal; year = k; first = y.first; holidays = xs }) (holiday_year cal k)
   unfolding holiday_year
   known BdewMaKo xs l = rw (l, e)
-
-pub ruleset known_rules = (first_small, leaps_small, easter_late, easter_small, easter_sunday_lem, known)
 
 -- number_before
 module _

@@ -1,2 +1,4 @@
+pub mod YearNumbers
+pub mod Fields
 pub mod CalendarYear
 pub mod Year

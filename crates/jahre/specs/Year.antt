@@ -21,10 +21,10 @@ use Rattle.datum.specs.Calendar.{first_year, is_leap, year_start, weekday}
 use Rattle.werktag.specs.declared.HolidayCalendar.{HolidayCalendar}
 use Rattle.werktag.specs.declared.HolidayCalendar.TheVariants.{BdewMaKo}
 use Rattle.werktag.specs.Easter.{easter_index}
-use Rattle.jahre.specs.declared.Year.{Year}
+use Rattle.jahre.specs.YearNumbers.{YearNumbers}
 use Rattle.jahre.specs.declared.HolidayYear.TheInside.{Inside}
 
-unfoldable pub year_numbers : ℕ → Year
+unfoldable pub year_numbers : ℕ → YearNumbers
 year_numbers k =
     let y = first_year + k in
     record { first = weekday (year_start k); leaps = bit (is_leap y); easter = easter_index y - year_start k }
@@ -54,7 +54,7 @@ himmelfahrt_in l e = cond (eqb (e + 39) (120 + l)) (e + 49) (e + 39)
 abbrev pub feasts_with : ℕ → ℕ → List ℕ
 feasts_with e h = (e - 2) ∷ (e + 1) ∷ h ∷ (e + 49) ∷ (e + 50) ∷ (e + 60) ∷ []
 
-unfoldable pub holidays : Year → List ℕ
+unfoldable pub holidays : YearNumbers → List ℕ
 holidays y =
     let e = y.easter in
     fixed_in y.leaps ++ (bettag_in y.first y.leaps ∷ feasts_with e (himmelfahrt_in y.leaps e))
@@ -68,7 +68,7 @@ or_no_day f r = cond (on_weekday f r) r no_day
 abbrev pub himmelfahrt_or : ℕ → ℕ → ℕ
 himmelfahrt_or l e = cond (eqb (e + 39) (120 + l)) no_day (e + 39)
 
-unfoldable pub weekday_holidays : Year → List ℕ
+unfoldable pub weekday_holidays : YearNumbers → List ℕ
 weekday_holidays y = map (or_no_day y.first) (holidays y)
 
 unfoldable pub holiday_year : HolidayCalendar → ℕ → Inside

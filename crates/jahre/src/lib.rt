@@ -1,5 +1,6 @@
 // The Werktage of a year's first days, without a test of any: its weekdays less its holidays on weekdays. A year is
-// counted from 1996, a day of it from 0.
+// counted from 1996, a day of it from 0. Both are numbers: each use adds to a year or looks it up, so that a type of it
+// would be taken apart every time.
 #![tactic(auto)]
 
 ghost use Rattle.std.specs.Prelude.{◌≡◌, ◌+◌, ◌%◌, ◌≤◌, ◌<◌, ltb, length};
@@ -9,15 +10,33 @@ ghost use Rattle.datum.specs.Calendar.{year_len, year_start};
 ghost use Rattle.werktag.specs.Werktag.{is_werktag};
 ghost use Rattle.jahre.specs.Year.{year_numbers, weekdays, or_no_day, himmelfahrt_or, weekday_holidays};
 
+use datum::WEEK;
 use std::marker::Model;
 use werktag::HolidayCalendar;
 
 /// A year's own numbers: the weekday of its 1 January, its leap days, and Easter Sunday as a day of the year.
 #[derive(Clone, Copy)]
-pub struct Year {
-    pub first: u32,
-    pub leaps: u32,
-    pub easter: u32,
+struct Year {
+    first: u32,
+    leaps: u32,
+    easter: u32,
+}
+
+impl Model for Year {
+    ghost use Rattle.std.proofs.Common.{refl};
+    ghost use Rattle.jahre.specs.YearNumbers.{YearNumbers};
+
+    ghost Value = { YearNumbers };
+
+    ghost use Rattle.jahre.specs.Fields.{IsUsual};
+
+    ghost view = { λ a. record { first = a.first; leaps = a.leaps; easter = a.easter } };
+
+    ghost invariant = { IsUsual };
+
+    ghost inverse = { λ y. record { first = y.first; leaps = y.leaps; easter = y.easter } };
+
+    ghost inverse_ok = { λ a h. refl };
 }
 
 /// A year of a calendar as a count inside it needs it: with the weekday of its 1 January, and its holidays on weekdays,
@@ -43,10 +62,8 @@ impl Model for HolidayYear {
     ghost invariant = { λ a. (a.year ≤ 903) × (a ≡ holiday_year a.cal a.year) };
 }
 
-/// The days of a week, and those from Monday to Friday.
-const WEEK: u32 = 7;
-
-const WEEKDAYS: u32 = 5;
+/// The days of a week from Monday to Friday: no other may be Werktage.
+pub const WEEKDAYS: u32 = 5;
 
 /// 1 May of a common year.
 const TAG_DER_ARBEIT: u32 = 120;
@@ -96,22 +113,19 @@ fn weekday_or_none(first: u32, day: u32) -> u32
 
 /// Christi Himmelfahrt, a Thursday, unless it falls on 1 May, a holiday already.
 #[tactic(auto, using(crate::proofs::Rules::may_rules))]
-fn himmelfahrt(leaps: u32, easter: u32) -> u32
-    requires { (leaps ≤ 1) × (easter ≤ 116) }
-    ensures { result ≡ himmelfahrt_or leaps easter }
+fn himmelfahrt(year: Year) -> u32
+    ensures { result ≡ himmelfahrt_or year.leaps year.easter }
 {
-    if easter + 39 == TAG_DER_ARBEIT + leaps {
+    if year.easter + 39 == TAG_DER_ARBEIT + year.leaps {
         return NO_DAY;
     }
-    easter + 39
+    year.easter + 39
 }
 
 /// The holidays of a year that are weekdays, each in its place. Only the fixed days need a test: Buß- und Bettag is a
 /// Wednesday, and what moves with Easter Sunday stays on its weekday, Pfingstsonntag on a Sunday.
 #[tactic(auto, using(crate::proofs::Rules::listed_is))]
 fn weekday_holidays(year: Year) -> [u32; 20]
-    requires first_bound { (year.first < 7) × (year.leaps ≤ 1) × (2 ≤ year.easter) × (year.easter ≤ 116) }
-    requires easter_value { (year.first + year.easter) % 7 ≡ 6 }
     ensures { result ≡ weekday_holidays year }
 {
     let f = year.first;
@@ -134,7 +148,7 @@ fn weekday_holidays(year: Year) -> [u32; 20]
         325 + l - (f + l + 1) % WEEK,
         e - 2,
         e + 1,
-        himmelfahrt(l, e),
+        himmelfahrt(year),
         NO_DAY,
         e + 50,
         e + 60,
@@ -155,7 +169,7 @@ fn number_before(days: &[u32; 20], n: u32) -> u32
 
 impl HolidayYear {
     /// The year 1996 + k of a calendar.
-    #[tactic(auto, using(crate::proofs::Rules::known_rules))]
+    #[tactic(auto, using(crate::proofs::Rules::known))]
     pub fn new(k: u32, cal: HolidayCalendar) -> HolidayYear
         requires { k ≤ 903 }
         ensures { result ≡ record { calendar = cal; year = k } }

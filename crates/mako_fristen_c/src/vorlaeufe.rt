@@ -1,4 +1,4 @@
-// Verdicts, spans, deregistrations and the 13.
+// Verdicts, spans, deregistrations and the 13:00 announcement.
 ghost use Rattle.std.specs.Prelude.{◌≡◌};
 ghost use Rattle.werktag.specs.declared.HolidayCalendar.TheVariants.{BdewMaKo};
 ghost use Rattle.werktag.specs.Werktag.{is_werktag};

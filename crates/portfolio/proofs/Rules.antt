@@ -3,8 +3,10 @@
 --   through_rules     `IndexedYear::through`: m the Werktage of the year's days up to the day d
 --   difference_rules  `IndexedYear::werktage_between`: x and y are the Werktage up to its two days
 --   is_of_rules       `is_of`
---   run_rules         `go_on`: p is what `in_range` returned, o what `is_of` did of the run r
---   pair_rules        `pair_count`: r is the run
+--   run_rules         `go_on`: p and q are what `index` returned of the pair's days, x and z their indexes, o is what
+--                     `is_of` did of the run r
+--   pair_rules        `pair_count`: the same, and r is the run
+--   within            the days of a pair in range
 -- Assumes nothing.
 use Prim.Native.Nat.{ℕ, suc, ◌+◌, ◌-◌, ◌≤◌, ◌<◌}
 use mathlib.Core.Bool.{Bool, true, false, not}
@@ -31,7 +33,7 @@ use Rattle.portfolio.specs.declared.IndexedYear.TheInside.{Inside}
 use Rattle.portfolio.specs.Portfolio.{in_calendar, in_range, pair_count}
 use Rattle.portfolio.specs.Runs.{beginning, opens}
 use Rattle.portfolio.specs.Fields.{IsIndexed}
-use Rattle.portfolio.specs.Inside.{year_by, run_of, year_of_run}
+use Rattle.portfolio.specs.Inside.{index, year_by, run_of, year_of_run}
 
 -- the year of a day of the calendar
 in_its_year : (d k : ℕ) → k ≤ 903 → year_start k ≤ d → d < year_start (suc k) → (year_of d).0 ≡ k
@@ -132,7 +134,23 @@ module _ (r : Option CalendarYear) (k : ℕ) where
 
 pub ruleset is_of_rules = (number_some, number_none)
 
--- what the test of a pair says
+-- a day and a pair by their indexes
+module _ (a : ℕ) where
+  day_out : None ≡ index a → in_calendar a ≡ false
+  day_out e =
+      split (in_calendar a) (λ t. let z : None ≡ Some (a - 9496) = e ∙ rw t in cc) (λ t. t)
+
+  day_at : (x : ℕ) → Some x ≡ index a → (in_calendar a ≡ true) × (x ≡ a - 9496)
+  day_at x e =
+      split (in_calendar a)
+      (λ t. let z : Some x ≡ Some (a - 9496) = e ∙ rw t in (t, cc))
+      (λ t. let z : Some x ≡ None = e ∙ rw t in cc)
+
+  pub index_small : (x : ℕ) (p : Option ℕ) → p ≡ index a → p ≡ Some x → x ≤ last
+  index_small x p e u =
+      let m = day_at x (sym u ∙ e) in
+      omega (arith, m.1, leb-true a 339675 (and_right (leb 9496 a) (leb a 339675) m.0))
+
 module _ (a b : ℕ) where
   pub within : in_range a b ≡ true → (9496 ≤ a) × (a ≤ 339675) × (9496 ≤ b) × (b ≤ 339675)
   unfolding in_range
@@ -145,94 +163,94 @@ module _ (a b : ℕ) where
         leb-true b 339675 (and_right (leb 9496 b) (leb b 339675) s),
       )
 
-  begins_in : in_range a b ≡ true → beginning a b ≡ 1996 + (year_of (a - 9496)).0
-  unfolding beginning
-  begins_in t = rw t
+-- a pair out of range: one of its days has no index
+module _ (a b : ℕ) (p : Option ℕ) where
+  pub not_first : p ≡ index a → p ≡ None → in_range a b ≡ false
+  unfolding in_range
+  not_first e u = rw (day_out a (sym u ∙ e))
 
-  begins_not : in_range a b ≡ false → beginning a b ≡ 0
-  unfolding beginning
-  begins_not t = rw t
+  pub not_second : p ≡ index b → p ≡ None → in_range a b ≡ false
+  unfolding in_range
+  not_second e u = rw (day_out b (sym u ∙ e), and_no (in_calendar a))
 
--- go_on: p is what `in_range` returned, o what `is_of` did of the run r
-module _ (cal : HolidayCalendar) (a b : ℕ) (p : Bool) (q : p ≡ in_range a b) where
-  pub none_run : p ≡ false → None ≡ run_of cal a b
+module _ (cal : HolidayCalendar) (a b : ℕ) (t : in_range a b ≡ false) where
+  pub none_run : None ≡ run_of cal a b
   unfolding run_of
-  none_run t = rw (sym q ∙ t)
+  none_run = rw t
 
-  pub none_opened : (n : ℕ) → p ≡ false → false ≡ opens n (beginning a b)
-  unfolding opens
-  none_opened n t = rw (begins_not a b (sym q ∙ t))
+  pub none_opened : (n : ℕ) → false ≡ opens n (beginning a b)
+  unfolding opens beginning
+  none_opened n = rw t
 
-  module _ (t : p ≡ true) where
-    pub first_late : 9496 ≤ a
-    first_late = (within a b (sym q ∙ t)).0
+  pub pair_out : 4294967295 ≡ pair_count (is_werktag cal) a b
+  unfolding pair_count
+  pair_out = rw t
 
-    pub first_in : a - 9496 ≤ last
-    first_in = omega (arith, within a b (sym q ∙ t))
+-- a pair in range, by the indexes x and z of its days
+module _
+    (cal : HolidayCalendar) (a b x z : ℕ) (p q : Option ℕ) (e : p ≡ index a) (u : p ≡ Some x) (f : q ≡ index b)
+    (v : q ≡ Some z) where
+  is_in : (in_range a b ≡ true) × (x ≡ a - 9496) × (z ≡ b - 9496)
+  unfolding in_range
+  is_in =
+      let m = day_at a x (sym u ∙ e) in
+      let n = day_at b z (sym v ∙ f) in
+      (rw (m.0, n.0), m.1, n.1)
 
-    pub its_run : (y : CalendarYear) → y ≡ year_by cal (a - 9496) → Some y ≡ run_of cal a b
-    unfolding run_of
-    its_run y e = rw (sym q ∙ t, e)
+  pub its_run : (y : CalendarYear) → y ≡ year_by cal x → Some y ≡ run_of cal a b
+  unfolding run_of
+  its_run y h = rw (is_in.0, h, is_in.1)
 
-    module _ (r : Option CalendarYear) (o : Bool) (e : o ≡ eqb (year_of_run r) (1996 + (year_of (a - 9496)).0)) where
-      pub stays : o ≡ true → IfSome r (λ y. y.calendar ≡ cal) → r ≡ run_of cal a b
-      stays u = go r (eqb-true (year_of_run r) (1996 + (year_of (a - 9496)).0) (sym e ∙ u))
-        where
-          go :
-              (r : Option CalendarYear) → year_of_run r ≡ 1996 + (year_of (a - 9496)).0 →
-              IfSome r (λ y. y.calendar ≡ cal) → r ≡ run_of cal a b
-          go None n c = absurd (omega arith)
-          go (Some y) n c =
-              let k : y.year ≡ (year_of (a - 9496)).0 = omega arith in
-              its_run y (ap₂ (λ (x : HolidayCalendar) (z : ℕ). record { calendar = x; year = z }) c k)
+  begins_in : beginning a b ≡ 1996 + (year_of x).0
+  unfolding beginning
+  begins_in = rw (is_in.0, is_in.1)
 
-      pub not_opened : o ≡ true → false ≡ opens (year_of_run r) (beginning a b)
-      unfolding opens
-      not_opened u =
-          rw (begins_in a b (sym q ∙ t), sym e ∙ u) (sym (and_no (not (eqb (1996 + (year_of (a - 9496)).0) 0))))
+  -- go_on: o is what `is_of` did of the run r
+  module _ (r : Option CalendarYear) (o : Bool) (k : o ≡ eqb (year_of_run r) (1996 + (year_of x).0)) where
+    pub stays : o ≡ true → IfSome r (λ y. y.calendar ≡ cal) → r ≡ run_of cal a b
+    stays u = go r (eqb-true (year_of_run r) (1996 + (year_of x).0) (sym k ∙ u))
+      where
+        go :
+            (r : Option CalendarYear) → year_of_run r ≡ 1996 + (year_of x).0 → IfSome r (λ y. y.calendar ≡ cal) →
+            r ≡ run_of cal a b
+        go None n c = absurd (omega arith)
+        go (Some y) n c =
+            let k : y.year ≡ (year_of x).0 = omega arith in
+            its_run y (ap₂ (λ (h : HolidayCalendar) (m : ℕ). record { calendar = h; year = m }) c k)
 
-      pub is_opened : o ≡ false → true ≡ opens (year_of_run r) (beginning a b)
-      unfolding opens
-      is_opened u =
-          rw (begins_in a b (sym q ∙ t), sym e ∙ u, ne_eqb (1996 + (year_of (a - 9496)).0) 0 (λ z. omega arith))
+    pub not_opened : o ≡ true → false ≡ opens (year_of_run r) (beginning a b)
+    unfolding opens
+    not_opened u = rw (begins_in, sym k ∙ u) (sym (and_no (not (eqb (1996 + (year_of x).0) 0))))
 
-pub ruleset run_rules = (none_run, none_opened, first_late, first_in, its_run, stays, not_opened, is_opened)
+    pub is_opened : o ≡ false → true ≡ opens (year_of_run r) (beginning a b)
+    unfolding opens
+    is_opened u = rw (begins_in, sym k ∙ u, ne_eqb (1996 + (year_of x).0) 0 (λ h. omega arith))
 
--- pair_count
-module _ (cal : HolidayCalendar) (a b : ℕ) (r : Option CalendarYear) (e : r ≡ run_of cal a b) where
-  pub pair_out : r ≡ None → 4294967295 ≡ pair_count (is_werktag cal) a b
+  -- pair_count
+  pub pair_is : (n : ℕ) → n ≡ between (is_werktag cal) x z → n ≡ pair_count (is_werktag cal) a b
+  unfolding pair_count
+  pair_is n g = rw (is_in.0, g, is_in.1, is_in.2)
+
+pub ruleset run_rules =
+    (not_first, not_second, none_run, none_opened, index_small, its_run, stays, not_opened, is_opened)
+
+-- pair_count: r is the run
+module _ (cal : HolidayCalendar) (a b : ℕ) where
+  pub pair_year :
+      (x : ℕ) (p : Option ℕ) (y : CalendarYear) (r : Option CalendarYear) →
+      p ≡ index a → p ≡ Some x → r ≡ run_of cal a b → r ≡ Some y → y ≡ year_by cal x
+  unfolding run_of
+  pair_year x p y r e u g h =
+      rw (day_at a x (sym u ∙ e)).1
+      (split (in_range a b)
+      (λ t. let k : Some y ≡ Some (year_by cal (a - 9496)) = sym h ∙ g ∙ rw t in cc)
+      (λ t. let k : Some y ≡ None = sym h ∙ g ∙ rw t in cc))
+
+  pub no_run : (r : Option CalendarYear) → r ≡ run_of cal a b → r ≡ None → 4294967295 ≡ pair_count (is_werktag cal) a b
   unfolding pair_count run_of
-  pair_out u = split (in_range a b) (λ t. absurd (no (sym u ∙ e ∙ rw t))) (λ t. rw t)
-    where
-      no : None ≡ Some (year_by cal (a - 9496)) → ⊥
-      no z = cc
+  no_run r e u =
+      split (in_range a b)
+      (λ t. let z : None ≡ Some (year_by cal (a - 9496)) = sym u ∙ e ∙ rw t in cc)
+      (λ t. rw t)
 
-  module _ (y : CalendarYear) (u : r ≡ Some y) where
-    is_in : (in_range a b ≡ true) × (y ≡ year_by cal (a - 9496))
-    unfolding run_of
-    is_in =
-        split (in_range a b)
-        (λ t. let z : Some y ≡ Some (year_by cal (a - 9496)) = sym u ∙ e ∙ rw t in (t, cc))
-        (λ t. let z : Some y ≡ None = sym u ∙ e ∙ rw t in cc)
-
-    pub pair_first : 9496 ≤ a
-    pair_first = (within a b is_in.0).0
-
-    pub pair_second : 9496 ≤ b
-    pair_second = (within a b is_in.0).2
-
-    pub pair_first_in : a - 9496 ≤ last
-    pair_first_in = omega (arith, within a b is_in.0)
-
-    pub pair_second_in : b - 9496 ≤ last
-    pair_second_in = omega (arith, within a b is_in.0)
-
-    pub pair_year : y ≡ year_by cal (a - 9496)
-    pair_year = is_in.1
-
-    pub pair_is :
-        (n : ℕ) → n ≡ between (is_werktag cal) (a - 9496) (b - 9496) → n ≡ pair_count (is_werktag cal) a b
-    unfolding pair_count
-    pair_is n g = rw is_in.0 g
-
-pub ruleset pair_rules = (pair_out, pair_first, pair_second, pair_first_in, pair_second_in, pair_year, pair_is)
+pub ruleset pair_rules = (not_first, not_second, pair_out, no_run, index_small, pair_year, pair_is)

@@ -10,9 +10,9 @@ ghost use Rattle.zaehlung.specs.Walk.{last, count, between};
 ghost use Rattle.datum.specs.Calendar.{first_year, year_of};
 ghost use Rattle.werktag.specs.Werktag.{is_werktag};
 ghost use Rattle.jahresindex.specs.Werktage.{werktage};
-ghost use Rattle.portfolio.specs.Portfolio.{is_portfolio, in_calendar, in_range, pair_count, counts_of};
+ghost use Rattle.portfolio.specs.Portfolio.{is_portfolio, pair_count, counts_of};
 ghost use Rattle.portfolio.specs.Runs.{beginning, opens, runs};
-ghost use Rattle.portfolio.specs.Inside.{year_by, run_of, year_of_run};
+ghost use Rattle.portfolio.specs.Inside.{index, year_by, run_of, year_of_run};
 
 use jahre::HolidayYear;
 use std::marker::Model;
@@ -60,19 +60,14 @@ pub fn is_portfolio(from: usize, to: usize, counts: usize) -> bool
     from <= MOST_PAIRS && to == from && counts == from
 }
 
-/// Whether a day lies in the calendar.
-fn in_calendar(day: u32) -> bool
-    ensures { result ≡ in_calendar day }
+/// The index of a day, if it lies in the calendar.
+fn index(day: u32) -> Option<u32>
+    ensures { result ≡ index day }
 {
-    FIRST_DAY <= day && day <= LAST_DAY
-}
-
-/// Whether both days of a pair do.
-#[tactic(auto, unfolding(crate::specs::Portfolio::in_range))]
-fn in_range(from: u32, to: u32) -> bool
-    ensures { result ≡ in_range from to }
-{
-    in_calendar(from) && in_calendar(to)
+    if (FIRST_DAY..=LAST_DAY).contains(&day) {
+        return Some(day - FIRST_DAY);
+    }
+    None
 }
 
 impl IndexedYear {
@@ -144,11 +139,10 @@ fn go_on(run: &mut Option<IndexedYear>, from: u32, to: u32, cal: HolidayCalendar
     ensures goes { run.new ≡ run_of cal from to }
     ensures value { result ≡ opens (year_of_run run.old) (beginning from to) }
 {
-    if !in_range(from, to) {
+    let (Some(day), Some(_)) = (index(from), index(to)) else {
         *run = None;
         return false;
-    }
-    let day = from - FIRST_DAY;
+    };
     if is_of(run, day) {
         return false;
     }
@@ -162,9 +156,9 @@ fn pair_count(run: &Option<IndexedYear>, from: u32, to: u32, cal: HolidayCalenda
     requires { run.now ≡ run_of cal from to }
     ensures { result ≡ pair_count (is_werktag cal) from to }
 {
-    match run {
-        Some(year) => year.werktage_between(from - FIRST_DAY, to - FIRST_DAY, cal),
-        None => OUT_OF_RANGE,
+    match (run, index(from), index(to)) {
+        (Some(year), Some(first), Some(second)) => year.werktage_between(first, second, cal),
+        _ => OUT_OF_RANGE,
     }
 }
 
@@ -181,7 +175,8 @@ pub fn counts_of(from: &[u32], to: &[u32], counts: &mut [u32], cal: HolidayCalen
 {
     let mut run = None;
     let mut read = 0;
-    // By index, since the days of a pair stand in two other lists.
+    // Three lists, as the C interface has them, and by index: of what is written through a `zip` over `iter_mut` a
+    // proof knows no values.
     for (i, count) in counts.iter_mut().enumerate() {
         read += u32::from(go_on(&mut run, from[i], to[i], cal));
         *count = pair_count(&run, from[i], to[i], cal);

@@ -81,9 +81,6 @@ module _ (w : ℕ → Bool) (i n m : ℕ) (p : m ≡ n - bit (w i)) where
   pub on_today : m ≡ 0 → Some i ≡ add w i (n - bit (w i))
   on_today z = sym (add_none w i) ∙ ap (add w i) (sym z ∙ p)
 
-  pub on_later : (s : Option ℕ) → s ≡ add w i m → s ≡ add w i (n - bit (w i))
-  on_later s e = e ∙ ap (add w i) p
-
 -- nth_werktag_after: v is the weekday of the day d, k the days to the next weekday
 module _ (cal : HolidayCalendar) (d n : ℕ) where
   abbrev test : ℕ → Bool

@@ -5,17 +5,15 @@ ghost use Rattle.zaehlung.specs.Walk.{last, count, add, between};
 ghost use Rattle.werktag.specs.Werktag.{is_werktag};
 ghost use Rattle.jahresindex.specs.Werktage.{werktage};
 
+use datum::WEEK;
 use datum::tage::Tag;
 use gang::{Richtung, Vor, Zurueck};
+use jahre::WEEKDAYS;
 use jahresindex::WERKTAGE;
 use werktag::HolidayCalendar;
 
-/// The days of a week, and those of them that may be Werktage.
-const WEEK: u32 = 7;
-
-const WEEKDAYS: u32 = 5;
-
-/// The Werktage of the calendar before a day, or before the day after it: `more` days on.
+/// The Werktage of the calendar before a day, or before the day after it: `more` days on. A number and no `bool`, since
+/// it is added.
 ///
 /// 7,431 before 7 April 2026, and with 1, since that is a Werktag, 7,432.
 #[tactic(auto, using(crate::proofs::IndexRules::day_rules))]

@@ -97,7 +97,7 @@ pub fn sub_werktage(from: Tag, n: u32, cal: HolidayCalendar) -> Option<Tag>
 pub fn werktage_between(from: Tag, to: Tag, cal: HolidayCalendar) -> u32
     ensures { result ≡ between (is_werktag cal) from to }
 {
-    if to.index <= from.index {
+    if to <= from {
         return 0;
     }
     if to.index - from.index <= FEW_DAYS {

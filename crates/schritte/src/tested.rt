@@ -27,6 +27,7 @@ fn test_days(first: Tag, day: u32, cal: HolidayCalendar) -> Count
     let mut werktage = u32::from(gang::at_werktag(at, cal));
     for _ in first.index..day {
         at = gang::on(at, 1);
+        // Here, and not by the two days: the number is that of the tests made (docs/DECISIONS.md 80).
         tested += 1;
         werktage += u32::from(gang::at_werktag(at, cal));
     }
@@ -56,7 +57,7 @@ fn count_through(day: Tag, cal: HolidayCalendar) -> Count
 pub fn count_werktage(from: Tag, to: Tag, cal: HolidayCalendar) -> Count
     ensures { (result.werktage ≡ between (is_werktag cal) from to) × (result.tested ≡ days_tested from to) }
 {
-    if to.index <= from.index {
+    if to <= from {
         return Count {
             werktage: 0,
             tested: 0,

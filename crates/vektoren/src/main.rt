@@ -55,12 +55,12 @@ fn read_hex<const N: usize>(line: &[u8; LINE_BYTES], from: usize) -> Option<[u8;
     requires { from + 2 * N ≤ 193 }
     ensures { result ≡ bytes_at line.now from N }
 {
+    let (pairs, _) = line[from..].as_chunks::<2>();
     let mut bytes = [0u8; N];
-    // By place: a byte is two digits.
+    // By index: of what is written through a `zip` over `iter_mut` a proof knows no values.
     for (i, byte) in bytes.iter_mut().enumerate() {
-        let high = digit(line[from + 2 * i])?;
-        let low = digit(line[from + 2 * i + 1])?;
-        *byte = high * 16 + low;
+        let [high, low] = pairs[i];
+        *byte = digit(high)? * 16 + digit(low)?;
     }
     Some(bytes)
 }

@@ -41,6 +41,8 @@ fn replay_file(
 
 // Reads the two lengths of the next file, and then the file.
 fn replay_next(input: &mut impl Read) -> io::Result<Option<Replayed>> {
+    // `vektoren_portfolio` begins alike, with a longer head: a function for both would have three outcomes to tell, and
+    // be no shorter.
     let mut head = [0u8; HEAD_BYTES];
     let n = eingabe::read_full(input, &mut head)?;
     if n == 0 {

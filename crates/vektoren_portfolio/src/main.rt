@@ -89,6 +89,8 @@ fn replay_portfolio(
 
 // Reads the four lengths of the next portfolio, and then the portfolio.
 fn replay_next(input: &mut impl Read) -> io::Result<Option<Replayed>> {
+    // `vektoren_fragen` begins alike, with a shorter head: a function for both would have three outcomes to tell, and
+    // be no shorter.
     let mut head = [0u8; HEAD_BYTES];
     let n = eingabe::read_full(input, &mut head)?;
     if n == 0 {

@@ -80,4 +80,5 @@ verdict_on w (LatestMonateUndWerktageBefore monate werktage) t a c r =
 
 -- 'Verdicts: .. 8, a date that the Rust computes for this call leaves the calendar.'
 unfoldable pub check_of : (ℕ → Bool) → VorlaufShape → ℕ → ℕ → Option VorlaufVerdict
+unfolding closes reaches
 check_of w s t a = on_step None (closes w s a) (λ c. on_step None (reaches w s t) (λ r. verdict_on w s t a c r))

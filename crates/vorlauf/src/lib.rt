@@ -3,9 +3,9 @@
 // Document 01, vorlauf.rs and 'The span of anchors'. A day comes taken apart, its index beside its date, and so does
 // what a verdict or a span names. t is the transmission day (Übertragungstag, ÜT), a the anchor, the date that the
 // message carries. There is no verdict and no span where a date that is computed leaves the calendar.
-#![tactic(auto, unfolding(crate::specs::Verdict::check_of, crate::specs::Verdict::closes, crate::specs::Verdict::reaches, crate::specs::Verdict::fruehester_termin_nach_tag_vor_dem_letzten_werktag, crate::specs::Span::span_of))]
+#![tactic(auto)]
 
-ghost use Rattle.std.specs.Prelude.{◌≡◌, ◌<◌};
+ghost use Rattle.std.specs.Prelude.{◌≡◌, ℕ, ◌<◌, Option};
 ghost use Rattle.zaehlung.specs.Walk.{on_step, day_after, add, W, between};
 ghost use Rattle.datum.specs.Monate.{M};
 ghost use Rattle.werktag.specs.Werktag.{is_werktag};
@@ -79,32 +79,45 @@ fn too_late(t: Tag, closes: Tag, first: Tag, cal: HolidayCalendar) -> VorlaufVer
     }
 }
 
-/// `Ok` while t is at or before `closes`, else `TooLate` with the `n`-th Werktag after t, which is computed only then.
-fn not_after_by_werktage(
-    n: u32,
+/// TooEarly: t is before the day on which the window opens, by the Werktage between.
+fn too_early(t: Tag, opens: Tag, cal: HolidayCalendar) -> VorlaufVerdict
+    requires { t < opens }
+    ensures { result ≡ VorlaufVerdict.TooEarly (between (is_werktag cal) t opens) }
+{
+    let excess_wt = schritte::werktage_between(t, opens, cal);
+    VorlaufVerdict::TooEarly { excess_wt }
+}
+
+/// `Ok` while t is at or before `closes`, else `TooLate` with the date of `first`, which is computed only then.
+fn not_after<F: FnOnce() -> Option<Tag>>(
     t: Tag,
     closes: Tag,
+    first: F,
     cal: HolidayCalendar,
 ) -> Option<VorlaufVerdict>
-    ensures { result ≡ not_after (is_werktag cal) t closes (add (is_werktag cal) t n) }
+    requires { F.IsAlwaysCallable first }
+    ensures { (s : Option ℕ) → ((r : Option ℕ) → F.post first r → r ≡ s) →
+        result ≡ not_after (is_werktag cal) t closes s }
 {
-    if t.index <= closes.index {
+    if t <= closes {
         return Some(VorlaufVerdict::Ok);
     }
-    let first = schritte::add_werktage(t, n, cal)?;
+    let first = first()?;
     Some(too_late(t, closes, first, cal))
 }
 
 /// t is the `n`-th Werktag before the anchor at the latest. `LatestWerktageBefore(1)` from Saturday 10 January 2026
 /// against Monday 12 January: TooLate by 0 Werktage, and the date named is that Monday.
+#[tactic(auto, unfolding(crate::specs::Verdict::check_of))]
 fn latest_werktage_before(n: u32, t: Tag, a: Tag, cal: HolidayCalendar) -> Option<VorlaufVerdict>
     ensures { result ≡ check_of (is_werktag cal) (VorlaufShape.LatestWerktageBefore n) t a }
 {
     let closes = schritte::sub_werktage(a, n, cal)?;
-    not_after_by_werktage(n, t, closes, cal)
+    not_after(t, closes, || schritte::add_werktage(t, n, cal), cal)
 }
 
 /// t is the `earliest`-th Werktag before the anchor at the earliest, and the `latest`-th at the latest.
+#[tactic(auto, unfolding(crate::specs::Verdict::check_of))]
 fn window_werktage_before(
     earliest: u32,
     latest: u32,
@@ -116,47 +129,46 @@ fn window_werktage_before(
 {
     let opens = schritte::sub_werktage(a, earliest, cal)?;
     let closes = schritte::sub_werktage(a, latest, cal)?;
-    if t.index < opens.index {
-        let excess_wt = schritte::werktage_between(t, opens, cal);
-        return Some(VorlaufVerdict::TooEarly { excess_wt });
+    if t < opens {
+        return Some(too_early(t, opens, cal));
     }
-    not_after_by_werktage(latest, t, closes, cal)
+    not_after(t, closes, || schritte::add_werktage(t, latest, cal), cal)
 }
 
 /// t is the `n`-th Werktag after the anchor at the latest. Under TooLate the anchor itself is named.
+#[tactic(auto, unfolding(crate::specs::Verdict::check_of))]
 fn latest_werktage_after(n: u32, t: Tag, a: Tag, cal: HolidayCalendar) -> Option<VorlaufVerdict>
     ensures { result ≡ check_of (is_werktag cal) (VorlaufShape.LatestWerktageAfter n) t a }
 {
     let closes = schritte::add_werktage(a, n, cal)?;
-    not_after(t, closes, a, cal)
+    not_after(t, closes, || Some(a), cal)
 }
 
 /// The anchor, the date requested, is the `n`-th Werktag after t at the earliest.
+#[tactic(auto, unfolding(crate::specs::Verdict::check_of))]
 fn earliest_werktage_after(n: u32, t: Tag, a: Tag, cal: HolidayCalendar) -> Option<VorlaufVerdict>
     ensures { result ≡ check_of (is_werktag cal) (VorlaufShape.EarliestWerktageAfter n) t a }
 {
     let first = schritte::add_werktage(t, n, cal)?;
-    if first.index <= a.index {
-        return Some(VorlaufVerdict::Ok);
-    }
-    Some(too_late(first, a, first, cal))
+    not_after(first, a, || Some(first), cal)
 }
 
 /// t lies from the `n`-th Werktag before the anchor to the `n`-th after it. Under TooLate the opening day is named.
+#[tactic(auto, unfolding(crate::specs::Verdict::check_of))]
 fn korridor(n: u32, t: Tag, a: Tag, cal: HolidayCalendar) -> Option<VorlaufVerdict>
     ensures { result ≡ check_of (is_werktag cal) (VorlaufShape.Korridor n) t a }
 {
     let opens = schritte::sub_werktage(a, n, cal)?;
     let closes = schritte::add_werktage(a, n, cal)?;
-    if t.index < opens.index {
-        let excess_wt = schritte::werktage_between(t, opens, cal);
-        return Some(VorlaufVerdict::TooEarly { excess_wt });
+    if t < opens {
+        return Some(too_early(t, opens, cal));
     }
-    not_after(t, closes, opens, cal)
+    not_after(t, closes, || Some(opens), cal)
 }
 
 /// The day after the first Werktag strictly after t: a full Werktag has to lie between t and the date. From a Monday
 /// that is Wednesday.
+#[tactic(auto, unfolding(crate::specs::Verdict::fruehester_termin_nach_tag_vor_dem_letzten_werktag))]
 fn fruehester_termin_nach_tag_vor_dem_letzten_werktag(t: Tag, cal: HolidayCalendar) -> Option<Tag>
     ensures { result ≡ fruehester_termin_nach_tag_vor_dem_letzten_werktag (is_werktag cal) t }
 {
@@ -167,39 +179,33 @@ fn fruehester_termin_nach_tag_vor_dem_letzten_werktag(t: Tag, cal: HolidayCalend
 
 /// t is the day before the last Werktag before the anchor at the latest. From Thursday 8 January 2026: Friday 9 January
 /// is TooLate by 1 Werktag, Saturday 10 January Ok.
+#[tactic(auto, unfolding(crate::specs::Verdict::check_of))]
 fn tag_vor_dem_letzten_werktag_vor(t: Tag, a: Tag, cal: HolidayCalendar) -> Option<VorlaufVerdict>
     ensures { result ≡ check_of (is_werktag cal) VorlaufShape.TagVorDemLetztenWerktagVor t a }
 {
     let letzter = schritte::sub_werktage(a, 1, cal)?;
     let closes = schritte::day_before(letzter)?;
-    if t.index <= closes.index {
-        return Some(VorlaufVerdict::Ok);
-    }
-    let first = fruehester_termin_nach_tag_vor_dem_letzten_werktag(t, cal)?;
-    Some(too_late(t, closes, first, cal))
-}
-
-/// `Ok` while t is at or before `closes`, else `TooLate` with the date `first`.
-fn not_after(t: Tag, closes: Tag, first: Tag, cal: HolidayCalendar) -> Option<VorlaufVerdict>
-    ensures { result ≡ not_after (is_werktag cal) t closes (Some first) }
-{
-    if t.index <= closes.index {
-        return Some(VorlaufVerdict::Ok);
-    }
-    Some(too_late(t, closes, first, cal))
+    not_after(
+        t,
+        closes,
+        || fruehester_termin_nach_tag_vor_dem_letzten_werktag(t, cal),
+        cal,
+    )
 }
 
 /// t lies `n` months before the anchor at the latest. The earliest date is computed even when the verdict is Ok.
+#[tactic(auto, unfolding(crate::specs::Verdict::check_of))]
 fn latest_monate_before(n: u32, t: Tag, a: Tag, cal: HolidayCalendar) -> Option<VorlaufVerdict>
     ensures { result ≡ check_of (is_werktag cal) (VorlaufShape.LatestMonateBefore n) t a }
 {
     let closes = monate::months_earlier(a, n)?;
     let first = monate::months_later(t, n)?;
-    not_after(t, closes, first, cal)
+    not_after(t, closes, || Some(first), cal)
 }
 
 /// The day `monate` months and `werktage` Werktage before the anchor: the months first, then the Werktage back from the
 /// day on which they land.
+#[tactic(auto, unfolding(crate::specs::Verdict::closes))]
 fn monate_und_werktage_before(
     monate: u32,
     werktage: u32,
@@ -214,6 +220,7 @@ fn monate_und_werktage_before(
 
 /// t lies `monate` months and `werktage` Werktage before the anchor at the latest. The earliest date is computed even
 /// when the verdict is Ok.
+#[tactic(auto, unfolding(crate::specs::Verdict::check_of))]
 fn latest_monate_und_werktage_before(
     monate: u32,
     werktage: u32,
@@ -227,7 +234,7 @@ fn latest_monate_und_werktage_before(
     let closes = monate_und_werktage_before(monate, werktage, a, cal)?;
     let on = schritte::add_werktage(t, werktage, cal)?;
     let first = monate::months_later(on, monate)?;
-    not_after(t, closes, first, cal)
+    not_after(t, closes, || Some(first), cal)
 }
 
 /// The span from the day of a step on.
@@ -243,7 +250,7 @@ fn span_between(first: Option<Tag>, end: Option<Tag>) -> Option<Span>
 {
     let f = first?;
     let l = end?;
-    if l.index < f.index {
+    if l < f {
         return Some(Span::Empty);
     }
     Some(Span::Both(f, l))
@@ -307,6 +314,7 @@ impl VorlaufShape {
     ///
     /// `LatestWerktageBefore(1)` from Saturday 10 January 2026: from Tuesday 13 January. `LatestMonateBefore(1)` from
     /// 31 January 2026: from 1 March.
+    #[tactic(auto, unfolding(crate::specs::Span::span_of))]
     pub fn span(self, uebertragungstag: Tag, cal: HolidayCalendar) -> Option<Span>
         ensures { result ≡ span_of (is_werktag cal) self uebertragungstag }
     {

@@ -2,6 +2,7 @@
 --   reason_is      it is the first that holds of the tests of the day's index and date
 --   reason_zero    it is 0 exactly if the day is a Werktag
 --   weekend_shut   no Saturday and no Sunday is a Werktag
+--   weekday_open   any other day is one exactly if it is not in the list
 --   reason_given, reason_gives  it is 1 + k exactly if the k-th of these tests holds and none before it does
 --   saturday_given, saturday_gives, sunday_given, sunday_gives  so it is 1 exactly on a Saturday, 2 exactly on a Sunday
 --   rule i k       = rule k of the list, from 0 on, asked of the day with index i
@@ -80,6 +81,10 @@ reason_zero cal i = zero_in cal (year_of i).0 (year_of i).1
 pub weekend_shut : (cal : HolidayCalendar) (i : ℕ) → 5 ≤ weekday i → is_werktag cal i ≡ false
 unfolding is_werktag
 weekend_shut BdewMaKo i h = rw (parts i, le-leb 5 (weekday i) h)
+
+pub weekday_open : (i : ℕ) → weekday i < 5 → is_werktag BdewMaKo i ≡ not (is_listed i (date_of i))
+unfolding is_werktag date_of
+weekday_open i h = rw (parts i, lt-leb 5 (weekday i) h)
 
 -- the number 1 + k, by the k-th test of the day
 module _ (i : ℕ) where

@@ -21,18 +21,19 @@ use Rattle.zaehlung.specs.Lists.{any}
 use Rattle.zaehlung.proofs.BlockLaws.{start_suc, start_mono}
 use Rattle.zaehlung.proofs.Every.{run, run_at}
 use Rattle.zaehlung.proofs.Tests.{agree, agree_is}
-use Rattle.datum.proofs.Dates.{Valid, len_le}
+use Rattle.datum.proofs.Dates.{Valid, len_le, index_date}
 use Rattle.datum.proofs.TagRules.{tag_date}
 use Rattle.datum.proofs.Signed.{back, back_pos, sub_pos, sub_neg, sub_fits}
 use Rattle.werktag.specs.declared.HolidayCalendar.{HolidayCalendar}
 use Rattle.werktag.specs.declared.HolidayCalendar.TheVariants.{BdewMaKo}
 use Rattle.werktag.specs.Easter.{easter_index, easter_for}
-use Rattle.werktag.specs.Werktag.{at_feast, eq_z, is_fixed, is_buss_und_bettag, easter_offsets, is_werktag}
+use Rattle.werktag.specs.Werktag.{at_feast, eq_z, is_fixed, is_buss_und_bettag, easter_offsets, is_easter_feast}
+use Rattle.werktag.specs.Werktag.{is_listed, is_werktag}
 use Rattle.werktag.specs.Reason.{place_from, weekend_tests, fixed_tests, fixed_place, fixed_bits, feast_tests}
-use Rattle.werktag.specs.Reason.{feast_place, holiday_tests, holiday_place, reason}
+use Rattle.werktag.specs.Reason.{feast_place, holiday_place, reason}
 use Rattle.werktag.proofs.Place.{place_left, place_right, place_zero}
 use Rattle.werktag.proofs.Easter.{easter_between}
-use Rattle.werktag.proofs.Reasons.{reason_is, reason_zero, weekend_shut, saturday_gives, sunday_gives}
+use Rattle.werktag.proofs.Reasons.{reason_is, weekend_shut, weekday_open, saturday_gives, sunday_gives}
 use Rattle.werktag.proofs.Signed.{from_distance}
 
 -- has_fixed_day: a bit of the month is the list's word on the day, for every month and day
@@ -52,7 +53,7 @@ by_bit m d x a b e =
     let t = run_at (λ m. run (bits_agree m) 32 0) 13 0 all_agree m (omega arith) (omega arith) in
     rw e (agree_is (bit_of m d) (is_fixed m d) (run_at (bits_agree m) 32 0 t d (omega arith) (omega arith)))
 
--- feast_at: its distance is computed in 64 bits
+-- feast: its distance is computed in 64 bits
 module _ (i e : ℕ) (a b : ℤ) (p : a ≡ pos i) (q : b ≡ pos e) (h : i ≤ last + 3) (g : e ≤ last + 3) where
   pub distance_fits : SFits w64 (back a -ℤ back b)
   distance_fits =
@@ -60,6 +61,12 @@ module _ (i e : ℕ) (a b : ℤ) (p : a ≡ pos i) (q : b ≡ pos e) (h : i ≤ 
 
   pub distance_is : back (back a -ℤ back b) ≡ pos i -ℤ pos e
   distance_is = to_z-of_z distance_fits ∙ rw (p, q, back_pos i (omega arith), back_pos e (omega arith))
+
+-- feast: s is the Easter that the month of the day i needs
+pub feast_by_parts :
+    (n i j s : ℕ) → i ≡ n → j ≡ i → s ≡ easter_for (date_of i).year (date_of i).month →
+    feast_place j s ≡ feast_place n (easter_for (date_of n).year (date_of n).month)
+feast_by_parts n i j s at e v = rw (e, v, at)
 
 -- bdew_mako_holiday: the feasts by their distance from Easter, and where there is none
 abbrev feasts : ℤ → List Bool
@@ -122,25 +129,8 @@ no_feast_far n i h =
 
 -- d is the date of the day j, and i that day
 module _ (j i : ℕ) (d : Date) (k : (d ≡ date_of j) × (j ≤ last)) (e : j ≡ i) where
-  here : d ≡ date_of i
-  here = k.0 ∙ ap date_of e
-
-  h : i ≤ last
-  h = omega (arith, k.1)
-
   valid : Valid d
-  valid = (tag_date i d here h).0
-
-  index : days_before d ≡ i
-  index = (tag_date i d here h).1
-
-  -- a place in the list for the day by its own date
-  own : (n r : ℕ) → i ≡ n → r ≡ place_from 3 (holiday_tests i d) → r ≡ holiday_place n
-  unfolding holiday_place
-  own n r q p = p ∙ ap (λ (x : Date). place_from 3 (holiday_tests i x)) here ∙ ap holiday_place q
-
-  abbrev l : Bool
-  l = is_leap d.year
+  valid = (tag_date j d k.0 k.1).0
 
   pub year_from : 1996 ≤ d.year
   year_from = valid.from
@@ -152,74 +142,92 @@ module _ (j i : ℕ) (d : Date) (k : (d ≡ date_of j) × (j ≤ last)) (e : j �
   month_to = valid.month_to
 
   pub day_to : d.day ≤ 31
-  day_to = omega (arith, valid.day_to, len_le l d.month)
+  day_to = omega (arith, valid.day_to, len_le (is_leap d.year) d.month)
 
-  before_march : (n : ℕ) → d.month < 3 → 0 ≡ place_from n (feast_tests i d.year)
-  before_march n m =
-      let s = start_suc (days_in_month l) d.month in
-      let t = start_mono (days_in_month l) (suc d.month) 3 (omega arith) in
-      no_feast_before n i d.year
-      (omega (arith, s, t, index, valid.day_to, (starts l).0, (easter_between d.year year_from year_to).0))
+  -- n is the day of the test, and i its tag
+  module _ (n : ℕ) (at : i ≡ n) where
+    pub here : d ≡ date_of n
+    here = k.0 ∙ ap date_of (e ∙ at)
 
-  after_june : (n : ℕ) → 6 < d.month → 0 ≡ place_from n (feast_tests i d.year)
-  after_june n m =
-      let t = start_mono (days_in_month l) 7 d.month (omega arith) in
-      no_feast_after n i d.year
-      (omega (arith, t, index, (starts l).1, (easter_between d.year year_from year_to).1))
-
-  -- the feasts by the distance from the Easter that the month needs
-  by_known :
-      (n : ℕ) →
-      place_from n (feasts (pos i -ℤ pos (easter_for d.year d.month))) ≡ place_from n (feast_tests i d.year)
-  unfolding easter_for
-  by_known n =
-      elim (dec_lt d.month 3) [
-        | yes m ↦ rw (lt-leb 3 d.month m) (no_feast_far n i h ∙ before_march n m)
-        | no m ↦ elim (dec_lt 6 d.month) [
-          | yes o ↦
-              rw (le-leb 3 d.month (omega arith), lt-leb d.month 6 o) (no_feast_far n i h ∙ after_june n o)
-          | no o ↦
-              rw (le-leb 3 d.month (omega arith), le-leb d.month 6 (omega arith))
-              (ap (place_from n) (by_distance i d.year))
-        ]
-      ]
-
-  pub by_table :
-      (n : ℕ) (a : Bool) (r : ℕ) → i ≡ n → a ≡ is_fixed d.month d.day → a ≡ true →
-      r ≡ fixed_place d.month d.day → r ≡ holiday_place n
-  unfolding fixed_place
-  by_table n a r q u f p =
-      own n r q (p ∙ sym (place_left 3 (fixed_tests d.month d.day) _ (has_place d.month d.day (sym u ∙ f))))
+    pub by_month_bit :
+        (x : ℕ) → x ≡ fixed_bits d.month → eqb (x / 2 ^ d.day % 2) 1 ≡ is_fixed (date_of n).month (date_of n).day
+    by_month_bit x q =
+        by_bit d.month d.day x month_to day_to q ∙ ap (λ (y : Date). is_fixed y.month y.day) here
 
 pub ruleset tag_rules = (year_from, year_to, month_to, day_to)
 
--- n is the day of the test, and i its tag, which consists of j and d; w and s are its weekday and its Easter; a and b
--- are what the tests for a fixed day and for Buß- und Bettag returned
-module _
-    (n i j : ℕ) (d : Date) (w s : ℕ) (at : i ≡ n) (e : j ≡ i) (k : (d ≡ date_of j) × (j ≤ last))
-    (v : (w ≡ weekday i) × (s ≡ easter_for (date_of i).year (date_of i).month) × (s ≤ last + 3))
-    (a b : Bool) (u : a ≡ is_fixed d.month d.day) (x : b ≡ is_buss_und_bettag d.month d.day w) (f : a ≡ false) where
-  rest : (y : Bool) → b ≡ y → place_from 16 (y ∷ feast_tests i d.year) ≡ place_from 3 (holiday_tests i d)
-  rest y z =
-      rw (← v.0, ← x, z)
-      (sym (place_right 3 (fixed_tests d.month d.day) (y ∷ feast_tests i d.year) (omega arith)
-      (no_place d.month d.day (sym u ∙ f))))
+pub ruleset fixed_rules = (month_to, day_to, by_month_bit)
 
-  pub at_bettag : b ≡ true → 16 ≡ holiday_place n
-  unfolding place_from
-  at_bettag z = own j i d k e n 16 at (rest true z)
+-- the day with index n, and d its date
+module _ (n : ℕ) where
+  abbrev d : Date
+  d = date_of n
 
-  easter : s ≡ easter_for d.year d.month
-  easter = v.1 ∙ ap (λ (x : Date). easter_for x.year x.month) (sym (here j i d k e))
+  module _ (h : n ≤ last) where
+    dated : Valid d
+    dated = (index_date n h).0
 
-  pub at_feast_day : (r : ℕ) → b ≡ false → r ≡ feast_place j s → r ≡ holiday_place n
-  unfolding feast_place place_from
-  at_feast_day r z p =
-      own j i d k e n r at
-      ((rw e at p) ∙ ap (λ (y : ℕ). place_from 17 (feasts (pos i -ℤ pos y))) easter ∙ by_known j i d k e 17
-      ∙ rest false z)
+    index : days_before d ≡ n
+    index = (index_date n h).1
 
-pub ruleset holiday_rules = (tag_rules, by_table, at_bettag, at_feast_day)
+    abbrev l : Bool
+    l = is_leap d.year
+
+    before_march : (m : ℕ) → d.month < 3 → 0 ≡ place_from m (feast_tests n d.year)
+    before_march m g =
+        let s = start_suc (days_in_month l) d.month in
+        let t = start_mono (days_in_month l) (suc d.month) 3 (omega arith) in
+        no_feast_before m n d.year
+        (omega (arith, s, t, index, dated.day_to, (starts l).0, (easter_between d.year dated.from dated.to).0))
+
+    after_june : (m : ℕ) → 6 < d.month → 0 ≡ place_from m (feast_tests n d.year)
+    after_june m g =
+        let t = start_mono (days_in_month l) 7 d.month (omega arith) in
+        no_feast_after m n d.year
+        (omega (arith, t, index, (starts l).1, (easter_between d.year dated.from dated.to).1))
+
+    -- the feasts by the distance from the Easter that the month needs
+    by_known :
+        (m : ℕ) →
+        place_from m (feasts (pos n -ℤ pos (easter_for d.year d.month))) ≡ place_from m (feast_tests n d.year)
+    unfolding easter_for
+    by_known m =
+        elim (dec_lt d.month 3) [
+          | yes g ↦ rw (lt-leb 3 d.month g) (no_feast_far m n h ∙ before_march m g)
+          | no g ↦ elim (dec_lt 6 d.month) [
+            | yes o ↦
+                rw (le-leb 3 d.month (omega arith), lt-leb d.month 6 o) (no_feast_far m n h ∙ after_june m o)
+            | no o ↦
+                rw (le-leb 3 d.month (omega arith), le-leb d.month 6 (omega arith))
+                (ap (place_from m) (by_distance n d.year))
+          ]
+        ]
+
+  -- a and b are what the tests for a fixed day and for Buß- und Bettag returned
+  module _ (a : Bool) (u : a ≡ is_fixed d.month d.day) where
+    pub by_table : (r : ℕ) → a ≡ true → r ≡ fixed_place d.month d.day → r ≡ holiday_place n
+    unfolding fixed_place holiday_place
+    by_table r f p =
+        p ∙ sym (place_left 3 (fixed_tests d.month d.day) _ (has_place d.month d.day (sym u ∙ f)))
+
+    module _ (b : Bool) (x : b ≡ is_buss_und_bettag d.month d.day (weekday n)) (f : a ≡ false) where
+      rest : (y : Bool) → b ≡ y → place_from 16 (y ∷ feast_tests n d.year) ≡ holiday_place n
+      unfolding holiday_place
+      rest y z =
+          rw (← x, z)
+          (sym (place_right 3 (fixed_tests d.month d.day) (y ∷ feast_tests n d.year) (omega arith)
+          (no_place d.month d.day (sym u ∙ f))))
+
+      pub at_bettag : b ≡ true → 16 ≡ holiday_place n
+      unfolding place_from
+      at_bettag z = rest true z
+
+      pub at_feast_day :
+          (r : ℕ) → b ≡ false → r ≡ feast_place n (easter_for d.year d.month) → n ≤ last → r ≡ holiday_place n
+      unfolding feast_place place_from
+      at_feast_day r z p h = p ∙ by_known h 17 ∙ rest false z
+
+pub ruleset holiday_rules = (by_table, at_bettag, at_feast_day)
 
 -- reason, for the day with index i, whose weekday is w
 pub on_saturday : (cal : HolidayCalendar) (i w : ℕ) → w ≡ weekday i → w ≡ 5 → 1 ≡ reason cal i
@@ -241,7 +249,7 @@ on_weekday_lem BdewMaKo i r h p =
 pub before_saturday : (w : ℕ) → (w ≡ 5 → ⊥) → w ≤ 5 → w < 5
 before_saturday w n h = omega (arith, n)
 
-pub ruleset reason_rules = (tag_rules, on_saturday, on_sunday, before_saturday)
+pub ruleset reason_rules = (on_saturday, on_sunday, before_saturday)
 
 -- is_feast: the days from Karfreitag on, as distances from Easter Sunday
 dist : ℕ → ℤ
@@ -306,45 +314,40 @@ module _ (i e : ℕ) where
 
 pub ruleset is_feast_rules = (feast_before, feast_after, feast_by_bit)
 
--- bdew_mako_open, likewise
-by_place : (i r : ℕ) → weekday i < 5 → r ≡ holiday_place i → eqb r 0 ≡ is_werktag BdewMaKo i
-by_place i r l p = rw (on_weekday_lem BdewMaKo i r l p) (reason_zero BdewMaKo i)
+-- is_bdew_mako_holiday
+not_same : (a b : Bool) → not a ≡ not b → a ≡ b
+not_same true true e = refl
+not_same true false e = sym e
+not_same false true e = sym e
+not_same false false e = refl
 
-closed : (i r : ℕ) → weekday i < 5 → r ≡ holiday_place i → (r ≡ 0 → ⊥) → false ≡ is_werktag BdewMaKo i
-closed i r l p n = sym (ne_eqb r 0 n) ∙ by_place i r l p
+feast_known : (n : ℕ) → n ≤ last → at_feast n (easter_for (d n).year (d n).month) ≡ is_easter_feast n (d n).year
+unfolding at_feast is_easter_feast any
+feast_known n h =
+    let y = feasts (pos n -ℤ pos (easter_for (d n).year (d n).month)) in
+    not_same _ _
+    (sym (place_zero 17 y (omega arith)) ∙ ap (λ (x : ℕ). eqb x 0) (by_known n h 17)
+    ∙ place_zero 17 (feast_tests n (d n).year) (omega arith))
 
-pub shut_fixed :
-    (n i j : ℕ) (d : Date) (at : i ≡ n) (e : j ≡ i) (k : (d ≡ date_of j) × (j ≤ last)) (a : Bool) →
-    a ≡ is_fixed d.month d.day → a ≡ true → weekday n < 5 → false ≡ is_werktag BdewMaKo n
-unfolding fixed_place
-shut_fixed n i j d at e k a u f l =
-    let r = place_from 3 (fixed_tests d.month d.day) in
-    closed n r l (by_table j i d k e n a r at u f refl) (has_place d.month d.day (sym u ∙ f))
+module _ (n : ℕ) (a : Bool) (u : a ≡ is_fixed (d n).month (d n).day) where
+  pub listed_fixed : a ≡ true → true ≡ is_listed n (d n)
+  listed_fixed f = rw (← u, f)
 
-module _
-    (n i j : ℕ) (d : Date) (w s : ℕ) (at : i ≡ n) (e : j ≡ i) (k : (d ≡ date_of j) × (j ≤ last))
-    (v : (w ≡ weekday i) × (s ≡ easter_for (date_of i).year (date_of i).month) × (s ≤ last + 3))
-    (a b : Bool) (u : a ≡ is_fixed d.month d.day) (x : b ≡ is_buss_und_bettag d.month d.day w) (f : a ≡ false)
-    (l : weekday n < 5) where
-  pub shut_bettag : b ≡ true → false ≡ is_werktag BdewMaKo n
-  shut_bettag z = closed n 16 l (at_bettag n i j d w s at e k v a b u x f z) (λ y. omega arith)
+  module _ (b : Bool) (x : b ≡ is_buss_und_bettag (d n).month (d n).day (weekday n)) (f : a ≡ false) where
+    pub listed_bettag : b ≡ true → true ≡ is_listed n (d n)
+    listed_bettag z = rw (← u, f, ← x, z)
 
-  pub open_is : (c : Bool) → b ≡ false → c ≡ at_feast j s → not c ≡ is_werktag BdewMaKo n
-  unfolding at_feast any feast_place
-  open_is c z p =
-      let y = feasts (pos j -ℤ pos s) in
-      let r = place_from 17 y in
-      ap not p ∙ sym (place_zero 17 y (omega arith))
-      ∙ by_place n r l (at_feast_day n i j d w s at e k v a b u x f r z refl)
+    pub listed_feast :
+        (c : Bool) → b ≡ false → c ≡ at_feast n (easter_for (d n).year (d n).month) → n ≤ last → c ≡ is_listed n (d n)
+    listed_feast c z p h = rw (← u, f, ← x, z) (p ∙ feast_known n h)
 
-pub ruleset open_rules = (tag_rules, shut_fixed, shut_bettag, open_is)
+pub ruleset listed_rules = (listed_fixed, listed_bettag, listed_feast)
 
 -- is_open_weekday
-pub of_list : (cal : HolidayCalendar) (i : ℕ) (r : Bool) → r ≡ is_werktag BdewMaKo i → r ≡ is_werktag cal i
-of_list BdewMaKo i r p = p
+pub by_list : (cal : HolidayCalendar) (i : ℕ) (r : Bool) → weekday i < 5 → r ≡ is_listed i (date_of i) →
+    not r ≡ is_werktag cal i
+by_list BdewMaKo i r l p = ap not p ∙ sym (weekday_open i l)
 
 -- is_werktag
 pub on_weekend : (cal : HolidayCalendar) (i w : ℕ) → w ≡ weekday i → 5 ≤ w → false ≡ is_werktag cal i
 on_weekend cal i w e h = sym (weekend_shut cal i (omega (arith, e)))
-
-pub ruleset werktag_rules = (tag_rules, on_weekend)

@@ -1,5 +1,5 @@
 -- Why a day is closed: the first that holds of what closes a day, by its number.
---   reason_number r   = the number of the reason r
+--   reason_number r   = the number of the reason r; a Werktag has none, and 0 stands for that
 --   place_from n bs   = the place of the first test in bs that holds, places being counted from n on; 0 if none holds
 --   weekend_tests i   = whether the day with index i is a Saturday, a Sunday
 --   fixed_tests m d   = whether day d of month m is the first of the fixed days, the second ..
@@ -20,7 +20,7 @@ use mathlib.Core.List.{List, [], ◌∷◌, ◌++◌, map}
 use Rattle.datum.specs.declared.Date.{Date}
 use Rattle.datum.specs.Calendar.{year_start, year_of, date_in, date_of, weekday}
 use Rattle.werktag.specs.declared.feiertage.Reason.{Reason}
-use Rattle.werktag.specs.declared.feiertage.Reason.TheVariants.{Werktag, Samstag, Sonntag, Neujahr}
+use Rattle.werktag.specs.declared.feiertage.Reason.TheVariants.{Samstag, Sonntag, Neujahr}
 use Rattle.werktag.specs.declared.feiertage.Reason.TheVariants.{HeiligeDreiKoenige, Frauentag, TagDerArbeit}
 use Rattle.werktag.specs.declared.feiertage.Reason.TheVariants.{MariaeHimmelfahrt, Weltkindertag}
 use Rattle.werktag.specs.declared.feiertage.Reason.TheVariants.{TagDerDeutschenEinheit, Reformationstag}
@@ -34,7 +34,6 @@ use Rattle.werktag.specs.declared.HolidayCalendar.TheVariants.{BdewMaKo}
 use Rattle.werktag.specs.Werktag.{eq_z, is_day, fixed_days, is_buss_und_bettag, is_feast, easter_offsets}
 
 abbrev pub reason_number : Reason → ℕ
-reason_number Werktag = 0
 reason_number Samstag = 1
 reason_number Sonntag = 2
 reason_number Neujahr = 3

@@ -1,19 +1,23 @@
 // The holidays of the list by name, and the days that they fall on.
-ghost use Rattle.std.specs.Prelude.{◌≡◌, ◌+◌, ◌≤◌};
+ghost use Rattle.std.specs.Prelude.{◌≡◌, ◌≤◌};
+ghost use Rattle.std.specs.Option.{option_map_or};
 ghost use Rattle.zaehlung.specs.Walk.{last};
+ghost use Rattle.datum.specs.Calendar.{date_of, weekday};
+ghost use Rattle.werktag.specs.Easter.{easter_for};
 ghost use Rattle.werktag.specs.Werktag.{is_fixed, is_buss_und_bettag, at_feast};
 ghost use Rattle.werktag.specs.Reason.{reason_number, fixed_place, fixed_bits, feast_place};
+
+use super::Kalendertag;
 
 const NOVEMBER: u8 = 11;
 
 /// Weekdays, Monday being 0.
 const WEDNESDAY: u32 = 2;
 
-/// Why a day is closed: '0 Werktag, 1 Saturday, 2 Sunday, 3 to 22 the holidays', in the order of what closes a day: the
-/// weekend, then the list.
+/// Why a day is closed: '1 Saturday, 2 Sunday, 3 to 22 the holidays', in the order of what closes a day: the weekend,
+/// then the list. A Werktag has no reason; an answer has 0 for it.
 #[derive(Clone, Copy, PartialEq, Eq)]
 pub enum Reason {
-    Werktag = 0,
     Samstag = 1,
     Sonntag = 2,
     Neujahr = 3,
@@ -92,47 +96,6 @@ fn fixed_bits(month: u8) -> u32
     }
 }
 
-/// Whether a day is one of the fixed days, without a look at the tables: they are searched where there is something to
-/// find.
-#[tactic(auto, using(crate::proofs::Rules::by_bit))]
-pub(crate) fn has_fixed_day(month: u8, day: u8) -> bool
-    requires { (month ≤ 12) × (day ≤ 31) }
-    ensures { result ≡ is_fixed month day }
-{
-    (fixed_bits(month) >> (day as u32)) % 2 == 1
-}
-
-/// The reason of a fixed day.
-pub(crate) fn fixed_day(month: u8, day: u8) -> Reason
-    ensures { reason_number result ≡ fixed_place month day }
-{
-    FIXED_DAYS
-        .iter()
-        .find(|&&(m, d, _)| d == day && m == month)
-        .map_or(Reason::Werktag, |&(_, _, reason)| reason)
-}
-
-/// Buß- und Bettag: 'the Wednesday from 16 to 22 November'.
-#[tactic(auto, unfolding(crate::specs::Werktag::is_buss_und_bettag))]
-pub(crate) fn is_buss_und_bettag(month: u8, day: u8, weekday: u32) -> bool
-    ensures { result ≡ is_buss_und_bettag month day weekday }
-{
-    month == NOVEMBER && (16..=22).contains(&day) && weekday == WEDNESDAY
-}
-
-/// The reason of a feast, by the day's distance from Easter Sunday.
-#[tactic(auto, using(crate::proofs::Rules::distance_fits))]
-pub(crate) fn feast_at(index: u32, easter: u32) -> Reason
-    requires { (index ≤ last) × (easter ≤ last + 3) }
-    ensures { reason_number result ≡ feast_place index easter }
-{
-    let distance = i64::from(index) - i64::from(easter);
-    EASTER_FEASTS
-        .iter()
-        .find(|&&(offset, _)| distance == offset)
-        .map_or(Reason::Werktag, |&(_, reason)| reason)
-}
-
 /// The feasts that move with Easter, 2 to the power of the days from Karfreitag for each: its offset, and 2.
 const FEAST_BITS: u64 = 4618443616891699209;
 
@@ -140,14 +103,64 @@ const KARFREITAG_BEFORE: u32 = 2;
 
 const FRONLEICHNAM_BIT: u32 = 62;
 
-/// Whether a day lies at one of the offsets from Easter Sunday, without a look at the table.
-#[tactic(auto, using(crate::proofs::Rules::is_feast_rules))]
-pub(crate) fn is_feast(index: u32, easter: u32) -> bool
-    requires { (index ≤ last) × (easter ≤ last + 3) }
-    ensures { result ≡ at_feast index easter }
-{
-    let Some(after) = (index + KARFREITAG_BEFORE).checked_sub(easter) else {
-        return false;
-    };
-    after <= FRONLEICHNAM_BIT && (FEAST_BITS >> after) % 2 == 1
+impl Kalendertag {
+    /// Whether it is one of the fixed days, without a look at the tables: they are searched where there is something to
+    /// find.
+    #[tactic(auto, using(crate::proofs::Rules::fixed_rules))]
+    pub(crate) fn has_fixed_day(&self) -> bool
+        ensures { result ≡ is_fixed (date_of self.now).month (date_of self.now).day }
+    {
+        let tag = &self.tag;
+        let date = &tag.date;
+        (fixed_bits(date.month) >> (date.day as u32)) % 2 == 1
+    }
+
+    /// Its reason as a fixed day, if it is one.
+    pub(crate) fn fixed_day(&self) -> Option<Reason>
+        ensures { option_map_or reason_number result 0 ≡ fixed_place (date_of self.now).month (date_of self.now).day }
+    {
+        let tag = &self.tag;
+        let date = &tag.date;
+        FIXED_DAYS
+            .iter()
+            .find(|&&(month, day, _)| day == date.day && month == date.month)
+            .map(|&(_, _, reason)| reason)
+    }
+
+    /// Buß- und Bettag: 'the Wednesday from 16 to 22 November'.
+    #[tactic(auto, unfolding(crate::specs::Werktag::is_buss_und_bettag))]
+    pub(crate) fn is_buss_und_bettag(&self) -> bool
+        ensures { result ≡ is_buss_und_bettag (date_of self.now).month (date_of self.now).day (weekday self.now) }
+    {
+        let tag = &self.tag;
+        let date = &tag.date;
+        date.month == NOVEMBER && (16..=22).contains(&date.day) && self.wday == WEDNESDAY
+    }
+
+    /// Its reason as a feast, if it is one, by its distance from Easter Sunday.
+    #[tactic(auto, using(crate::proofs::Rules::distance_fits))]
+    pub(crate) fn feast(&self) -> Option<Reason>
+        ensures { (option_map_or reason_number result 0
+            ≡ feast_place self.now (easter_for (date_of self.now).year (date_of self.now).month)) × (self.now ≤ last) }
+    {
+        let tag = &self.tag;
+        let distance = i64::from(tag.index) - i64::from(self.easter);
+        EASTER_FEASTS
+            .iter()
+            .find(|&&(offset, _)| distance == offset)
+            .map(|&(_, reason)| reason)
+    }
+
+    /// Whether it lies at one of the offsets from Easter Sunday, without a look at the table.
+    #[tactic(auto, using(crate::proofs::Rules::is_feast_rules))]
+    pub(crate) fn is_feast(&self) -> bool
+        ensures { (result ≡ at_feast self.now (easter_for (date_of self.now).year (date_of self.now).month))
+            × (self.now ≤ last) }
+    {
+        let tag = &self.tag;
+        let Some(after) = (tag.index + KARFREITAG_BEFORE).checked_sub(self.easter) else {
+            return false;
+        };
+        after <= FRONLEICHNAM_BIT && (FEAST_BITS >> after) % 2 == 1
+    }
 }

@@ -4,11 +4,12 @@
 #![tactic(auto)]
 
 ghost use Rattle.std.specs.Prelude.{◌≡◌, ◌+◌, ◌≤◌, ◌<◌};
+ghost use Rattle.std.specs.Option.{option_map_or};
 ghost use Rattle.werktag.specs.declared.HolidayCalendar.TheVariants.{BdewMaKo};
 ghost use Rattle.zaehlung.specs.Walk.{last};
-ghost use Rattle.datum.specs.Calendar.{first_year, last_year, weekday};
+ghost use Rattle.datum.specs.Calendar.{first_year, last_year, date_of, weekday};
 ghost use Rattle.werktag.specs.Easter.{easter_index, easter_for};
-ghost use Rattle.werktag.specs.Werktag.{is_werktag};
+ghost use Rattle.werktag.specs.Werktag.{is_listed, is_werktag};
 ghost use Rattle.werktag.specs.Reason.{reason_number, holiday_place, reason};
 
 mod feiertage;
@@ -27,8 +28,8 @@ const MARCH: u8 = 3;
 
 const JUNE: u8 = 6;
 
-/// A day so far past the calendar that none lies at an offset from it. A number, and no `None`: the day test needs no
-/// branch for it.
+/// A day so far past the calendar that none lies at an offset from it. A number, and no `None`: each test of a feast
+/// would take an `Option` apart, and be longer.
 const NO_EASTER: u32 = LAST + 3;
 
 /// Whose holidays count. A holiday of any one Land counts everywhere. There is one list, which is matched all the same:
@@ -80,14 +81,17 @@ impl Model for Kalendertag {
 }
 
 impl Kalendertag {
-    /// The one time that a day's weekday and Easter are looked up.
+    /// A day whose weekday is known: its Easter is looked up.
+    #[inline(always)]
     #[tactic(auto, using(crate::proofs::Rules::tag_rules))]
-    pub fn of(tag: Tag) -> Kalendertag
+    pub fn new(tag: Tag, wday: u32) -> Kalendertag
+        requires { wday ≡ weekday tag }
         ensures { result ≡ tag }
     {
+        // In line: at a call a struct goes through memory, which the day test would feel.
         Kalendertag {
             tag,
-            wday: datum::weekday(tag.index),
+            wday,
             easter: easter_for(tag.date.year, tag.date.month),
         }
     }
@@ -147,74 +151,66 @@ pub fn easter_for(year: u16, month: u8) -> u32
 /// Bettag, the feasts that move with Easter, by one distance from it. Of two holidays on one date it is the lower:
 /// 1 May 2008, Tag der Arbeit and Christi Himmelfahrt, is `TagDerArbeit`.
 #[tactic(auto, using(crate::proofs::Rules::holiday_rules))]
-fn bdew_mako_holiday(day: Kalendertag) -> Reason
-    ensures { reason_number result ≡ holiday_place day }
+fn bdew_mako_holiday(day: Kalendertag) -> Option<Reason>
+    ensures { option_map_or reason_number result 0 ≡ holiday_place day }
 {
-    let tag = day.tag;
-    let date = tag.date;
-    if feiertage::has_fixed_day(date.month, date.day) {
-        return feiertage::fixed_day(date.month, date.day);
+    if day.has_fixed_day() {
+        return day.fixed_day();
     }
-    if feiertage::is_buss_und_bettag(date.month, date.day, day.wday) {
-        return Reason::BussUndBettag;
+    if day.is_buss_und_bettag() {
+        return Some(Reason::BussUndBettag);
     }
-    feiertage::feast_at(tag.index, day.easter)
+    day.feast()
 }
 
-/// Why a weekday is closed.
+/// Why a weekday is closed, if it is.
 ///
 /// 18 November 2026 is `BussUndBettag`.
 #[tactic(auto, using(crate::proofs::Rules::on_weekday_lem))]
-fn reason_of_weekday(day: Kalendertag, cal: HolidayCalendar) -> Reason
+fn reason_of_weekday(day: Kalendertag, cal: HolidayCalendar) -> Option<Reason>
     requires { weekday day < 5 }
-    ensures { reason_number result ≡ reason cal day }
+    ensures { option_map_or reason_number result 0 ≡ reason cal day }
 {
     match cal {
         HolidayCalendar::BdewMaKo => bdew_mako_holiday(day),
     }
 }
 
-/// Why a day is closed, by the list's order. The weekend goes before a holiday.
+/// Why a day is closed, if it is, by the list's order. The weekend goes before a holiday.
 ///
 /// 18 November 2026 is `BussUndBettag`; 8 March 2026, a Sunday and Internationaler Frauentag, is `Sonntag`.
 #[tactic(auto, using(crate::proofs::Rules::reason_rules))]
-pub fn reason(tag: Tag, cal: HolidayCalendar) -> Reason
-    ensures { reason_number result ≡ reason cal tag }
+pub fn reason(tag: Tag, cal: HolidayCalendar) -> Option<Reason>
+    ensures { option_map_or reason_number result 0 ≡ reason cal tag }
 {
     let wday = datum::weekday(tag.index);
     if wday == SATURDAY {
-        return Reason::Samstag;
+        return Some(Reason::Samstag);
     }
     if SATURDAY < wday {
-        return Reason::Sonntag;
+        return Some(Reason::Sonntag);
     }
-    let easter = easter_for(tag.date.year, tag.date.month);
-    reason_of_weekday(Kalendertag { tag, wday, easter }, cal)
+    reason_of_weekday(Kalendertag::new(tag, wday), cal)
 }
 
-/// Whether a weekday is none of the list's holidays.
-#[tactic(auto, using(crate::proofs::Rules::open_rules))]
-fn bdew_mako_open(day: Kalendertag) -> bool
-    requires { weekday day < 5 }
-    ensures { result ≡ is_werktag BdewMaKo day }
+/// Whether a day is one of the list's holidays, on a weekend too.
+#[tactic(auto, using(crate::proofs::Rules::listed_rules))]
+fn is_bdew_mako_holiday(day: Kalendertag) -> bool
+    ensures { result ≡ is_listed day (date_of day) }
 {
-    let tag = day.tag;
-    let date = tag.date;
-    !feiertage::has_fixed_day(date.month, date.day)
-        && !feiertage::is_buss_und_bettag(date.month, date.day, day.wday)
-        && !feiertage::is_feast(tag.index, day.easter)
+    day.has_fixed_day() || day.is_buss_und_bettag() || day.is_feast()
 }
 
 /// Whether a weekday is a Werktag: what a walk asks, that goes from day to day. It needs no reason, and so no table.
 ///
 /// 18 November 2026, Buß- und Bettag, is none.
-#[tactic(auto, using(crate::proofs::Rules::of_list))]
+#[tactic(auto, using(crate::proofs::Rules::by_list))]
 pub fn is_open_weekday(day: Kalendertag, cal: HolidayCalendar) -> bool
     requires { weekday day < 5 }
     ensures { result ≡ is_werktag cal day }
 {
     match cal {
-        HolidayCalendar::BdewMaKo => bdew_mako_open(day),
+        HolidayCalendar::BdewMaKo => !is_bdew_mako_holiday(day),
     }
 }
 
@@ -223,7 +219,7 @@ pub fn is_open_weekday(day: Kalendertag, cal: HolidayCalendar) -> bool
 /// A holiday of any one Land counts everywhere, and 24 and 31 December count as holidays.
 ///
 /// 18 November 2026, Buß- und Bettag, is none; 7 April 2026, the Tuesday after Easter, is one.
-#[tactic(auto, using(crate::proofs::Rules::werktag_rules))]
+#[tactic(auto, using(crate::proofs::Rules::on_weekend))]
 pub fn is_werktag(tag: Tag, cal: HolidayCalendar) -> bool
     ensures { result ≡ is_werktag cal tag }
 {
@@ -231,8 +227,7 @@ pub fn is_werktag(tag: Tag, cal: HolidayCalendar) -> bool
     if SATURDAY <= wday {
         return false;
     }
-    let easter = easter_for(tag.date.year, tag.date.month);
-    is_open_weekday(Kalendertag { tag, wday, easter }, cal)
+    is_open_weekday(Kalendertag::new(tag, wday), cal)
 }
 
 /// Whether a day that is known by its index alone is a Werktag: it is taken apart here.

@@ -7,7 +7,8 @@ ghost use Rattle.wiedergabe.specs.Replay.{equal_of, Replays};
 
 use std::io;
 
-/// What one stored case comes to.
+/// What one stored case comes to. No `Option<bool>`: an unreadable case is counted, and is not the missing one that
+/// ends a replay.
 #[derive(Clone, Copy, Debug, PartialEq, Eq, Drop)]
 pub enum Replayed {
     /// The answer is the one that is expected.

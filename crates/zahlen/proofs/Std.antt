@@ -2,16 +2,17 @@
 --   le2_std, le4_std, le8_std : to_le_bytes writes le2, le4, le8
 --   u16_std, u32_std, u64_std : from_le_bytes reads u16_from, u32_from, u64_from
 --   bits_std, signed_std      : a cast keeps the bits, as bits_of and signed_of do
---   i64_made                  : eight bytes as a signed number, for `i64_at`
+--   i64_made                  : the eight bytes from a place on as a signed number, for `i64_at`
 -- Assumes nothing.
-use Prim.Native.Nat.{ℕ, ◌+◌}
+use Prim.Native.Nat.{ℕ, ◌+◌, ◌<◌}
 use mathlib.Core.Path.{◌≡◌, refl, ap, ◌∙◌}
 use mathlib.Core.List.{List, [], ◌∷◌}
 use native.Mathlib.Omega.{arith}
 use native.Mathlib.Decide.{dec_lt}
-use native.Mathlib.Nat.{add_assoc}
+use native.Mathlib.Nat.{add-zero, add_assoc}
 use lib.IntN.{ℤ, pos, negsuc}
-use lib.ListN.{get_or}
+use lib.ListN.{get_or, take, drop}
+use Rattle.std.proofs.lemmas.List.{get_or-take, get_or-drop}
 use borrow.Author.Tests.{lt-ltb, le-ltb}
 use mir.Syntax.{w16, w32, w64}
 use mir.Val.{SFits, to_z, of_z}
@@ -55,11 +56,26 @@ signed_std x =
     ]
 
 pub i64_made :
-    (l : List ℕ) (i : ℕ) (z : ℤ) →
-    z ≡ to_z w64 (from_le_bytes w64
-    (get_or l i 0 ∷ get_or l (i + 1) 0 ∷ get_or l (i + 2) 0 ∷ get_or l (i + 3) 0 ∷
-    get_or l (i + 4) 0 ∷ get_or l (i + 5) 0 ∷ get_or l (i + 6) 0 ∷ get_or l (i + 7) 0 ∷ [])) →
-    SFits w64 z → to_z w64 (of_z w64 z) ≡ i64_at l i
-i64_made l i z e f =
+    (l b : List ℕ) (i : ℕ) (z : ℤ) → b ≡ take 8 (drop i l) → z ≡ to_z w64 (from_le_bytes w64 b) → SFits w64 z →
+    to_z w64 (of_z w64 z) ≡ i64_at l i
+i64_made l b i z p e f =
     to_z-of_z f ∙ e ∙ signed_std _
-    ∙ ap signed_of (simp (add_assoc i 4 1, add_assoc i 4 2, add_assoc i 4 3) (omega arith))
+    ∙ ap signed_of
+    (rw p
+    (simp (
+      at 0 (omega arith),
+      at 1 (omega arith),
+      at 2 (omega arith),
+      at 3 (omega arith),
+      at 4 (omega arith),
+      at 5 (omega arith),
+      at 6 (omega arith),
+      at 7 (omega arith),
+      add-zero,
+      add_assoc i 4 1,
+      add_assoc i 4 2,
+      add_assoc i 4 3,
+    ) (omega arith)))
+  where
+    at : (k : ℕ) → k < 8 → get_or (take 8 (drop i l)) k 0 ≡ get_or l (i + k) 0
+    at k h = get_or-take 8 (drop i l) k 0 h ∙ get_or-drop i l k 0

@@ -6,8 +6,8 @@ returns-then-not-is_date c = no_month_date c.args.date c.args.n _ c.is_date.ensu
 
 pub returns-in-Some : goal.returns-in-Some
 returns-in-Some c =
-    month_first c.args.date c.args.n _ c.is_date.ensures c.if-not-is_date.false _ c.months_or_first_date.ensures.0 _ _ _
-    c.months_or_first_date.ensures.1 c.in-Some.is c.zero_date.ensures c.spanned.ensures
+    month_first c.args.date c.args.n _ c.is_date.ensures c.if-not-is_date.false _ c.months_or_first_date.ensures.0 _ _
+    c.months_or_first_date.ensures.1 c.in-Some.is c.spanned.ensures
 
 pub returns-in-None : goal.returns-in-None
 returns-in-None c =

@@ -2,6 +2,7 @@
 -- unsigned one.
 -- Assumes nothing.
 use Rattle.datum.proofs.MonthRules.{early, late, in_range_lem, year_cast, month_fits, month_cast, within, on_it}
+use Rattle.std.specs.Prelude.{Some}
 use Rattle.datum.proofs.on_month.Goals as goal
 
 pub returns-then-year-lt-FIRST_YEAR_64 : goal.returns-then-year-lt-FIRST_YEAR_64
@@ -49,4 +50,4 @@ returns c =
     let s = c.split_months-at in
     let r = in_range_lem c.args.t s.result.year s.result.month c.args.day c.ranges.t s.ensures.0 s.ensures.1
     c.if-year-lt-FIRST_YEAR_64.false c.if-year-gt-LAST_YEAR_64.false in
-    on_it r c.args.day c.in_month.result c.in_month.ensures
+    on_it r c.args.day (Some c.in_month.result) c.in_month.ensures

@@ -1,5 +1,5 @@
 use Prim.Native.Nat.{◌≤◌}
-use mathlib.Core.Path.{ap, ◌∙◌}
+use mathlib.Core.Path.{ap}
 use native.Mathlib.Omega.{arith}
 use Rattle.datum.specs.Calendar.{weekday}
 use Rattle.gang.proofs.Rules.{zurueck_weekday, zurueck_edge, zurueck_turn}
@@ -7,7 +7,7 @@ use Rattle.gang.proofs.ZurueckRichtung.next_weekday.Goals as goal
 
 pub returns-then-index-days-clause-turn : goal.returns-then-index-days-clause-turn
 returns-then-index-days-clause-turn c =
-    let w = c.day.invariant.0 ∙ ap weekday (c.day.view_is ∙ c.stand.view_is) in
+    let w = ap weekday c.stand.view_is in
     zurueck_edge c.args.stand 0 _ _ w c.from_weekday-days.ensures.0 (omega (
       arith,
       c.index.ensures.0,
@@ -16,7 +16,7 @@ returns-then-index-days-clause-turn c =
 
 pub returns-clause-found : goal.returns-clause-found
 returns-clause-found c =
-    let w = c.day.invariant.0 ∙ ap weekday (c.day.view_is ∙ c.stand.view_is) in
+    let w = ap weekday c.stand.view_is in
     let k = c.from_weekday-days.ensures in
     let h : c.from_weekday-days.result ≤ c.args.stand = omega (arith, c.index.ensures.0, c.if-index-days.false) in
     let r = c.back.ensures in
@@ -24,7 +24,7 @@ returns-clause-found c =
 
 pub returns-clause-turn : goal.returns-clause-turn
 returns-clause-turn c =
-    let w = c.day.invariant.0 ∙ ap weekday (c.day.view_is ∙ c.stand.view_is) in
+    let w = ap weekday c.stand.view_is in
     let k = c.from_weekday-days.ensures in
     zurueck_turn c.args.stand c.back.result _ _ w k.0 k.1 (omega (
       arith,
