@@ -1,5 +1,5 @@
 // What the calls answer that give verdicts, spans, deregistrations and the 13:00 announcement: document 01, refusals 2,
-// 3, 4, 7 and 8.
+// 3, 4, 7 and 8. There is one function for each call of C, named as it.
 #![tactic(auto)]
 
 ghost use Rattle.std.specs.Prelude.{◌≡◌, ok_or, slice_get};
@@ -193,6 +193,7 @@ fn month_span_answer(date: Date, n: u32) -> Result<Answer, Refusal>
     if !datum::is_date(date) {
         return Err(Refusal::NoDate);
     }
+    // Matched: with `ok_or` and `?` the proof did not close.
     match datum::monate::months_or_first_date(date, n) {
         Some(first) => Ok(antwortsatz::spanned(0, first, None)),
         None => Err(Refusal::LeavesCalendar),

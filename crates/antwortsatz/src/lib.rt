@@ -48,7 +48,8 @@ impl Refusal {
 /// The answer's length in bytes.
 pub const ANSWER_BYTES: usize = 32;
 
-/// The fields of an answer, in the order of their bytes. A field that a call does not use is 0, as all are by default.
+/// The fields of an answer, in the order of their bytes. The kind is a number: each call has kinds of its own, and the
+/// C interface has a byte for them. A field that a call does not use is 0, as all are by default.
 /// Bytes 20 to 31 are three words, named by their first byte: a date is one, and a number, a signed one's bits or an
 /// instant have room there too.
 #[derive(Clone, Copy, Default)]
@@ -62,8 +63,8 @@ pub struct Answer {
     pub word28: u32,
 }
 
-/// An answer of all its fields, in the order of their bytes, for who has every one: the named answers below fill the
-/// fields that they have by name. The day test of 3 April 2026, Karfreitag, is `filled(17, 0, 0, 0, 0, 0, 0)`.
+/// An answer of all its fields, in the order of their bytes, under the definition's name: each answer below fills the
+/// fields that it has by name. The day test of 3 April 2026, Karfreitag, is `filled(17, 0, 0, 0, 0, 0, 0)`.
 pub fn filled(
     kind: u8,
     count: u32,

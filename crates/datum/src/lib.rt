@@ -90,6 +90,7 @@ pub fn days_in_month(leap: bool, month: u8) -> u8
 
 /// Days of the year before a month; month 13 stands for the year's end. If February had 30 days, a year of 367 days
 /// would spread over its months evenly but for rounding.
+#[tactic(auto, using(crate::proofs::Rules::start_rules))]
 fn month_start(leap: bool, month: u32) -> u32
     requires { (1 ≤ month) × (month ≤ 13) }
     ensures { (result ≡ month_start leap month) × (result ≤ 366) }
@@ -120,8 +121,8 @@ pub fn year_start(k: u32) -> u32
     365 * k + (y / 4 + y / 400 - y / 100) - LEAP_DAYS_BEFORE
 }
 
-/// A year, counted from 1996, and a day of it, counted from 0. Both are numbers: they are added and compared, and types
-/// of them would be taken apart at each use.
+/// A year, counted from 1996, and a day of it, counted from 0. Both are numbers, as is a year by its own number: they
+/// are added and compared, and types of them would be taken apart at each use.
 #[derive(Clone, Copy)]
 pub struct YearDay {
     pub year: u32,
@@ -131,6 +132,7 @@ pub struct YearDay {
 /// The year of a day. The guess, 146,097 days in 400 years, is never proved to be good: the two loops set it right.
 ///
 /// Day 59, 29 February 1996, is day 59 of year 0; day 366, 1 January 1997, is day 0 of year 1.
+#[tactic(auto, using(crate::proofs::Rules::year_rules))]
 pub fn year_of(index: u32) -> YearDay
     requires { index ≤ last }
     ensures { (result.year ≡ (year_of index).0) × (result.day ≡ (year_of index).1) × (result.year ≤ 903) }
@@ -179,6 +181,7 @@ fn month_of(leap: bool, day: u32) -> u32
 /// Only a date of the range may be given; `index_of` takes any three numbers.
 ///
 /// 1 January 1996 is 0, 1 March 2026 is 11,017, 31 December 2899 is 330,179.
+#[tactic(auto, using(crate::proofs::Rules::days_rules))]
 pub fn days_before(date: Date) -> u32
     requires { is_date date ≡ true }
     ensures { (result ≡ days_before date) × (result ≤ last) }
@@ -212,6 +215,7 @@ pub fn is_date(date: Date) -> bool
 /// `None` for three numbers that are no date of the range, as 29 February 2026.
 ///
 /// 1 January 1996 is 0, 31 December 2899 is 330,179.
+#[tactic(auto, using(crate::proofs::Rules::index_rules))]
 pub fn index_of(date: Date) -> Option<u32>
     ensures { result ≡ index_of date }
 {
@@ -222,6 +226,7 @@ pub fn index_of(date: Date) -> Option<u32>
 }
 
 /// The parts of an index's date: its year, the month in it and the day in that.
+#[tactic(auto, using(crate::proofs::Rules::date_rules))]
 fn date_parts(index: u32) -> Date
     requires { index ≤ last }
     ensures { result ≡ date_of index }
@@ -240,6 +245,7 @@ fn date_parts(index: u32) -> Date
 
 /// A date as one number, which a call returns in a register; three parts would go through memory. By arithmetic, as its
 /// definition is: through bytes it would be as long. The word of a date in an answer is alike by chance.
+#[tactic(auto, using(crate::proofs::Rules::number_rules))]
 fn date_number(index: u32) -> u32
     requires { index ≤ last }
     ensures { result ≡ number_of (date_of index) }
@@ -262,6 +268,7 @@ fn date_from(number: u32) -> Date
 /// The date of an index of the calendar: `index_of` undoes it.
 ///
 /// 0 is 1 January 1996, 59 is 29 February 1996, 330,179 is 31 December 2899.
+#[tactic(auto, using(crate::proofs::Rules::number_rules))]
 pub fn date_of(index: u32) -> Date
     requires { index ≤ last }
     ensures { result ≡ date_of index }
@@ -339,11 +346,13 @@ fn ordinal_of(date: Date) -> i64
     months as i64
 }
 
-/// The date n months later, BGB §188: 'a day the target month lacks becomes its last'.
+/// The date n months later, BGB §188: 'a day the target month lacks becomes its last'. Later and earlier are a line
+/// each under the original's names; both ask for a month from 1 on and no more, so no type of a date says it.
 ///
 /// `None` where the year passes 2899. With n = 0 the date itself.
 ///
 /// 31 January 2026 and 1 month is 28 February 2026; 15 November 2026 and 3 months is 15 February 2027.
+#[tactic(auto, using(crate::proofs::MonthRules::shift_rules))]
 pub fn add_months(date: Date, n: u32) -> Option<Date>
     requires { 1 ≤ date.month }
     ensures { result ≡ add_months date n }
@@ -356,6 +365,7 @@ pub fn add_months(date: Date, n: u32) -> Option<Date>
 /// `None` where the year lies before 1996, or before year 0. With n = 0 the date itself.
 ///
 /// 31 March 2024 less 1 month is 29 February 2024; 15 February 2027 less 3 months is 15 November 2026.
+#[tactic(auto, using(crate::proofs::MonthRules::shift_rules))]
 pub fn subtract_months(date: Date, n: u32) -> Option<Date>
     requires { 1 ≤ date.month }
     ensures { result ≡ subtract_months date n }

@@ -25,6 +25,7 @@ fn to_step(shifted: Option<Date>) -> Option<Tag>
 /// `None` past the calendar's last day. With `n = 0` the day itself.
 ///
 /// From 31 January 2026 with 1: 28 February 2026.
+#[tactic(auto, using(crate::proofs::MonthStepRules::month_rules))]
 pub fn months_later(day: Tag, n: u32) -> Option<Tag>
     ensures { result ≡ months_later day n }
 {
@@ -36,6 +37,7 @@ pub fn months_later(day: Tag, n: u32) -> Option<Tag>
 /// `None` before the calendar's first day. With `n = 0` the day itself.
 ///
 /// From 31 March 2024 with 1: 29 February 2024.
+#[tactic(auto, using(crate::proofs::MonthStepRules::month_rules))]
 pub fn months_earlier(day: Tag, n: u32) -> Option<Tag>
     ensures { result ≡ months_earlier day n }
 {

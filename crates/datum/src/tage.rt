@@ -66,6 +66,7 @@ pub fn tag_of(date: Date) -> Option<Tag>
 /// The year of a day, counted from 1996, and the day in it, counted from 0.
 ///
 /// Of 1 March 2026: year 30, day 59.
+#[tactic(auto, using(crate::proofs::TagRules::year_rules))]
 pub fn year_day(tag: Tag) -> YearDay
     ensures { (result.year ≡ (year_of tag).0) × (result.day ≡ (year_of tag).1) × (result.year ≤ 903) × (tag ≤ last) }
 {
@@ -93,6 +94,7 @@ pub fn new_year(tag: Tag) -> Tag
 /// The days of a date's month.
 ///
 /// Of 29 February 1996: 29.
+#[tactic(auto, using(crate::proofs::TagRules::length_rule))]
 pub fn month_length(date: Date) -> u8
     ensures { (result ≡ days_in_month (is_leap date.year) date.month) × (result ≤ 31) }
 {
@@ -102,6 +104,7 @@ pub fn month_length(date: Date) -> u8
 /// The day `days` days later, in the same month.
 ///
 /// From 28 December 2026 with 3: 31 December.
+#[tactic(auto, using(crate::proofs::TagRules::later_rules))]
 pub fn later_in_month(tag: Tag, days: u8) -> Tag
     requires near { (days ≤ 28) × (tag + days ≤ last) }
     requires in_month { (date_of tag).day + days ≤ days_in_month (is_leap (date_of tag).year) (date_of tag).month }
@@ -247,9 +250,11 @@ pub fn day_before(tag: Tag) -> Tag
     earlier(tag, 1)
 }
 
-/// The date of an index, from a day that may be near: up to four weeks from it nothing is taken apart anew.
+/// The date of an index, from a day that may be near: up to four weeks from it nothing is taken apart anew. Public, and
+/// asked by no step here: a step gives its day with the date beside it (docs/DECISIONS.md 96).
 ///
 /// Of 10,961 from 30 December 2025: 4 January 2026.
+#[tactic(auto, using(crate::proofs::TagRules::near_rules))]
 pub fn date_near(tag: Tag, index: u32) -> Date
     requires { index ≤ last }
     ensures { result ≡ date_of index }

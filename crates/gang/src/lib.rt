@@ -11,14 +11,13 @@ ghost use Rattle.werktag.specs.declared.HolidayCalendar.{HolidayCalendar};
 ghost use Rattle.werktag.specs.Werktag.{is_werktag};
 ghost use Rattle.gang.specs.Stand.{to_weekday, from_weekday};
 
+use datum::WEEK;
 use datum::tage::Tag;
 use std::marker::Model;
 use werktag::{HolidayCalendar, Kalendertag};
 use zaehlung::LAST;
 
-/// The days of a week, and weekdays, Monday being 0.
-const WEEK: u32 = 7;
-
+/// Weekdays, Monday being 0.
 const MONDAY: u32 = 0;
 
 const FRIDAY: u32 = 4;
@@ -135,7 +134,7 @@ pub fn stand_at(tag: Tag) -> Stand
 }
 
 /// Some days on, up to a week: in the month by the parts that are known, past its last day with the next month's length
-/// and Easter.
+/// and Easter. No type says 'up to a week': the days come from a weekday, or are 1.
 pub fn on(stand: Stand, days: u8) -> Stand
     requires { (days ≤ 7) × (stand + days ≤ last) }
     ensures { result ≡ stand + days }

@@ -3,7 +3,8 @@
 // Each call's promise is one equation: the number that it returns and the slices as it leaves them are what a
 // definition gives, which stands in specs/ of `antworten`, `antworten_frist`, `antworten_vorlauf`, `antworten_frage` or
 // `antworten_portfolio`. Refusal 1 is found before an answer is asked for: a host that lends a wrong length should not
-// pay for one. Every other is decided in the answer, but 9, which is a file's.
+// pay for one. Every other is decided in the answer, but 9, which is a file's. There is one function for each call of
+// C, named as it: dates, clocks and instants come as numbers there, and are made here.
 #![tactic(auto)]
 
 mod fragen;

@@ -91,7 +91,7 @@ impl IndexedYear {
         requires { day ≤ last }
         ensures { result ≡ eqb self.now.year (year_of day).0 }
     {
-        self.first <= day && day < self.after
+        (self.first..self.after).contains(&day)
     }
 
     /// The Werktage up to and with a day of the year.

@@ -127,6 +127,7 @@ fn after_today(t: Tag, n: u32, cal: HolidayCalendar) -> u32
     requires { 1 ≤ n }
     ensures { result ≡ n - bit (is_werktag cal t) }
 {
+    // At least one, asked and no type made of it: each caller has a branch of its own for 0.
     if werktag::is_werktag(t, cal) {
         return n - 1;
     }

@@ -1,5 +1,5 @@
 // Numbers that stand as bytes at a place, lowest byte first. Three sizes, a line each over the bytes from there on: a
-// trait over them would be longer.
+// trait over them would be longer. A place beside its bytes: a slice from there on would be cut at each call.
 #![tactic(auto)]
 
 ghost use Rattle.std.specs.Prelude.{◌≡◌, ◌+◌, ◌≤◌, length, take, drop};

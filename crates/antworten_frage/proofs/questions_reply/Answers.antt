@@ -1,3 +1,5 @@
+-- `antworten_frage::questions_reply`: the answers that the check does not find by itself.
+-- Assumes nothing.
 use mathlib.Core.Path.{◌∙◌}
 use native.Mathlib.Omega.{arith}
 use Prim.Native.Nat.{◌*◌}

@@ -1,3 +1,5 @@
+-- `antworten_vorlauf::month_span_answer` meets its contract: M(n, date) on the date's parts is that on its day.
+-- Assumes nothing.
 use Rattle.antworten_vorlauf.proofs.Rules.{no_month_date, month_first, month_gone}
 use Rattle.antworten_vorlauf.proofs.month_span_answer.Goals as goal
 

@@ -8,9 +8,6 @@ use Rattle.datum.proofs.date_parts.Goals as goal
 pub month_of-month-requires : goal.month_of-month-requires
 month_of-month-requires c = search (rules, date_rules)
 
-pub overflow_sub-result : goal.overflow_sub-result
-overflow_sub-result c = search (rules, date_rules)
-
 pub overflow_add-result-2 : goal.overflow_add-result-2
 overflow_add-result-2 c = search (rules, date_rules)
 

@@ -1,7 +1,7 @@
 -- `datum::on_month` meets its contract: after the two tests the number is a natural one, where signed division is the
 -- unsigned one.
 -- Assumes nothing.
-use Rattle.datum.proofs.MonthRules.{early, late, in_range_lem, year_cast, month_fits, month_cast, within, on_it}
+use Rattle.datum.proofs.MonthRules.{early, late, in_range_lem, month_fits, month_cast, within, on_it}
 use Rattle.std.specs.Prelude.{Some}
 use Rattle.datum.proofs.on_month.Goals as goal
 
@@ -16,13 +16,6 @@ returns-then-year-gt-LAST_YEAR_64 c =
     let s = c.split_months-at in
     late c.args.t s.result.year s.result.month c.args.day c.ranges.t s.ensures.0 s.ensures.1
     c.if-year-gt-LAST_YEAR_64.true
-
-pub overflow_cast-year : goal.overflow_cast-year
-overflow_cast-year c =
-    let s = c.split_months-at in
-    let r = in_range_lem c.args.t s.result.year s.result.month c.args.day c.ranges.t s.ensures.0 s.ensures.1
-    c.if-year-lt-FIRST_YEAR_64.false c.if-year-gt-LAST_YEAR_64.false in
-    year_cast r
 
 pub overflow_add-month : goal.overflow_add-month
 overflow_add-month c =

@@ -1,3 +1,5 @@
+-- `gang::at_werktag`: the answer that the check does not find by itself.
+-- Assumes nothing.
 use mathlib.Core.Path.{◌∙◌}
 use borrow.Author.Tests.{lt-leb}
 use Rattle.gang.proofs.Rules.{weekend_closed}

@@ -1,3 +1,5 @@
+-- `gang::on`: the answer that the check does not find by itself.
+-- Assumes nothing.
 use borrow.Author.Rules.{rules}
 use Rattle.gang.proofs.Rules.{stand_rules}
 use Rattle.gang.proofs.on.Goals as goal

@@ -1,3 +1,5 @@
+-- `gang::werktage_between`: the answers that the check does not find by itself.
+-- Assumes nothing.
 use Prim.Native.Nat.{◌-◌, ◌≤◌}
 use mathlib.Core.Path.{ap, ◌∙◌}
 use native.Mathlib.Omega.{arith}

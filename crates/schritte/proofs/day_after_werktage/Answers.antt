@@ -1,3 +1,5 @@
+-- `schritte::day_after_werktage`: the answers that the check does not find by itself.
+-- Assumes nothing.
 use mathlib.Core.Path.{◌∙◌}
 use native.Mathlib.Omega.{arith}
 use Rattle.werktag.specs.Werktag.{is_werktag}

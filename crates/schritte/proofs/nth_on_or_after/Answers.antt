@@ -1,3 +1,5 @@
+-- `schritte::nth_on_or_after`: the answer that the check does not find by itself.
+-- Assumes nothing.
 use mathlib.Core.Path.{ap, ◌∙◌}
 use Rattle.werktag.specs.Werktag.{is_werktag}
 use Rattle.std.specs.Prelude.{Some}

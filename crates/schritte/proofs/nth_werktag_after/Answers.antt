@@ -1,3 +1,5 @@
+-- `schritte::nth_werktag_after`: the answers that the check does not find by itself.
+-- Assumes nothing.
 use native.Mathlib.Omega.{arith}
 use Rattle.schritte.proofs.Rules.{after_none, after_edge_day, after_weekday}
 use Rattle.schritte.proofs.nth_werktag_after.Goals as goal

@@ -5,11 +5,5 @@ use borrow.Author.Rules.{rules}
 use Rattle.datum.proofs.MonthStepRules.{month_rules}
 use Rattle.datum.proofs.monate.months_later.Goals as goal
 
-pub add_months-requires : goal.add_months-requires
-add_months-requires c = search (rules, month_rules)
-
 pub to_step-requires : goal.to_step-requires
 to_step-requires c = search (rules, month_rules)
-
-pub returns : goal.returns
-returns c = search (rules, month_rules)

@@ -1,3 +1,5 @@
+-- `datum::monate::months_or_first`: the answers that the check does not find by itself.
+-- Assumes nothing.
 use borrow.Author.Rules.{rules}
 use mathlib.Core.Path.{ap, ◌∙◌}
 use Rattle.datum.specs.Monate.{M}

@@ -1,3 +1,5 @@
+-- `datum::tage::earlier_in_month`: the answers that the check does not find by itself.
+-- Assumes nothing.
 use Prim.Native.Nat.{◌-◌}
 use mathlib.Core.Path.{ap}
 use Rattle.datum.proofs.TagRules.{tag_back_in_month, same_month}

@@ -1,3 +1,5 @@
+-- `datum::tage::into_month_before`: the answers that the check does not find by itself.
+-- Assumes nothing.
 use borrow.Author.Rules.{rules}
 use Rattle.datum.proofs.TagRules.{earlier_rules, tag_back_in_year, tag_back_over_year}
 use Rattle.datum.proofs.tage.into_month_before.Goals as goal

@@ -1,3 +1,5 @@
+-- `datum::tage::into_next_month`: the sums that the rule set of its attribute does not find, by itself.
+-- Assumes nothing.
 use borrow.Author.Rules.{rules}
 use Rattle.datum.proofs.TagRules.{later_rules}
 use Rattle.datum.proofs.tage.into_next_month.Goals as goal
@@ -7,12 +9,3 @@ overflow_add-day c = search (rules, later_rules)
 
 pub overflow_add-result-2 : goal.overflow_add-result-2
 overflow_add-result-2 c = search (rules, later_rules)
-
-pub invariant_of-result : goal.invariant_of-result
-invariant_of-result c = search (rules, later_rules)
-
-pub invariant_of-result-2 : goal.invariant_of-result-2
-invariant_of-result-2 c = search (rules, later_rules)
-
-pub returns : goal.returns
-returns c = search (rules, later_rules)

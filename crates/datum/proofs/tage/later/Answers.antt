@@ -1,3 +1,5 @@
+-- `datum::tage::later`: the answer that the check does not find by itself.
+-- Assumes nothing.
 use Rattle.datum.proofs.TagRules.{day_of_fits}
 use Rattle.datum.proofs.tage.later.Goals as goal
 

@@ -1,3 +1,5 @@
+-- `datum::tage::new_year`: the answers that the check does not find by itself.
+-- Assumes nothing.
 use borrow.Author.Rules.{rules}
 use mathlib.Core.Path.{sym, ap, ◌∙◌}
 use Rattle.datum.specs.Calendar.{year_of}

@@ -1,3 +1,5 @@
+-- `datum::tage::tag_at`: the answer that the check does not find by itself.
+-- Assumes nothing.
 use borrow.Author.Rules.{rules}
 use Rattle.datum.proofs.Rules.{parts_are}
 use Rattle.datum.proofs.tage.tag_at.Goals as goal

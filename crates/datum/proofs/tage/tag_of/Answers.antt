@@ -1,3 +1,5 @@
+-- `datum::tage::tag_of`: the answer that the check does not find by itself.
+-- Assumes nothing.
 use mathlib.Core.Path.{sym, ◌∙◌}
 use Rattle.datum.proofs.TagRules.{tag_of_rule}
 use Rattle.datum.proofs.tage.tag_of.Goals as goal

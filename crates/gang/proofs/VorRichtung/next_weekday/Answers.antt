@@ -1,3 +1,5 @@
+-- `gang::Vor::next_weekday`: the answers that the check does not find by itself.
+-- Assumes nothing.
 use mathlib.Core.Path.{ap, ◌∙◌}
 use native.Mathlib.Omega.{arith}
 use Rattle.datum.specs.Calendar.{weekday}

@@ -1,3 +1,5 @@
+-- `schritte::index::werktage_before`: the answers that the check does not find by itself.
+-- Assumes nothing.
 use Rattle.schritte.proofs.IndexRules.{more_at, more_in_year, more_fits, sum_at, sum_most, sum_fits}
 use Rattle.schritte.proofs.index.werktage_before.Goals as goal
 

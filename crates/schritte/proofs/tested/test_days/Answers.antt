@@ -1,3 +1,5 @@
+-- `schritte::tested::test_days`: the answer that the check does not find by itself.
+-- Assumes nothing.
 use mathlib.Core.Path.{ap, ◌∙◌}
 use native.Mathlib.Omega.{arith}
 use mir.Val.{bool_byte}
