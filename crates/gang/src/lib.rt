@@ -135,12 +135,12 @@ pub fn stand_at(tag: Tag) -> Stand
 
 /// Some days on, up to a week: in the month by the parts that are known, past its last day with the next month's length
 /// and Easter. No type says 'up to a week': the days come from a weekday, or are 1.
-// In line: at a call a stand goes through memory, which the walk that tests each day would feel.
 #[inline(always)]
 pub fn on(stand: Stand, days: u8) -> Stand
     requires { (days ≤ 7) × (stand + days ≤ last) }
     ensures { result ≡ stand + days }
 {
+    // In line: at a call a stand goes through memory, which the walk that tests each day would feel.
     let day = stand.day;
     let tag = day.tag;
     let wday = weekday_later(day, days);
