@@ -1,5 +1,6 @@
 -- The definitions against values from outside: a file of document 01's cases I (twice), L, E (verdict and span), G and
--- H. Each question and each answer is 32 bytes by the papers' layouts, with the numbers that the case's sentence has.
+-- H. Each question and each answer is 32 bytes by the papers' layouts, with the numbers that the case's sentence has; the
+-- margins are document 02's, F-6: −1 and −3.
 -- Assumes nothing.
 use Prim.Native.Nat.{ℕ}
 use mathlib.Core.List.{List, [], ◌∷◌}
@@ -20,6 +21,7 @@ use Rattle.fristen.specs.Fristen.{instant_later, contrl_seconds, in_window, tole
 use Rattle.fristen.specs.Fristen.{contrl_due_at, nth_werktag_at}
 use Rattle.fristen.specs.FristShape.{same_day_at, due_at_of}
 use Rattle.vorlauf.specs.Verdict.{closes, reaches, check_of}
+use Rattle.vorlauf.specs.Margin.{margin_of, judgement_of}
 use Rattle.vorlauf.specs.Span.{span_of}
 use Rattle.zahlen.specs.TwosComplement.{bits_in, signed_in}
 use Rattle.antwortsatz.specs.Answers.{of_kind, at_instant, judged, spanned}
@@ -58,11 +60,11 @@ answers =
     0 ∷ 0 ∷ 0 ∷ 0 ∷ 0 ∷ 0 ∷ 0 ∷ 0 ∷ 48 ∷ 212 ∷ 100 ∷ 105 ∷ 0 ∷ 0 ∷ 0 ∷ 0 ∷
     0 ∷ 0 ∷ 0 ∷ 0 ∷ 0 ∷ 0 ∷ 0 ∷ 0 ∷ 0 ∷ 0 ∷ 0 ∷ 0 ∷ 0 ∷ 0 ∷ 0 ∷ 0 ∷
     0 ∷ 1 ∷ 0 ∷ 0 ∷ 0 ∷ 0 ∷ 0 ∷ 0 ∷ 0 ∷ 0 ∷ 0 ∷ 0 ∷ 0 ∷ 0 ∷ 0 ∷ 0 ∷
-    0 ∷ 0 ∷ 0 ∷ 0 ∷ 234 ∷ 7 ∷ 1 ∷ 12 ∷ 0 ∷ 0 ∷ 0 ∷ 0 ∷ 0 ∷ 0 ∷ 0 ∷ 0 ∷
+    0 ∷ 0 ∷ 0 ∷ 0 ∷ 234 ∷ 7 ∷ 1 ∷ 12 ∷ 0 ∷ 0 ∷ 0 ∷ 0 ∷ 255 ∷ 255 ∷ 255 ∷ 255 ∷
     0 ∷ 0 ∷ 0 ∷ 0 ∷ 0 ∷ 0 ∷ 0 ∷ 0 ∷ 0 ∷ 0 ∷ 0 ∷ 0 ∷ 0 ∷ 0 ∷ 0 ∷ 0 ∷
     0 ∷ 0 ∷ 0 ∷ 0 ∷ 234 ∷ 7 ∷ 1 ∷ 13 ∷ 0 ∷ 0 ∷ 0 ∷ 0 ∷ 0 ∷ 0 ∷ 0 ∷ 0 ∷
     0 ∷ 1 ∷ 0 ∷ 0 ∷ 2 ∷ 0 ∷ 0 ∷ 0 ∷ 0 ∷ 0 ∷ 0 ∷ 0 ∷ 0 ∷ 0 ∷ 0 ∷ 0 ∷
-    0 ∷ 0 ∷ 0 ∷ 0 ∷ 234 ∷ 7 ∷ 2 ∷ 28 ∷ 0 ∷ 0 ∷ 0 ∷ 0 ∷ 0 ∷ 0 ∷ 0 ∷ 0 ∷
+    0 ∷ 0 ∷ 0 ∷ 0 ∷ 234 ∷ 7 ∷ 2 ∷ 28 ∷ 0 ∷ 0 ∷ 0 ∷ 0 ∷ 253 ∷ 255 ∷ 255 ∷ 255 ∷
     0 ∷ 2 ∷ 0 ∷ 0 ∷ 0 ∷ 0 ∷ 0 ∷ 0 ∷ 0 ∷ 0 ∷ 0 ∷ 0 ∷ 0 ∷ 0 ∷ 0 ∷ 0 ∷
     0 ∷ 0 ∷ 0 ∷ 0 ∷ 0 ∷ 0 ∷ 0 ∷ 0 ∷ 0 ∷ 0 ∷ 0 ∷ 0 ∷ 0 ∷ 0 ∷ 0 ∷ 0 ∷
     []
@@ -75,7 +77,7 @@ unfolding start at is_leap days_in_month year_len is_date index_of date_in date_
     easter_sunday easter_index any is_fixed is_buss_und_bettag is_easter_feast is_werktag
     is_before in_limits read_instant last_sunday year_at offset_at berlin_at berlin_midnight
     instant_later contrl_seconds in_window toleranz_in formatumstellung_toleranz contrl_due_at nth_werktag_at
-    same_day_at due_at_of closes reaches check_of span_of bits_in signed_in
+    same_day_at due_at_of closes reaches check_of margin_of judgement_of span_of bits_in signed_in
     of_kind at_instant judged spanned bytes_of question_of is_file records
     contrl_due_at_answer frist_due_at_answer vorlauf_check_answer vorlauf_span_answer
     clock_of_seconds question_answer answers_to questions_reply

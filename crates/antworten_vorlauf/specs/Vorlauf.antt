@@ -22,7 +22,7 @@ use Rattle.datum.specs.Calendar.{index_of}
 use Rattle.berlin.specs.declared.Sparte.{Sparte}
 use Rattle.berlin.specs.Berlin.{berlin_date, tag_des_beginns}
 use Rattle.vorlauf.specs.declared.VorlaufShape.{VorlaufShape}
-use Rattle.vorlauf.specs.Verdict.{check_of}
+use Rattle.vorlauf.specs.Margin.{judgement_of}
 use Rattle.vorlauf.specs.Span.{span_of}
 use Rattle.vorlauf.specs.Abmeldung.{fuer_of, abmeldung_check_of}
 use Rattle.ankuendigung.specs.Ankuendigung.{eog_ankuendigung_fristgerecht}
@@ -37,14 +37,14 @@ use Rattle.berlin.specs.declared.Moment.{Moment}
 unfoldable pub vorlauf_check_answer : (ℕ → Bool) → ℕ → ℕ → ℕ → Date → Date → Result Answer Refusal
 vorlauf_check_answer w x n m d e =
     on_code (vorlauf_shapes n m) x (λ s. on_date (index_of d) (λ t. on_date (index_of e) (λ a.
-    verdict_answer (check_of w s t a))))
+    verdict_answer (judgement_of w s t a))))
 
 -- the transmission day is the Berlin day in both Sparten; only the anchor goes by the Sparte
 unfoldable pub check_at_instants :
     (ℕ → Bool) → VorlaufShape → Sparte → Option Moment → Option Moment → Result Answer Refusal
 check_at_instants w s q k l =
     on_instant k (λ r. on_instant l (λ b. on_beginn (tag_des_beginns b q) (λ a.
-    verdict_answer (check_of w s (berlin_date r) a))))
+    verdict_answer (judgement_of w s (berlin_date r) a))))
 
 unfoldable pub vorlauf_check_at_answer :
     (ℕ → Bool) → ℕ → ℕ → ℕ → ℕ → Option Moment → Option Moment → Result Answer Refusal

@@ -1,9 +1,9 @@
 -- What the calls for verdicts, spans and deregistrations share: their codes in order, and what was found as an answer.
 --   vorlauf_shapes n m = the lead-time shapes with the counts n and m, in the order of their codes
 --   eeg_marks          = the EEG marks in the order of their codes
---   judged_answer v    = a verdict
---   verdict_answer v   = the same, or refusal 8
---   abmeldung_answer v = a deregistration's verdict, or kind 3
+--   judged_answer j    = a verdict with its margin
+--   verdict_answer j   = the same, or refusal 8
+--   abmeldung_answer j = that of a deregistration, or kind 3
 --   ends_answer p      = a span; span_answer p = the same, or refusal 8
 --   case_code v        = the code of a deregistration's case
 --   announced_kind x   = the kind of yes, no or neither
@@ -11,7 +11,7 @@
 -- Source: document 01, 'Host calls and their refusals': 'Codes count from 0 in the Rust's order of its cases; an EEG
 -- mark is 0 no, 1 yes, 2 unknown'.
 -- Assumes nothing.
-use Rattle.std.specs.Prelude.{ℕ, List, [], ◌∷◌, Option, Some, None, Result, Ok, Err}
+use Rattle.std.specs.Prelude.{ℕ, ℤ, List, [], ◌∷◌, Option, Some, None, Result, Ok, Err}
 use Rattle.datum.specs.Calendar.{date_of}
 use Rattle.vorlauf.specs.declared.VorlaufShape.{VorlaufShape}
 use Rattle.vorlauf.specs.declared.VorlaufShape.TheVariants.{LatestWerktageBefore, WindowWerktageBefore}
@@ -53,19 +53,21 @@ vorlauf_shapes n m =
 abbrev pub eeg_marks : List Eeg
 eeg_marks = Nein ∷ Ja ∷ Unbekannt ∷ []
 
--- 'Kind 0 Ok, 1 TooLate, 2 TooEarly'; 'A verdict has its Werktage in the count and its earliest date in the date'
-abbrev pub judged_answer : VorlaufVerdict → Answer
-judged_answer InTime = judged 0 0 None
-judged_answer (TooLate b y) = judged 1 b (Some (date_of y))
-judged_answer (TooEarly b) = judged 2 b None
+-- 'Kind 0 Ok, 1 TooLate, 2 TooEarly'; 'A verdict has its Werktage in the count and its earliest date in the date';
+-- document 02, F-6: 'Bytes 28 to 31 of a verdict's answer become a signed number'
+abbrev pub judged_answer : VorlaufVerdict × ℤ → Answer
+judged_answer (InTime, m) = judged 0 0 None m
+judged_answer (TooLate b y, m) = judged 1 b (Some (date_of y)) m
+judged_answer (TooEarly b, m) = judged 2 b None m
 
--- '8, a date that the Rust computes for this call leaves the calendar'
-abbrev pub verdict_answer : Option VorlaufVerdict → Result Answer Refusal
-verdict_answer v = on_read LeavesCalendar v (λ x. Ok (judged_answer x))
+-- '8, a date that the Rust computes for this call leaves the calendar'; F-6: '8 also if the former', the last permitted
+-- transmission day, 'leaves the calendar'
+abbrev pub verdict_answer : Option (VorlaufVerdict × ℤ) → Result Answer Refusal
+verdict_answer j = on_read LeavesCalendar j (λ x. Ok (judged_answer x))
 
--- '3 no shape'
-abbrev pub abmeldung_answer : Result VorlaufVerdict NoVerdict → Result Answer Refusal
-abmeldung_answer (Ok v) = Ok (judged_answer v)
+-- '3 no shape'; 'No shape and refusals leave zero.'
+abbrev pub abmeldung_answer : Result (VorlaufVerdict × ℤ) NoVerdict → Result Answer Refusal
+abmeldung_answer (Ok j) = Ok (judged_answer j)
 abmeldung_answer (Err NoShape) = Ok (of_kind 3)
 abmeldung_answer (Err Outside) = Err LeavesCalendar
 

@@ -21,7 +21,7 @@ use antwortsatz::{Answer, Refusal};
 use berlin::{Moment, Sparte};
 use datum::Date;
 use vorlauf::abmeldung::{AbmeldungVorlauf, Eeg, NoVerdict};
-use vorlauf::{Span, VorlaufShape, VorlaufVerdict};
+use vorlauf::{Judgement, Span, VorlaufShape, VorlaufVerdict};
 use werktag::HolidayCalendar;
 
 // The shape of a code and its counts, in the Rust's order of its cases. No `TryFrom`: the codes are the C interface's,
@@ -61,34 +61,35 @@ fn eeg_of(code: u8) -> Result<Eeg, Refusal>
     }
 }
 
-// Kind, Werktage and date of a verdict.
-fn judged_answer(verdict: VorlaufVerdict) -> Answer
-    ensures { result ≡ judged_answer verdict }
+// Kind, Werktage and date of a verdict, with its margin.
+fn judged_answer(judgement: Judgement) -> Answer
+    ensures { result ≡ judged_answer judgement }
 {
+    let (verdict, margin) = judgement;
     match verdict {
-        VorlaufVerdict::Ok => antwortsatz::judged(0, 0, None),
+        VorlaufVerdict::Ok => antwortsatz::judged(0, 0, None, margin),
         VorlaufVerdict::TooLate {
             shortfall_wt,
             earliest_possible,
-        } => antwortsatz::judged(1, shortfall_wt, Some(earliest_possible.date)),
-        VorlaufVerdict::TooEarly { excess_wt } => antwortsatz::judged(2, excess_wt, None),
+        } => antwortsatz::judged(1, shortfall_wt, Some(earliest_possible.date), margin),
+        VorlaufVerdict::TooEarly { excess_wt } => antwortsatz::judged(2, excess_wt, None, margin),
     }
 }
 
 // The same, or refusal 8.
-fn verdict_answer(found: Option<VorlaufVerdict>) -> Result<Answer, Refusal>
+fn verdict_answer(found: Option<Judgement>) -> Result<Answer, Refusal>
     ensures { result ≡ verdict_answer found }
 {
-    let verdict = found.ok_or(Refusal::LeavesCalendar)?;
-    Ok(judged_answer(verdict))
+    let judgement = found.ok_or(Refusal::LeavesCalendar)?;
+    Ok(judged_answer(judgement))
 }
 
-// A deregistration's verdict, or kind 3 where it has no shape.
-fn abmeldung_answer(found: Result<VorlaufVerdict, NoVerdict>) -> Result<Answer, Refusal>
+// That of a deregistration, or kind 3 where it has no shape.
+fn abmeldung_answer(found: Result<Judgement, NoVerdict>) -> Result<Answer, Refusal>
     ensures { result ≡ abmeldung_answer found }
 {
     match found {
-        Ok(verdict) => Ok(judged_answer(verdict)),
+        Ok(judgement) => Ok(judged_answer(judgement)),
         Err(NoVerdict::NoShape) => Ok(antwortsatz::of_kind(3)),
         Err(NoVerdict::Outside) => Err(Refusal::LeavesCalendar),
     }
@@ -127,9 +128,10 @@ fn announced_answer(found: Option<Fristgerecht>) -> Result<Answer, Refusal>
     Ok(antwortsatz::of_kind(fristgerecht as u8))
 }
 
-/// The verdict of a shape on a transmission date and an anchor: "Kind 0 Ok, 1 TooLate, 2 TooEarly", with its Werktage
-/// and its earliest date. `LatestWerktageBefore(1)` for 10 January 2026, a Saturday, against Monday, the 12th: TooLate,
-/// 0, and the very Monday. A code goes before the dates; a count that the shape does not use is not looked at.
+/// The verdict of a shape on a transmission date and an anchor: "Kind 0 Ok, 1 TooLate, 2 TooEarly", with its Werktage,
+/// its earliest date and its margin. `LatestWerktageBefore(1)` for 10 January 2026, a Saturday, against Monday, the
+/// 12th: TooLate, 0, the very Monday, and -1. A code goes before the dates; a count that the shape does not use is not
+/// looked at.
 #[tactic(auto, unfolding(crate::specs::Vorlauf::vorlauf_check_answer))]
 pub fn vorlauf_check_answer(
     code: u8,
@@ -232,7 +234,7 @@ pub fn abmeldung_fuer_answer(reason: &[u8], code: u8) -> Result<Answer, Refusal>
 
 /// The verdict of a deregistration, kind 3 where its case has no shape: "ZQ7, or an unknown EEG mark". "A
 /// deregistration's two dates are checked even where it has no shape." An ordinary one, without EEG, on 8 January 2026
-/// for the 9th: TooLate, 1, 10 January.
+/// for the 9th: TooLate, 1, 10 January, -1.
 #[tactic(auto, unfolding(crate::specs::Vorlauf::abmeldung_check_answer))]
 pub fn abmeldung_check_answer(
     reason: &[u8],

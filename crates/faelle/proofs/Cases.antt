@@ -1,11 +1,12 @@
 -- The cases A to L of document 01 as one tabled statement about the definitions that the host calls are proved to
--- compute: Easter Sunday, then the answers in the order of the letters, each beside what the paper says.
+-- compute: Easter Sunday, then the answers in the order of the letters, each beside what the paper says. The margins are
+-- document 02's, F-6: 'Case E gives −1.'
 -- Assumes nothing.
 use Prim.Native.Nat.{ℕ}
 use mathlib.Core.Bool.{Bool}
 use mathlib.Core.List.{List, [], ◌∷◌}
 use mathlib.Core.Path.{◌≡◌, refl}
-use lib.IntN.{pos}
+use lib.IntN.{pos, neg_ℤ}
 use Rattle.zaehlung.specs.Walk.{day_after, up, down, past, first, among, add, sub, next, W, between}
 use Rattle.zaehlung.specs.Blocks.{start, at}
 use Rattle.datum.specs.declared.Date.{Date}
@@ -25,7 +26,9 @@ use Rattle.fristen.specs.Fristen.{instant_later, contrl_seconds, in_window, tole
 use Rattle.fristen.specs.Fristen.{contrl_due_at, nth_werktag_at}
 use Rattle.fristen.specs.FristShape.{same_day_at, due_at_of}
 use Rattle.vorlauf.specs.Verdict.{closes, reaches, check_of, fruehester_termin_nach_tag_vor_dem_letzten_werktag}
+use Rattle.vorlauf.specs.Margin.{margin_of, judgement_of}
 use Rattle.vorlauf.specs.Span.{span_of}
+use Rattle.zahlen.specs.TwosComplement.{bits_in}
 use Rattle.std.specs.Prelude.{Some, None, Result, Ok, Err}
 use Rattle.antwortsatz.specs.declared.Answer.{Answer}
 use Rattle.antwortsatz.specs.declared.Refusal.{Refusal}
@@ -67,11 +70,11 @@ pub cases :
       Ok (of_kind 16)
           ∷ Ok (dated (on 4 7))
           ∷ Ok (dated (on 4 4))
-          ∷ Ok (judged 1 0 (Some (on 1 12)))
+          ∷ Ok (judged 1 0 (Some (on 1 12)) (neg_ℤ (pos 1)))
           ∷ Ok (spanned 0 (on 1 13) None)
-          ∷ Ok (judged 1 1 (Some (on 1 10)))
-          ∷ Ok (judged 0 0 None)
-          ∷ Ok (judged 1 2 (Some (on 2 28)))
+          ∷ Ok (judged 1 1 (Some (on 1 10)) (neg_ℤ (pos 1)))
+          ∷ Ok (judged 0 0 None (pos 0))
+          ∷ Ok (judged 1 2 (Some (on 2 28)) (neg_ℤ (pos 3)))
           ∷ Ok (spanned 0 (on 3 1) None)
           ∷ Ok (of_kind 2)
           ∷ Ok (at_instant 0 (pos 1774972799) 0)
@@ -89,8 +92,8 @@ unfolding start at is_leap days_in_month year_len is_date index_of date_in date_
     is_before in_limits read_instant read_clock last_sunday year_at offset_at berlin_at
     berlin_midnight end_of_day_berlin tagesbeginn_utc
     instant_later contrl_seconds in_window toleranz_in formatumstellung_toleranz contrl_due_at nth_werktag_at
-    same_day_at due_at_of closes reaches check_of fruehester_termin_nach_tag_vor_dem_letzten_werktag span_of
-    of_kind dated at_instant judged spanned
+    same_day_at due_at_of closes reaches check_of fruehester_termin_nach_tag_vor_dem_letzten_werktag
+    margin_of judgement_of span_of bits_in of_kind dated at_instant judged spanned
     is_werktag_answer add_werktage_answer berlin_at_answer tagesbeginn_utc_answer
     contrl_due_at_answer frist_due_at_answer vorlauf_check_answer vorlauf_span_answer
 cases = refl

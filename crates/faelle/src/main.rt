@@ -89,36 +89,36 @@ fn case_d() -> bool {
     )
 }
 
-// 10 January against 12 January: TooLate, 0, 12 January; span from 13 January.
+// 10 January against 12 January: TooLate, 0, 12 January, margin -1; span from 13 January.
 fn case_e() -> bool {
     let shape = LATEST_WERKTAGE_BEFORE;
     leaves(
         |left| mako_fristen::mf_vorlauf_check(shape, 1, 0, 2026, 1, 10, 2026, 1, 12, left),
-        Ok(antwortsatz::judged(1, 0, Some(on(1, 12)))),
+        Ok(antwortsatz::judged(1, 0, Some(on(1, 12)), -1)),
     ) && leaves(
         |left| mako_fristen::mf_vorlauf_span(shape, 1, 0, 2026, 1, 10, left),
         Ok(antwortsatz::spanned(0, on(1, 13), None)),
     )
 }
 
-// 8 January: 9 January TooLate, 1, 10 January; 10 January Ok.
+// 8 January: 9 January TooLate, 1, 10 January, margin -1; 10 January Ok, margin 0.
 fn case_f() -> bool {
     let shape = TAG_VOR_DEM_LETZTEN_WERKTAG_VOR;
     leaves(
         |left| mako_fristen::mf_vorlauf_check(shape, 0, 0, 2026, 1, 8, 2026, 1, 9, left),
-        Ok(antwortsatz::judged(1, 1, Some(on(1, 10)))),
+        Ok(antwortsatz::judged(1, 1, Some(on(1, 10)), -1)),
     ) && leaves(
         |left| mako_fristen::mf_vorlauf_check(shape, 0, 0, 2026, 1, 8, 2026, 1, 10, left),
-        Ok(antwortsatz::judged(0, 0, None)),
+        Ok(antwortsatz::judged(0, 0, None, 0)),
     )
 }
 
-// 31 January: 28 February TooLate, 2, 28 February; span from 1 March.
+// 31 January: 28 February TooLate, 2, 28 February, margin -3; span from 1 March.
 fn case_g() -> bool {
     let shape = LATEST_MONATE_BEFORE;
     leaves(
         |left| mako_fristen::mf_vorlauf_check(shape, 1, 0, 2026, 1, 31, 2026, 2, 28, left),
-        Ok(antwortsatz::judged(1, 2, Some(on(2, 28)))),
+        Ok(antwortsatz::judged(1, 2, Some(on(2, 28)), -3)),
     ) && leaves(
         |left| mako_fristen::mf_vorlauf_span(shape, 1, 0, 2026, 1, 31, left),
         Ok(antwortsatz::spanned(0, on(3, 1), None)),

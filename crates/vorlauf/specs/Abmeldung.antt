@@ -5,9 +5,10 @@
 --   fuer_of reason eeg         = the window for a reason and an EEG mark
 --   shape_of v                 = the shape of a window, where one applies
 --   with_shape s f             = what f gives for a shape, or NoShape
---   abmeldung_check_of w v t a = the verdict of a window, or why there is none, for any test w of a day
+--   abmeldung_check_of w v t a = the verdict of a window with its margin, or why there is none, for any test w of a
+--                                day
 -- Source: document 01, abmeldung.rs; GPKE Teil 2, Kap. 2.5.2, SD 'Lieferende von NB an LF' Nr. 1.
-use Rattle.std.specs.Prelude.{ℕ, Bool, true, false, ◌&&◌, cond, List, [], ◌∷◌, eqb, Option, Some, None, Result, Err}
+use Rattle.std.specs.Prelude.{ℕ, Bool, true, false, ◌&&◌, cond, List, [], ◌∷◌, ℤ, eqb, Option, Some, None, Result, Err}
 use Rattle.std.specs.Prelude.{ok_or}
 use Rattle.vorlauf.specs.declared.VorlaufShape.{VorlaufShape}
 use Rattle.vorlauf.specs.declared.VorlaufShape.TheVariants.{TagVorDemLetztenWerktagVor, LatestMonateBefore}
@@ -19,7 +20,7 @@ use Rattle.vorlauf.specs.declared.abmeldung.AbmeldungVorlauf.TheVariants.{Unbest
 use Rattle.vorlauf.specs.declared.VorlaufVerdict.{VorlaufVerdict}
 use Rattle.vorlauf.specs.declared.abmeldung.NoVerdict.{NoVerdict}
 use Rattle.vorlauf.specs.declared.abmeldung.NoVerdict.TheVariants.{NoShape, Outside}
-use Rattle.vorlauf.specs.Verdict.{check_of}
+use Rattle.vorlauf.specs.Margin.{judgement_of}
 
 unfoldable pub same_bytes : List ℕ → List ℕ → Bool
 same_bytes [] [] = true
@@ -49,10 +50,10 @@ shape_of Unbestimmt = None
 shape_of AnPruefschritt120 = None
 
 abbrev pub with_shape :
-    Option VorlaufShape → (VorlaufShape → Result VorlaufVerdict NoVerdict) → Result VorlaufVerdict NoVerdict
+    Option VorlaufShape → (VorlaufShape → Result (VorlaufVerdict × ℤ) NoVerdict) → Result (VorlaufVerdict × ℤ) NoVerdict
 with_shape (Some s) f = f s
 with_shape None f = Err NoShape
 
--- the verdict of a window's shape, or why there is none
-unfoldable pub abmeldung_check_of : (ℕ → Bool) → AbmeldungVorlauf → ℕ → ℕ → Result VorlaufVerdict NoVerdict
-abmeldung_check_of w v t a = with_shape (shape_of v) (λ s. ok_or (check_of w s t a) Outside)
+-- the verdict of a window's shape with its margin, or why there is none
+unfoldable pub abmeldung_check_of : (ℕ → Bool) → AbmeldungVorlauf → ℕ → ℕ → Result (VorlaufVerdict × ℤ) NoVerdict
+abmeldung_check_of w v t a = with_shape (shape_of v) (λ s. ok_or (judgement_of w s t a) Outside)

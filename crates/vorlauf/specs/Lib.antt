@@ -1,3 +1,4 @@
 pub mod Verdict
+pub mod Margin
 pub mod Span
 pub mod Abmeldung

@@ -6,7 +6,7 @@ ghost use Rattle.std.specs.Prelude.{◌≡◌};
 ghost use Rattle.werktag.specs.Werktag.{is_werktag};
 ghost use Rattle.vorlauf.specs.Abmeldung.{fuer_of, shape_of, abmeldung_check_of};
 
-use super::{VorlaufShape, VorlaufVerdict};
+use super::{Judgement, VorlaufShape};
 use datum::tage::Tag;
 use werktag::HolidayCalendar;
 
@@ -91,7 +91,7 @@ impl AbmeldungVorlauf {
         uebertragungstag: Tag,
         zuordnungsende: Tag,
         cal: HolidayCalendar,
-    ) -> Result<VorlaufVerdict, NoVerdict>
+    ) -> Result<Judgement, NoVerdict>
         ensures { result ≡ abmeldung_check_of (is_werktag cal) self uebertragungstag zuordnungsende }
     {
         let shape = self.shape().ok_or(NoVerdict::NoShape)?;

@@ -5,12 +5,13 @@
 // message carries. There is no verdict and no span where a date that is computed leaves the calendar.
 #![tactic(auto)]
 
-ghost use Rattle.std.specs.Prelude.{◌≡◌, ℕ, ◌<◌, Option};
+ghost use Rattle.std.specs.Prelude.{◌≡◌, ℕ, ◌<◌, pos, ◌-ℤ◌, Option, Some};
+ghost use Rattle.std.specs.Option.{option_zip};
 ghost use Rattle.zaehlung.specs.Walk.{on_step, day_after, add, W, between};
 ghost use Rattle.datum.specs.Monate.{M};
 ghost use Rattle.werktag.specs.Werktag.{is_werktag};
 ghost use Rattle.vorlauf.specs.Verdict.{closes, fruehester_termin_nach_tag_vor_dem_letzten_werktag, not_after};
-ghost use Rattle.vorlauf.specs.Verdict.{check_of};
+ghost use Rattle.vorlauf.specs.Margin.{judgement_of};
 ghost use Rattle.vorlauf.specs.Span.{span_from, span_between, span_of};
 
 use datum::monate;
@@ -56,6 +57,10 @@ pub enum VorlaufVerdict {
     },
 }
 
+/// A verdict with its margin: the last permitted transmission day minus the transmission day, in calendar days. What
+/// `EarliestWerktageAfter` holds against each other are dates requested, the anchor and the earliest.
+pub type Judgement = (VorlaufVerdict, i32);
+
 /// The anchors that a transmission day may ask for.
 #[derive(Clone, Copy)]
 pub enum Span {
@@ -88,80 +93,88 @@ fn too_early(t: Tag, opens: Tag, cal: HolidayCalendar) -> VorlaufVerdict
     VorlaufVerdict::TooEarly { excess_wt }
 }
 
+/// The days from t to the day on which the window closes, below zero where that was before t.
+fn margin(t: Tag, closes: Tag) -> i32
+    ensures { result ≡ pos closes -ℤ pos t }
+{
+    closes.index as i32 - t.index as i32
+}
+
 /// `Ok` while t is at or before `closes`, else `TooLate` with the date of `first`, which is computed only then.
 fn not_after<F: FnOnce() -> Option<Tag>>(
     t: Tag,
     closes: Tag,
     first: F,
     cal: HolidayCalendar,
-) -> Option<VorlaufVerdict>
+) -> Option<Judgement>
     requires { F.IsAlwaysCallable first }
     ensures { (s : Option ℕ) → ((r : Option ℕ) → F.post first r → r ≡ s) →
-        result ≡ not_after (is_werktag cal) t closes s }
+        result ≡ option_zip (not_after (is_werktag cal) t closes s) (Some (pos closes -ℤ pos t)) }
 {
+    let margin = margin(t, closes);
     if t <= closes {
-        return Some(VorlaufVerdict::Ok);
+        return Some((VorlaufVerdict::Ok, margin));
     }
     let first = first()?;
-    Some(too_late(t, closes, first, cal))
+    Some((too_late(t, closes, first, cal), margin))
 }
 
 /// t is the `n`-th Werktag before the anchor at the latest. `LatestWerktageBefore(1)` from Saturday 10 January 2026
 /// against Monday 12 January: TooLate by 0 Werktage, and the date named is that Monday.
-#[tactic(auto, unfolding(crate::specs::Verdict::check_of))]
-fn latest_werktage_before(n: u32, t: Tag, a: Tag, cal: HolidayCalendar) -> Option<VorlaufVerdict>
-    ensures { result ≡ check_of (is_werktag cal) (VorlaufShape.LatestWerktageBefore n) t a }
+#[tactic(auto, unfolding(crate::specs::Margin::judgement_of))]
+fn latest_werktage_before(n: u32, t: Tag, a: Tag, cal: HolidayCalendar) -> Option<Judgement>
+    ensures { result ≡ judgement_of (is_werktag cal) (VorlaufShape.LatestWerktageBefore n) t a }
 {
     let closes = schritte::sub_werktage(a, n, cal)?;
     not_after(t, closes, || schritte::add_werktage(t, n, cal), cal)
 }
 
 /// t is the `earliest`-th Werktag before the anchor at the earliest, and the `latest`-th at the latest.
-#[tactic(auto, unfolding(crate::specs::Verdict::check_of))]
+#[tactic(auto, unfolding(crate::specs::Margin::judgement_of))]
 fn window_werktage_before(
     earliest: u32,
     latest: u32,
     t: Tag,
     a: Tag,
     cal: HolidayCalendar,
-) -> Option<VorlaufVerdict>
-    ensures { result ≡ check_of (is_werktag cal) (VorlaufShape.WindowWerktageBefore earliest latest) t a }
+) -> Option<Judgement>
+    ensures { result ≡ judgement_of (is_werktag cal) (VorlaufShape.WindowWerktageBefore earliest latest) t a }
 {
     let opens = schritte::sub_werktage(a, earliest, cal)?;
     let closes = schritte::sub_werktage(a, latest, cal)?;
     if t < opens {
-        return Some(too_early(t, opens, cal));
+        return Some((too_early(t, opens, cal), margin(t, closes)));
     }
     not_after(t, closes, || schritte::add_werktage(t, latest, cal), cal)
 }
 
 /// t is the `n`-th Werktag after the anchor at the latest. Under TooLate the anchor itself is named.
-#[tactic(auto, unfolding(crate::specs::Verdict::check_of))]
-fn latest_werktage_after(n: u32, t: Tag, a: Tag, cal: HolidayCalendar) -> Option<VorlaufVerdict>
-    ensures { result ≡ check_of (is_werktag cal) (VorlaufShape.LatestWerktageAfter n) t a }
+#[tactic(auto, unfolding(crate::specs::Margin::judgement_of))]
+fn latest_werktage_after(n: u32, t: Tag, a: Tag, cal: HolidayCalendar) -> Option<Judgement>
+    ensures { result ≡ judgement_of (is_werktag cal) (VorlaufShape.LatestWerktageAfter n) t a }
 {
     let closes = schritte::add_werktage(a, n, cal)?;
     not_after(t, closes, || Some(a), cal)
 }
 
 /// The anchor, the date requested, is the `n`-th Werktag after t at the earliest.
-#[tactic(auto, unfolding(crate::specs::Verdict::check_of))]
-fn earliest_werktage_after(n: u32, t: Tag, a: Tag, cal: HolidayCalendar) -> Option<VorlaufVerdict>
-    ensures { result ≡ check_of (is_werktag cal) (VorlaufShape.EarliestWerktageAfter n) t a }
+#[tactic(auto, unfolding(crate::specs::Margin::judgement_of))]
+fn earliest_werktage_after(n: u32, t: Tag, a: Tag, cal: HolidayCalendar) -> Option<Judgement>
+    ensures { result ≡ judgement_of (is_werktag cal) (VorlaufShape.EarliestWerktageAfter n) t a }
 {
     let first = schritte::add_werktage(t, n, cal)?;
     not_after(first, a, || Some(first), cal)
 }
 
 /// t lies from the `n`-th Werktag before the anchor to the `n`-th after it. Under TooLate the opening day is named.
-#[tactic(auto, unfolding(crate::specs::Verdict::check_of))]
-fn korridor(n: u32, t: Tag, a: Tag, cal: HolidayCalendar) -> Option<VorlaufVerdict>
-    ensures { result ≡ check_of (is_werktag cal) (VorlaufShape.Korridor n) t a }
+#[tactic(auto, unfolding(crate::specs::Margin::judgement_of))]
+fn korridor(n: u32, t: Tag, a: Tag, cal: HolidayCalendar) -> Option<Judgement>
+    ensures { result ≡ judgement_of (is_werktag cal) (VorlaufShape.Korridor n) t a }
 {
     let opens = schritte::sub_werktage(a, n, cal)?;
     let closes = schritte::add_werktage(a, n, cal)?;
     if t < opens {
-        return Some(too_early(t, opens, cal));
+        return Some((too_early(t, opens, cal), margin(t, closes)));
     }
     not_after(t, closes, || Some(opens), cal)
 }
@@ -179,9 +192,9 @@ fn fruehester_termin_nach_tag_vor_dem_letzten_werktag(t: Tag, cal: HolidayCalend
 
 /// t is the day before the last Werktag before the anchor at the latest. From Thursday 8 January 2026: Friday 9 January
 /// is TooLate by 1 Werktag, Saturday 10 January Ok.
-#[tactic(auto, unfolding(crate::specs::Verdict::check_of))]
-fn tag_vor_dem_letzten_werktag_vor(t: Tag, a: Tag, cal: HolidayCalendar) -> Option<VorlaufVerdict>
-    ensures { result ≡ check_of (is_werktag cal) VorlaufShape.TagVorDemLetztenWerktagVor t a }
+#[tactic(auto, unfolding(crate::specs::Margin::judgement_of))]
+fn tag_vor_dem_letzten_werktag_vor(t: Tag, a: Tag, cal: HolidayCalendar) -> Option<Judgement>
+    ensures { result ≡ judgement_of (is_werktag cal) VorlaufShape.TagVorDemLetztenWerktagVor t a }
 {
     let letzter = schritte::sub_werktage(a, 1, cal)?;
     let closes = schritte::day_before(letzter)?;
@@ -194,9 +207,9 @@ fn tag_vor_dem_letzten_werktag_vor(t: Tag, a: Tag, cal: HolidayCalendar) -> Opti
 }
 
 /// t lies `n` months before the anchor at the latest. The earliest date is computed even when the verdict is Ok.
-#[tactic(auto, unfolding(crate::specs::Verdict::check_of))]
-fn latest_monate_before(n: u32, t: Tag, a: Tag, cal: HolidayCalendar) -> Option<VorlaufVerdict>
-    ensures { result ≡ check_of (is_werktag cal) (VorlaufShape.LatestMonateBefore n) t a }
+#[tactic(auto, unfolding(crate::specs::Margin::judgement_of))]
+fn latest_monate_before(n: u32, t: Tag, a: Tag, cal: HolidayCalendar) -> Option<Judgement>
+    ensures { result ≡ judgement_of (is_werktag cal) (VorlaufShape.LatestMonateBefore n) t a }
 {
     let closes = monate::months_earlier(a, n)?;
     let first = monate::months_later(t, n)?;
@@ -220,15 +233,15 @@ fn monate_und_werktage_before(
 
 /// t lies `monate` months and `werktage` Werktage before the anchor at the latest. The earliest date is computed even
 /// when the verdict is Ok.
-#[tactic(auto, unfolding(crate::specs::Verdict::check_of))]
+#[tactic(auto, unfolding(crate::specs::Margin::judgement_of))]
 fn latest_monate_und_werktage_before(
     monate: u32,
     werktage: u32,
     t: Tag,
     a: Tag,
     cal: HolidayCalendar,
-) -> Option<VorlaufVerdict>
-    ensures { result ≡ check_of (is_werktag cal) (VorlaufShape.LatestMonateUndWerktageBefore monate werktage) t
+) -> Option<Judgement>
+    ensures { result ≡ judgement_of (is_werktag cal) (VorlaufShape.LatestMonateUndWerktageBefore monate werktage) t
         a }
 {
     let closes = monate_und_werktage_before(monate, werktage, a, cal)?;
@@ -286,8 +299,8 @@ impl VorlaufShape {
         uebertragungstag: Tag,
         anchor: Tag,
         cal: HolidayCalendar,
-    ) -> Option<VorlaufVerdict>
-        ensures { result ≡ check_of (is_werktag cal) self uebertragungstag anchor }
+    ) -> Option<Judgement>
+        ensures { result ≡ judgement_of (is_werktag cal) self uebertragungstag anchor }
     {
         let t = uebertragungstag;
         match self {

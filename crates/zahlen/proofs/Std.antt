@@ -1,7 +1,7 @@
 -- What std's conversions give, in the words of specs/.
 --   le2_std, le4_std, le8_std : to_le_bytes writes le2, le4, le8
 --   u16_std, u32_std, u64_std : from_le_bytes reads u16_from, u32_from, u64_from
---   bits_std, signed_std      : a cast keeps the bits, as bits_of and signed_of do
+--   bits_std, signed_std      : a cast keeps the bits, as bits_of and signed_of do; word_std : at 32 bits, word_of
 --   i64_made                  : the eight bytes from a place on as a signed number, for `i64_at`
 -- Assumes nothing.
 use Prim.Native.Nat.{ℕ, ◌+◌, ◌<◌}
@@ -19,7 +19,7 @@ use mir.Val.{SFits, to_z, of_z}
 use mir.Facts.{to_z-of_z}
 use Rattle.std.specs.Int.{to_le_bytes, from_le_bytes}
 use Rattle.zahlen.specs.LittleEndian.{le2, le4, le8, u16_from, u32_from, u64_from}
-use Rattle.zahlen.specs.TwosComplement.{bits_in, signed_in, bits_of, signed_of}
+use Rattle.zahlen.specs.TwosComplement.{bits_in, signed_in, bits_of, word_of, signed_of}
 use Rattle.zahlen.specs.Places.{i64_at}
 
 pub le2_std : (x : ℕ) → to_le_bytes w16 x ≡ le2 x
@@ -46,6 +46,11 @@ pub bits_std : (z : ℤ) → of_z w64 z ≡ bits_of z
 unfolding bits_in
 bits_std (pos n) = refl
 bits_std (negsuc n) = refl
+
+pub word_std : (z : ℤ) → of_z w32 z ≡ word_of z
+unfolding bits_in
+word_std (pos n) = refl
+word_std (negsuc n) = refl
 
 pub signed_std : (x : ℕ) → to_z w64 x ≡ signed_of x
 unfolding signed_in

@@ -2,11 +2,11 @@
 -- earliest date, which `search` does not choose of itself for `not_after`.
 -- Assumes nothing.
 use Rattle.std.proofs.Common.{rules, sym, Some}
-use Rattle.vorlauf.specs.Verdict.{check_of}
+use Rattle.vorlauf.specs.Margin.{judgement_of}
 use Rattle.vorlauf.proofs.latest_monate_und_werktage_before.Goals as goal
 
 pub returns : goal.returns
-unfolding check_of
+unfolding judgement_of
 returns c =
     rw (sym c.in_ok-closes.ensures, sym c.in_ok-on.ensures, sym c.in_ok-first.ensures)
     (c.not_after.ensures (Some c.in_ok-first.first) (search rules))

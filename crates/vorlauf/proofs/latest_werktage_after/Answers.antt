@@ -2,9 +2,9 @@
 -- `search` does not choose of itself for `not_after`.
 -- Assumes nothing.
 use Rattle.std.proofs.Common.{rules, sym, Some}
-use Rattle.vorlauf.specs.Verdict.{check_of}
+use Rattle.vorlauf.specs.Margin.{judgement_of}
 use Rattle.vorlauf.proofs.latest_werktage_after.Goals as goal
 
 pub returns : goal.returns
-unfolding check_of
+unfolding judgement_of
 returns c = rw (sym c.in_ok-closes.ensures) (c.not_after.ensures (Some c.args.a) (search rules))
