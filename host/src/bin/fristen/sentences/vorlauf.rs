@@ -1,6 +1,6 @@
 use crate::deutsch::{dem, den, der, tag, werktage, werktagen};
 use crate::inquiry::Inquiry;
-use mako_fristen_host::{Date, Error, Span, VorlaufVerdict};
+use mako_fristen_host::{Date, Error, Judgement, Span, VorlaufVerdict};
 
 /// What the anchor is called, with the words of its gender and number.
 pub struct Anchor {
@@ -35,7 +35,7 @@ pub fn spanned(inquiry: &Inquiry, span: Span) -> Result<String, Error> {
     Ok(format!("Übertragungstag {from}. {rule}\n{}", TERMIN.allowed(span)))
 }
 
-pub fn judged(inquiry: &Inquiry, given: VorlaufVerdict) -> Result<String, Error> {
+pub fn judged(inquiry: &Inquiry, given: Judgement) -> Result<String, Error> {
     let (from, to) = (tag(inquiry.transmission_day()?), tag(inquiry.anchor()?));
     let rule = inquiry.shape()?.beschreibung();
     let what = format!("Übertragungstag {from}, Termin {to}.\n{rule}");
@@ -45,11 +45,11 @@ pub fn judged(inquiry: &Inquiry, given: VorlaufVerdict) -> Result<String, Error>
 /// The verdict, `what` was judged, and for a `TooLate` what is missing and which dates are allowed.
 pub fn verdict(
     inquiry: &Inquiry,
-    given: VorlaufVerdict,
+    given: Judgement,
     anchor: &Anchor,
     what: &str,
 ) -> Result<String, Error> {
-    Ok(match given {
+    Ok(match given.verdict {
         VorlaufVerdict::Ok => format!("Frist gewahrt: {what}"),
         VorlaufVerdict::TooEarly { excess_wt } => {
             format!("Zu früh: {what}\n{}", too_early(excess_wt))
