@@ -1,5 +1,6 @@
 //! What the 32 bytes of an answer say, in the words of document 01, and of document 02 for the day
-//! test, the count and the margin: which kinds there are, and which fields each fills. Unused fields are zero.
+//! test, the count and the margin: which kinds there are, and which fields each fills. Unused fields
+//! are zero.
 //!
 //! | content | kind | fills |
 //! |---|---|---|
