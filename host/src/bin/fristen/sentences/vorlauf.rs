@@ -87,7 +87,7 @@ fn too_late(shape: VorlaufShape, days: u32) -> String {
     }
 }
 
-/// Of 0 Werktage, that all of the days are none.
+/// Where no Werktag is missing, by how many days: none of them is one.
 fn missing(shape: VorlaufShape, days: u32, n: u32) -> String {
     let verb = if n == 1 { "fehlt" } else { "fehlen" };
     let missing = format!("Es {verb} {}", werktage(n));
