@@ -10,3 +10,4 @@ pub mod SpansNamed
 pub mod Demand3
 pub mod Sharp
 pub mod Closes
+pub mod Margin

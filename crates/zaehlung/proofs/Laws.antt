@@ -19,7 +19,7 @@
 --   add_inside sub_inside next_inside w_inside     a day that is reached is at most last
 --   day_after_is    day_after d ≡ Day e  says  e ≡ suc d and e ≤ last
 --   day_before_is   day_before d ≡ Day e  says  d ≡ suc e
---   on_step_day     on_step Outside s f ≡ Day e  says  s reached a day d, and f d ≡ Day e
+--   on_step_day     on_step None s f ≡ Some e  says  s reached a day d, and f d ≡ Some e
 -- Source: DESIGN, 'The one idea'; document 01, lib.rs and 'The span of anchors'; for add_between the remark on
 -- `werktage_between` in lib.rs, 'the inverse of `add_werktage`'.
 -- Assumes nothing.
@@ -191,7 +191,8 @@ pub day_before_is : (d e : ℕ) → day_before d ≡ Some e → d ≡ suc e
 day_before_is zero e p = let z : ◌≡◌ {A = ℕ} 0 1 = cc in absurd (omega arith)
 day_before_is (suc d) e p = cc
 
-pub on_step_day : (s : Option ℕ) (f : ℕ → Option ℕ) (e : ℕ) → on_step None s f ≡ Some e →
+pub on_step_day :
+    {A : Type 0} (s : Option ℕ) (f : ℕ → Option A) (e : A) → on_step None s f ≡ Some e →
     (d : ℕ) × (s ≡ Some d) × (f d ≡ Some e)
 on_step_day (Some d) f e p = (d, refl, p)
 on_step_day None f e p = let z : ◌≡◌ {A = ℕ} 0 1 = cc in absurd (omega arith)
