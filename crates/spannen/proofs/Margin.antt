@@ -6,6 +6,7 @@
 --   judged_iff        there is no judgement exactly if there is no verdict: the margin adds no refusal
 --   refused_closes    there is none where the last permitted transmission day leaves the calendar
 --   refused_earliest  for `EarliestWerktageAfter` there is none exactly if `add_werktage` leaves the calendar
+--   margin_fits       a margin is a number of days of the calendar, or the negative of one
 --   late_negative     TooLate has a negative margin, of any shape
 --   negative_iff      the margin is negative exactly if the verdict is TooLate, if the shape is Ordered
 --   window_early      a window's negative margin without TooLate says TooEarly, and that `earliest` is below `latest`
@@ -22,20 +23,25 @@ use native.Mathlib.Omega.{arith}
 use native.Mathlib.Decide.{dec_le, dec_lt}
 use lib.Dec.{ltb, ltb→lt}
 use lib.IntN.{ℤ, pos, negsuc, ◌-ℤ◌}
-use lib.Signed.{◌<ℤ◌}
+use lib.Signed.{◌<ℤ◌, mag}
 use Rattle.std.specs.Prelude.{Option, Some, None}
 use Rattle.std.specs.Option.{option_zip}
-use Rattle.zaehlung.specs.Walk.{last, on_step, add, sub, down, between, among}
+use Rattle.zaehlung.specs.Walk.{last, on_step, day_before, add, sub, down, between, among}
 use Rattle.zaehlung.specs.Blocks.{start, at}
 use Rattle.zaehlung.specs.Lists.{any}
-use Rattle.zaehlung.proofs.Laws.{on_step_day}
+use Rattle.zaehlung.proofs.Laws.{add_inside, sub_inside, on_step_day, day_before_is}
 use Rattle.datum.specs.Calendar.{is_leap, year_len, days_in_month, date_in}
+use Rattle.datum.specs.Monate.{months_earlier}
+use Rattle.datum.proofs.Months.{earlier_inside}
 use Rattle.datum.proofs.Signed.{sub_pos, sub_neg}
 use Rattle.werktag.specs.declared.HolidayCalendar.TheVariants.{BdewMaKo}
 use Rattle.werktag.specs.Easter.{easter_sunday, easter_index}
 use Rattle.werktag.specs.Werktag.{is_fixed, is_buss_und_bettag, is_easter_feast, is_werktag}
 use Rattle.vorlauf.specs.declared.VorlaufShape.{VorlaufShape}
-use Rattle.vorlauf.specs.declared.VorlaufShape.TheVariants.{WindowWerktageBefore, EarliestWerktageAfter}
+use Rattle.vorlauf.specs.declared.VorlaufShape.TheVariants.{LatestWerktageBefore, WindowWerktageBefore}
+use Rattle.vorlauf.specs.declared.VorlaufShape.TheVariants.{LatestWerktageAfter, EarliestWerktageAfter, Korridor}
+use Rattle.vorlauf.specs.declared.VorlaufShape.TheVariants.{TagVorDemLetztenWerktagVor, LatestMonateBefore}
+use Rattle.vorlauf.specs.declared.VorlaufShape.TheVariants.{LatestMonateUndWerktageBefore}
 use Rattle.vorlauf.specs.declared.VorlaufVerdict.{VorlaufVerdict}
 use Rattle.vorlauf.specs.declared.VorlaufVerdict.TheVariants.{Ok, TooLate, TooEarly}
 use Rattle.vorlauf.specs.Verdict.{closes, reaches, not_after, check_of}
@@ -88,6 +94,39 @@ below_iff c r =
       )
     ]
 
+difference_fits : (c r : ℕ) → c ≤ last → r ≤ last → mag (pos c -ℤ pos r) ≤ last
+difference_fits c r h g =
+    elim (dec_lt c r) [
+      | yes k ↦ rw (sub_neg c r k) (omega arith)
+      | no k ↦ rw (sub_pos c r (omega arith)) (omega arith)
+    ]
+
+closes_inside : (w : ℕ → Bool) (s : VorlaufShape) (a c : ℕ) → a ≤ last → closes w s a ≡ Some c → c ≤ last
+unfolding closes
+closes_inside w (LatestWerktageBefore n) a c h p = sub_inside w a n c h p
+closes_inside w (WindowWerktageBefore earliest latest) a c h p = sub_inside w a latest c h p
+closes_inside w (LatestWerktageAfter n) a c h p = add_inside w a n c h p
+closes_inside w (EarliestWerktageAfter n) a c h p = let q : a ≡ c = cc in omega arith
+closes_inside w (Korridor n) a c h p = add_inside w a n c h p
+closes_inside w TagVorDemLetztenWerktagVor a c h p =
+    let x = on_step_day (sub w a 1) day_before c p in
+    omega (arith, sub_inside w a 1 x.0 h x.1, day_before_is x.0 c x.2)
+closes_inside w (LatestMonateBefore n) a c h p = earlier_inside a n c h p
+closes_inside w (LatestMonateUndWerktageBefore monate werktage) a c h p =
+    let x = on_step_day (months_earlier a monate) (λ d. sub w d werktage) c p in
+    sub_inside w x.0 werktage c (earlier_inside a monate x.0 h x.1) x.2
+
+reaches_inside : (w : ℕ → Bool) (s : VorlaufShape) (t r : ℕ) → t ≤ last → reaches w s t ≡ Some r → r ≤ last
+unfolding reaches
+reaches_inside w (LatestWerktageBefore n) t r h p = let q : t ≡ r = cc in omega arith
+reaches_inside w (WindowWerktageBefore earliest latest) t r h p = let q : t ≡ r = cc in omega arith
+reaches_inside w (LatestWerktageAfter n) t r h p = let q : t ≡ r = cc in omega arith
+reaches_inside w (EarliestWerktageAfter n) t r h p = add_inside w t n r h p
+reaches_inside w (Korridor n) t r h p = let q : t ≡ r = cc in omega arith
+reaches_inside w TagVorDemLetztenWerktagVor t r h p = let q : t ≡ r = cc in omega arith
+reaches_inside w (LatestMonateBefore n) t r h p = let q : t ≡ r = cc in omega arith
+reaches_inside w (LatestMonateUndWerktageBefore monate werktage) t r h p = let q : t ≡ r = cc in omega arith
+
 held_none :
     (w : ℕ → Bool) (a : ℕ) (s : Option ℕ) → (on_step None s (λ r. not_after w r a (Some r)) ≡ None) ↔ (s ≡ None)
 held_none w a None = (λ _. refl, λ _. refl)
@@ -134,6 +173,11 @@ module _ (w : ℕ → Bool) (t a : ℕ) (ha : a ≤ last) where
           let x = on_step_day (closes w s a) _ m judged_parts.1 in
           let y = on_step_day (reaches w s t) _ m x.2 in
           (x.0, y.0, x.1, y.1, cc)
+
+      pub margin_fits : t ≤ last → mag m ≤ last
+      margin_fits ht =
+          let d = margin_days in
+          rw d.4 (difference_fits d.0 d.1 (closes_inside w s a d.0 ha d.2) (reaches_inside w s t d.1 ht d.3))
 
       pub late_negative : IsLate (Some v) → m <ℤ pos 0
       late_negative l =

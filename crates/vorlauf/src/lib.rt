@@ -5,7 +5,7 @@
 // message carries. There is no verdict and no span where a date that is computed leaves the calendar.
 #![tactic(auto)]
 
-ghost use Rattle.std.specs.Prelude.{◌≡◌, ℕ, ◌<◌, pos, ◌-ℤ◌, Option, Some};
+ghost use Rattle.std.specs.Prelude.{◌≡◌, ℕ, ◌<◌, cond, ltb, pos, ◌-ℤ◌, Option, Some};
 ghost use Rattle.std.specs.Option.{option_zip};
 ghost use Rattle.zaehlung.specs.Walk.{on_step, day_after, add, W, between};
 ghost use Rattle.datum.specs.Monate.{M};
@@ -119,6 +119,26 @@ fn not_after<F: FnOnce() -> Option<Tag>>(
     Some((too_late(t, closes, first, cal), margin))
 }
 
+/// `TooEarly` while t is before `opens`, else as `not_after`. The margin goes by `closes` in either case.
+fn not_outside<F: FnOnce() -> Option<Tag>>(
+    t: Tag,
+    opens: Tag,
+    closes: Tag,
+    first: F,
+    cal: HolidayCalendar,
+) -> Option<Judgement>
+    requires { F.IsAlwaysCallable first }
+    ensures { (s : Option ℕ) → ((r : Option ℕ) → F.post first r → r ≡ s) →
+        result ≡ option_zip
+        (cond (ltb t opens) (Some (VorlaufVerdict.TooEarly (between (is_werktag cal) t opens)))
+        (not_after (is_werktag cal) t closes s)) (Some (pos closes -ℤ pos t)) }
+{
+    if t < opens {
+        return Some((too_early(t, opens, cal), margin(t, closes)));
+    }
+    not_after(t, closes, first, cal)
+}
+
 /// t is the `n`-th Werktag before the anchor at the latest. `LatestWerktageBefore(1)` from Saturday 10 January 2026
 /// against Monday 12 January: TooLate by 0 Werktage, and the date named is that Monday.
 #[tactic(auto, unfolding(crate::specs::Margin::judgement_of))]
@@ -142,10 +162,13 @@ fn window_werktage_before(
 {
     let opens = schritte::sub_werktage(a, earliest, cal)?;
     let closes = schritte::sub_werktage(a, latest, cal)?;
-    if t < opens {
-        return Some((too_early(t, opens, cal), margin(t, closes)));
-    }
-    not_after(t, closes, || schritte::add_werktage(t, latest, cal), cal)
+    not_outside(
+        t,
+        opens,
+        closes,
+        || schritte::add_werktage(t, latest, cal),
+        cal,
+    )
 }
 
 /// t is the `n`-th Werktag after the anchor at the latest. Under TooLate the anchor itself is named.
@@ -173,10 +196,7 @@ fn korridor(n: u32, t: Tag, a: Tag, cal: HolidayCalendar) -> Option<Judgement>
 {
     let opens = schritte::sub_werktage(a, n, cal)?;
     let closes = schritte::add_werktage(a, n, cal)?;
-    if t < opens {
-        return Some((too_early(t, opens, cal), margin(t, closes)));
-    }
-    not_after(t, closes, || Some(opens), cal)
+    not_outside(t, opens, closes, || Some(opens), cal)
 }
 
 /// The day after the first Werktag strictly after t: a full Werktag has to lie between t and the date. From a Monday

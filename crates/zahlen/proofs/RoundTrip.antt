@@ -5,6 +5,7 @@
 --   number_le       a number below 256^k is read back from its k bytes
 --   le_number       and so are k bytes from their number
 --   u16_back, u32_back, u64_back      what le2, le4, le8 write, u16_from, u32_from, u64_from read back
+--   i32_back                          so is a signed number of 32 bits
 --   u16_bytes, u32_bytes, u64_bytes   and what these read, those write back
 --   u16_placed, u32_placed, i64_placed   a number's bytes among others are read back from their place
 --   bits_signed     the bits of the signed number of x are x, at any width
@@ -22,7 +23,7 @@ use lib.Seq.{get_or-append_seam, get_or-append-add}
 use lib.Signed.{mag}
 use borrow.Author.Tests.{lt-ltb, le-ltb}
 use Rattle.zahlen.specs.LittleEndian.{le2, le4, le8, u16_from, u32_from, u64_from}
-use Rattle.zahlen.specs.TwosComplement.{bits_in, signed_in, bits_of, signed_of}
+use Rattle.zahlen.specs.TwosComplement.{bits_in, signed_in, bits_of, word_of, signed_of}
 use Rattle.zahlen.specs.Places.{u16_at, u32_at, i64_at}
 
 abbrev pub number : List ℕ → ℕ
@@ -128,6 +129,12 @@ bits_below : (h : ℕ) (z : ℤ) → mag z < h → bits_in h z < h + h
 unfolding bits_in
 bits_below h (pos n) l = omega arith
 bits_below h (negsuc n) l = omega arith
+
+pub i32_back :
+    (z : ℤ) (a b c d : ℕ) → mag z < 2147483648 → le4 (word_of z) ≡ a ∷ b ∷ c ∷ d ∷ [] →
+    signed_in 2147483648 (u32_from a b c d) ≡ z
+i32_back z a b c d h p =
+    ap (signed_in 2147483648) (u32_back (word_of z) a b c d (bits_below 2147483648 z h) p) ∙ signed_bits 2147483648 z h
 
 pub i64_placed :
     (a b : List ℕ) (z : ℤ) → mag z < 9223372036854775808 → i64_at (a ++ (le8 (bits_of z) ++ b)) (length a) ≡ z
