@@ -1,6 +1,6 @@
 -- The definitions against values from outside: a file of document 01's cases I (twice), L, E (verdict and span), G and
--- H. Each question and each answer is 32 bytes by the papers' layouts, with the numbers that the case's sentence has; the
--- margins are document 02's, F-6: −1 and −3.
+-- H. Each question and each answer is 32 bytes by the papers' layouts, with the numbers that the case's sentence has;
+-- the margins are document 02's, F-6: −1 and −3.
 -- Assumes nothing.
 use Prim.Native.Nat.{ℕ}
 use mathlib.Core.List.{List, [], ◌∷◌}

@@ -8,8 +8,8 @@
 --   refusal_margin : and so it is of a refusal
 --   bytes_below    : each byte of an answer whose kind fits its byte is below 256
 --   refusal_below  : so is each of a refusal
--- Source: document 01, 'Host calls and their refusals'; document 02, F-6: 'Bytes 28 to 31 of a verdict's answer become a
--- signed number'; 'No shape and refusals leave zero.'
+-- Source: document 01, 'Host calls and their refusals'; document 02, F-6: 'Bytes 28 to 31 of a verdict's answer become
+-- a signed number'; 'No shape and refusals leave zero.'
 -- Assumes nothing.
 use Prim.Native.Nat.{ℕ, zero, suc, ◌/◌, ◌%◌, ◌<◌}
 use mathlib.Core.Path.{◌≡◌, refl, ap, ◌∙◌}

@@ -148,8 +148,8 @@ pub fn at_instant(kind: u8, seconds: i64, nanos: u32) -> Answer
 
 /// A kind, a count of Werktage, a date and a margin: "A verdict has its Werktage in the count and its earliest date in
 /// the date", "Bytes 28 to 31 of a verdict's answer become a signed number". What a verdict has no date for is zero.
-/// `LatestWerktageBefore(1)`, 10 January 2026 against the 12th, is `judged(1, 0, Some(..), -1)` of the 12th: bytes 28 to
-/// 31 are ff.
+/// `LatestWerktageBefore(1)`, 10 January 2026 against the 12th, is `judged(1, 0, Some(..), -1)` of the 12th: bytes 28
+/// to 31 are ff.
 #[tactic(auto, using(zahlen::proofs::Std::word_std), unfolding(crate::specs::Answers::judged))]
 pub fn judged(kind: u8, count: u32, date: Option<Date>, margin: i32) -> Answer
     ensures { result ≡ judged kind count date margin }

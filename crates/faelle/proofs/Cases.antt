@@ -1,6 +1,6 @@
 -- The cases A to L of document 01 as one tabled statement about the definitions that the host calls are proved to
--- compute: Easter Sunday, then the answers in the order of the letters, each beside what the paper says. The margins are
--- document 02's, F-6: 'Case E gives −1.'
+-- compute: Easter Sunday, then the answers in the order of the letters, each beside what the paper says. The margins
+-- are document 02's, F-6: 'Case E gives −1.'
 -- Assumes nothing.
 use Prim.Native.Nat.{ℕ}
 use mathlib.Core.Bool.{Bool}

@@ -1,5 +1,5 @@
--- The sign of a verdict's margin, for any test w of a day, every shape s and any t and a of the calendar. A judgement is a
--- verdict v with its margin m. `Closes` has IsLate, v is TooLate, and Ordered, s is no `WindowWerktageBefore` with
+-- The sign of a verdict's margin, for any test w of a day, every shape s and any t and a of the calendar. A judgement
+-- is a verdict v with its margin m. `Closes` has IsLate, v is TooLate, and Ordered, s is no `WindowWerktageBefore` with
 -- `earliest` below `latest`, and says which day is the last permitted one.
 --   IsEarly v         v is TooEarly, by some Werktage
 --   judged_parts      the verdict is that of `check_of`, the margin that of `margin_of`

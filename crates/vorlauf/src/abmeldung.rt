@@ -80,11 +80,11 @@ impl AbmeldungVorlauf {
         }
     }
 
-    /// The verdict on a transmission day and the Zuordnungsende: that of the window's shape.
+    /// The verdict on a transmission day and the Zuordnungsende with its margin: those of the window's shape.
     ///
     /// `NoShape` where the window has none: it was not evaluated, so it was not kept either.
     ///
-    /// `EinMonat` from 31 January 2026 against 28 February: TooLate by 2 Werktage, with 28 February.
+    /// `EinMonat` from 31 January 2026 against 28 February: TooLate by 2 Werktage, with 28 February and -3.
     #[tactic(auto, unfolding(crate::specs::Abmeldung::abmeldung_check_of))]
     pub fn check(
         self,

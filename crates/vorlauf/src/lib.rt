@@ -57,8 +57,8 @@ pub enum VorlaufVerdict {
     },
 }
 
-/// A verdict with its margin: the last permitted transmission day minus the transmission day, in calendar days. What
-/// `EarliestWerktageAfter` holds against each other are dates requested, the anchor and the earliest.
+/// A verdict with its margin, in calendar days: the last permitted transmission day minus the transmission day, for
+/// `EarliestWerktageAfter` the anchor minus the earliest.
 pub type Judgement = (VorlaufVerdict, i32);
 
 /// The anchors that a transmission day may ask for.
@@ -307,13 +307,13 @@ fn months_after_werktage(t: Tag, monate: u32, werktage: u32, cal: HolidayCalenda
 
 impl VorlaufShape {
     /// The verdict on a transmission day and an anchor: Ok up to the last permitted transmission day, TooLate after it,
-    /// and for the window and the Korridor TooEarly before the day on which they open.
+    /// and for the window and the Korridor TooEarly before the day on which they open; and its margin.
     ///
     /// `None` where a date that the Rust computes leaves the calendar; the two month shapes compute their earliest
     /// date even when the verdict is Ok. A date that is named lies in the calendar, and may be none that is acceptable.
     ///
     /// `LatestWerktageBefore(1)` from Saturday 10 January 2026 against Monday 12 January: TooLate by 0 Werktage, with
-    /// that Monday.
+    /// that Monday, and a margin of -1.
     pub fn check(
         self,
         uebertragungstag: Tag,
