@@ -2,7 +2,7 @@
 
 #[cfg(doc)]
 use crate::Refusal;
-use crate::{ffi, Answer, Call, Date, Eeg, Error, VorlaufShape, VorlaufVerdict};
+use crate::{ffi, Answer, Call, Date, Eeg, Error, Judgement, VorlaufShape};
 
 /// Which Vorlauffrist a deregistration has.
 #[derive(Clone, Copy, Debug, PartialEq, Eq, Hash)]
@@ -48,15 +48,16 @@ impl AbmeldungVorlauf {
         })
     }
 
-    /// The verdict on a transmission day and the Zuordnungsende. None if there is no shape to ask,
-    /// which does not mean that the Frist was kept.
+    /// The verdict on a transmission day and the Zuordnungsende, and its margin. None if there is no
+    /// shape to ask, which does not mean that the Frist was kept.
     ///
     /// ```
-    /// use mako_fristen_host::{AbmeldungVorlauf, Date, Eeg, VorlaufVerdict};
+    /// use mako_fristen_host::{AbmeldungVorlauf, Date, Eeg, Judgement, VorlaufVerdict};
     ///
     /// let (thursday, saturday) = (Date::new(2026, 1, 8), Date::new(2026, 1, 10));
     /// let check = |reason| AbmeldungVorlauf::check(reason, Eeg::No, thursday, saturday);
-    /// assert_eq!(check(b"Z33"), Ok(Some(VorlaufVerdict::Ok)));
+    /// let on_the_last_day = Judgement { verdict: VorlaufVerdict::Ok, margin: 0 };
+    /// assert_eq!(check(b"Z33"), Ok(Some(on_the_last_day)));
     /// assert_eq!(check(b"ZQ7"), Ok(None));
     /// ```
     ///
@@ -69,7 +70,7 @@ impl AbmeldungVorlauf {
         eeg: Eeg,
         uebertragungstag: Date,
         zuordnungsende: Date,
-    ) -> Result<Option<VorlaufVerdict>, Error> {
+    ) -> Result<Option<Judgement>, Error> {
         let (from, to) = (uebertragungstag, zuordnungsende);
         Answer::content_of(Call::AbmeldungCheck, |answer| {
             ffi::mf_abmeldung_check(

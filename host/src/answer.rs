@@ -2,8 +2,8 @@ use crate::bytes;
 use crate::content::FromAnswer;
 use crate::fields::Fields;
 use crate::{
-    AbmeldungVorlauf, Call, Content, Date, DayReason, Error, GasDue, Instant, Refusal, Span,
-    Unreadable, VorlaufVerdict, WerktageBetween,
+    AbmeldungVorlauf, Call, Content, Date, DayReason, Error, GasDue, Instant, Judgement, Refusal,
+    Span, Unreadable, WerktageBetween,
 };
 use std::fmt;
 
@@ -14,6 +14,7 @@ const INSTANT: usize = 8;
 const DATE: usize = 20;
 const LAST_DATE: usize = 24;
 const DAYS_TESTED: usize = LAST_DATE;
+const MARGIN: usize = 28;
 
 /// What is lent to a call: no answer, should the call leave it as it is.
 pub(crate) const UNTOUCHED: Answer = Answer::from_bytes([u8::MAX; Answer::LEN]);
@@ -106,10 +107,27 @@ impl Answer {
         bytes::count(&self.bytes, DAYS_TESTED)
     }
 
+    /// The margin of a verdict, in calendar days: see [`Judgement`].
+    ///
+    /// ```
+    /// use mako_fristen_host::{Call, Date, Question, VorlaufShape};
+    ///
+    /// let question = Question::on(Call::VorlaufCheck, Date::new(2026, 1, 10));
+    /// let question = question.with_second(Date::new(2026, 1, 12));
+    /// let answer = question.with_shape(VorlaufShape::LatestWerktageBefore(1)).answer()?;
+    /// assert_eq!((answer.count(), answer.margin()), (0, -1));
+    /// # Ok::<(), mako_fristen_host::Error>(())
+    /// ```
+    #[must_use]
+    pub fn margin(&self) -> i32 {
+        i32::from_le_bytes(self.field(MARGIN))
+    }
+
     /// What an answer of `call` says. Every byte of it counts: a kind that the documents do not have
     /// for the call is an error, and so is a field that is not zero although the kind does not fill
-    /// it, a date or an instant outside the calendar, or a number of days tested that no two dates
-    /// have. The type is the one that [`Call::content`] names; as any other, no answer can be read.
+    /// it, a date or an instant outside the calendar, a number of days tested that no two dates have,
+    /// or a margin that its verdict cannot have. The type is the one that [`Call::content`] names; as
+    /// any other, no answer can be read.
     ///
     /// ```
     /// use mako_fristen_host::{Answer, Call, Date, Error, Refusal, Span};
@@ -183,8 +201,8 @@ impl Answer {
             Content::Count => self.is_read_as::<WerktageBetween>(number, call),
             Content::Instant => self.is_read_as::<Instant>(number, call),
             Content::GasDue => self.is_read_as::<GasDue>(number, call),
-            Content::Verdict => self.is_read_as::<VorlaufVerdict>(number, call),
-            Content::AbmeldungVerdict => self.is_read_as::<Option<VorlaufVerdict>>(number, call),
+            Content::Verdict => self.is_read_as::<Judgement>(number, call),
+            Content::AbmeldungVerdict => self.is_read_as::<Option<Judgement>>(number, call),
             Content::Span => self.is_read_as::<Span>(number, call),
             Content::AbmeldungVorlauf => self.is_read_as::<AbmeldungVorlauf>(number, call),
             Content::Ankuendigung => self.is_read_as::<Option<bool>>(number, call),
@@ -274,6 +292,12 @@ impl Answer {
     #[must_use]
     pub fn with_days_tested(self, days: u32) -> Answer {
         self.with(DAYS_TESTED, &days.to_le_bytes())
+    }
+
+    /// With this margin of a verdict.
+    #[must_use]
+    pub fn with_margin(self, days: i32) -> Answer {
+        self.with(MARGIN, &days.to_le_bytes())
     }
 
     pub(crate) fn field<const N: usize>(&self, at: usize) -> [u8; N] {

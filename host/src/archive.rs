@@ -13,8 +13,8 @@ use crate::{
 /// That an answer can be read does not say that it still means the same. An archive from before F-2
 /// of document 02, whose day test gives 1 for a Werktag and 0 for every other day, would be read the
 /// wrong way round; here it is found, and so is one from before F-3, whose counts do not say how
-/// many days they tested. (One from before F-5 has no `mf_portfolio`: no program is linked with it.)
-/// It takes some microseconds.
+/// many days they tested, and one from before F-6, whose verdicts have no margin. (One from before F-5
+/// has no `mf_portfolio`: no program is linked with it.) It takes some microseconds.
 ///
 /// ```
 /// assert_eq!(mako_fristen_host::check_archive(), Ok(()));
@@ -170,19 +170,23 @@ fn gas_due_instants() -> [Row; 2] {
     ]
 }
 
-/// Cases E and F, a window that is not open yet, and what has no shape.
-fn verdicts() -> [Row; 4] {
+/// Case F; an anchor three days after 7 April, the first that 2 April allows; case E; a window that is
+/// not open yet and closes on the anchor; what has no shape.
+fn verdicts() -> [Row; 5] {
     let of =
         |shape, from, to| Question::on(Call::VorlaufCheck, from).with_second(to).with_shape(shape);
     let one_before = VorlaufShape::LatestWerktageBefore(1);
+    let one_after = VorlaufShape::EarliestWerktageAfter(1);
     let window = VorlaufShape::WindowWerktageBefore { earliest: 1, latest: 0 };
     let day_before = VorlaufShape::TagVorDemLetztenWerktagVor;
     let (january_10, january_12) = (date(1, 10), date(1, 12));
+    let too_late = kind(1).with_date(january_12).with_margin(-1);
     let unshaped = deregistration(Call::AbmeldungCheck, b"ZQ7", Eeg::No);
     [
         (of(day_before, date(1, 8), january_10), kind(0)),
-        (of(one_before, january_10, january_12), kind(1).with_date(january_12)),
-        (of(window, date(1, 5), date(1, 14)), kind(2).with_count(5)),
+        (of(one_after, date(4, 2), date(4, 10)), kind(0).with_margin(3)),
+        (of(one_before, january_10, january_12), too_late),
+        (of(window, date(1, 5), date(1, 14)), kind(2).with_count(5).with_margin(9)),
         (Question { date: january_10, ..unshaped }.with_second(january_12), kind(3)),
     ]
 }
@@ -255,11 +259,12 @@ fn file() -> [FileRow; 5] {
     let contrl = Frage::Contrl { received: at(1_774_951_199), anlass: ContrlAnlass::Regelfall };
     let shape = VorlaufShape::LatestWerktageBefore(1);
     let (uebertragungstag, anchor) = (date(1, 10), date(1, 12));
+    let too_late = kind(1).with_date(anchor).with_margin(-1);
     [
         (contrl, kind(0).with_instant(at(1_774_972_799))),
         (same_day_at(12), kind(0).with_instant(at(1_768_215_600))),
         (same_day_at(24), Answer::refused(Refusal::NoClock)),
-        (Frage::Check { shape, uebertragungstag, anchor }, kind(1).with_date(anchor)),
+        (Frage::Check { shape, uebertragungstag, anchor }, too_late),
         (Frage::Span { shape, uebertragungstag }, kind(0).with_date(date(1, 13))),
     ]
 }
@@ -296,7 +301,7 @@ mod tests {
         assert_eq!(reasons, known.filter(given).collect::<Vec<_>>());
         assert_eq!(kinds(&days()), [0, 0, 0]);
         assert_eq!(kinds(&gas_due_instants()), [0, 1]);
-        assert_eq!(kinds(&verdicts()), [0, 1, 2, 3]);
+        assert_eq!(kinds(&verdicts()), [0, 0, 1, 2, 3]);
         assert_eq!(kinds(&spans()), [0, 1, 2]);
         assert_eq!(kinds(&deregistrations()), [0, 1, 2, 3]);
         assert_eq!(kinds(&announcements()), [0, 1, 2]);
@@ -323,6 +328,18 @@ mod tests {
         let untold = checked(&[(question, counted.with_days_tested(0))]);
         let found = Unreadable { call: Call::WerktageBetween, number: 0, answer: counted };
         assert_eq!(untold, Err(found));
+    }
+
+    /// What an archive gives that leaves these bytes at zero.
+    #[test]
+    fn a_verdict_without_its_margin_is_found() {
+        let [(on_the_last_day, zero), rows @ .., (unshaped, none)] = verdicts();
+        assert_eq!(checked(&[(on_the_last_day, zero), (unshaped, none)]), Ok(()));
+        for (question, answer) in rows {
+            let untold = checked(&[(question, answer.with_margin(0))]);
+            let found = Unreadable { call: Call::VorlaufCheck, number: 0, answer };
+            assert_eq!(untold, Err(found), "{question}");
+        }
     }
 
     #[test]

@@ -1,5 +1,6 @@
 //! What the 32 bytes of an answer say, in the words of document 01, and of document 02 for the day
-//! test and the count: which kinds there are, and which fields each fills. Unused fields are zero.
+//! test, the count and the margin: which kinds there are, and which fields each fills. Unused fields
+//! are zero.
 //!
 //! | content | kind | fills |
 //! |---|---|---|
@@ -8,9 +9,9 @@
 //! | count | 0 | count, days tested |
 //! | instant | 0 | instant |
 //! | Gas due instant | 0 follow-up, 1 initial process; its own in the call of either | instant |
-//! | verdict | 0 Ok | |
-//! | | 1 TooLate | count, date |
-//! | | 2 TooEarly | count |
+//! | verdict | 0 Ok | margin |
+//! | | 1 TooLate | count, date, margin |
+//! | | 2 TooEarly | count, margin |
 //! | verdict on a deregistration | as a verdict; 3 no shape | |
 //! | span | 0 no last day | date |
 //! | | 1 both | date, last date |
@@ -27,8 +28,8 @@
 
 use crate::fields::Fields;
 use crate::{
-    AbmeldungVorlauf, Call, Date, DayReason, GasDue, GasProzess, Instant, Span, VorlaufVerdict,
-    WerktageBetween,
+    AbmeldungVorlauf, Call, Date, DayReason, GasDue, GasProzess, Instant, Judgement, Span,
+    VorlaufVerdict, WerktageBetween,
 };
 
 /// What the answers of a call hold.
@@ -44,9 +45,9 @@ pub enum Content {
     Instant,
     /// A [`GasDue`].
     GasDue,
-    /// A [`VorlaufVerdict`].
+    /// A verdict and its margin: a [`Judgement`].
     Verdict,
-    /// The verdict on a deregistration: an `Option<VorlaufVerdict>`, none if it has no shape.
+    /// The same on a deregistration: an `Option<Judgement>`, none if it has no shape.
     AbmeldungVerdict,
     /// A [`Span`].
     Span,
@@ -62,8 +63,8 @@ pub trait FromAnswer: Sized {
     const CONTENT: Content;
 
     /// By the kind and the fields that it fills; the others are not looked at. None for a kind that
-    /// the documents do not have for the call, for a date or an instant outside the calendar, and for
-    /// days tested that no two dates have.
+    /// the documents do not have for the call, for a date or an instant outside the calendar, for days
+    /// tested that no two dates have, and for a margin that its verdict cannot have.
     fn read(fields: &Fields, call: Call) -> Option<Self>;
 
     /// The fields that the documents have for it.
@@ -164,46 +165,49 @@ impl FromAnswer for GasDue {
     }
 }
 
-impl FromAnswer for VorlaufVerdict {
+impl FromAnswer for Judgement {
     const CONTENT: Content = Content::Verdict;
 
-    fn read(fields: &Fields, _: Call) -> Option<VorlaufVerdict> {
-        let count = fields.count;
-        match fields.kind {
-            0 => Some(VorlaufVerdict::Ok),
-            1 => Some(VorlaufVerdict::TooLate {
+    fn read(fields: &Fields, _: Call) -> Option<Judgement> {
+        let (count, margin) = (fields.count, i32::from_le_bytes(fields.word28));
+        let verdict = match fields.kind {
+            0 if margin >= 0 => VorlaufVerdict::Ok,
+            1 if margin < 0 => VorlaufVerdict::TooLate {
                 shortfall_wt: count,
                 earliest_possible: in_calendar(fields.date)?,
-            }),
-            2 => Some(VorlaufVerdict::TooEarly { excess_wt: count }),
-            _ => None,
-        }
+            },
+            2 => VorlaufVerdict::TooEarly { excess_wt: count },
+            _ => return None,
+        };
+        let given = margin.unsigned_abs() <= Judgement::LARGEST_MARGIN;
+        given.then_some(Judgement { verdict, margin })
     }
 
     fn written(&self) -> Fields {
-        match *self {
-            VorlaufVerdict::Ok => of_kind(0),
+        let word28 = self.margin.to_le_bytes();
+        match self.verdict {
+            VorlaufVerdict::Ok => Fields { word28, ..of_kind(0) },
             VorlaufVerdict::TooLate { shortfall_wt: count, earliest_possible: date } => {
-                Fields { count, date, ..of_kind(1) }
+                Fields { count, date, word28, ..of_kind(1) }
             }
-            VorlaufVerdict::TooEarly { excess_wt: count } => Fields { count, ..of_kind(2) },
+            VorlaufVerdict::TooEarly { excess_wt: count } => Fields { count, word28, ..of_kind(2) },
         }
     }
 }
 
-impl FromAnswer for Option<VorlaufVerdict> {
+impl FromAnswer for Option<Judgement> {
     const CONTENT: Content = Content::AbmeldungVerdict;
 
-    fn read(fields: &Fields, call: Call) -> Option<Option<VorlaufVerdict>> {
+    fn read(fields: &Fields, call: Call) -> Option<Option<Judgement>> {
         match fields.kind {
             3 => Some(None),
-            _ => VorlaufVerdict::read(fields, call).map(Some),
+            _ => Judgement::read(fields, call).map(Some),
         }
     }
 
     fn written(&self) -> Fields {
         match self {
-            Some(verdict) => verdict.written(),
+            Some(judgement) => judgement.written(),
             None => of_kind(3),
         }
     }

@@ -14,8 +14,8 @@ pub struct Fields {
     pub date: Date,
     /// Bytes 24 to 27: a span's last date, or the days that a count tested.
     pub word24: [u8; 4],
-    /// Bytes 28 to 31, which nothing fills.
-    pub rest: [u8; 4],
+    /// Bytes 28 to 31: a verdict's margin.
+    pub word28: [u8; 4],
 }
 
 impl Fields {
@@ -29,7 +29,7 @@ impl Fields {
             instant: answer.instant(),
             date: answer.date(),
             word24: answer.field(24),
-            rest: answer.field(28),
+            word28: answer.field(28),
         }
     }
 }

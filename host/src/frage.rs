@@ -115,14 +115,15 @@ impl Frage {
     /// The answer of the single call.
     ///
     /// ```
-    /// use mako_fristen_host::{Antwort, Date, Frage, VorlaufShape, VorlaufVerdict};
+    /// use mako_fristen_host::{Antwort, Date, Frage, Judgement, VorlaufShape, VorlaufVerdict};
     ///
     /// let frage = Frage::Check {
     ///     shape: VorlaufShape::TagVorDemLetztenWerktagVor,
     ///     uebertragungstag: Date::new(2026, 1, 8),
     ///     anchor: Date::new(2026, 1, 10),
     /// };
-    /// assert_eq!(frage.answer(), Ok(Antwort::Verdict(VorlaufVerdict::Ok)));
+    /// let on_the_last_day = Judgement { verdict: VorlaufVerdict::Ok, margin: 0 };
+    /// assert_eq!(frage.answer(), Ok(Antwort::Verdict(on_the_last_day)));
     /// ```
     ///
     /// # Errors

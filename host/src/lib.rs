@@ -36,26 +36,27 @@
 //!
 //! ```
 //! use mako_fristen_host::{
-//!     berlin_date, contrl_due_at, ContrlAnlass, Date, Error, Instant, Refusal, VorlaufShape,
-//!     VorlaufVerdict,
+//!     berlin_date, contrl_due_at, ContrlAnlass, Date, Error, Instant, Judgement, Refusal,
+//!     VorlaufShape, VorlaufVerdict,
 //! };
 //! use std::time::{Duration, SystemTime, UNIX_EPOCH};
 //!
 //! /// When the CONTRL is due, and whether the message came five Werktage before `anchor`.
-//! fn receive(at: SystemTime, anchor: Date) -> Result<(SystemTime, VorlaufVerdict), Error> {
+//! fn receive(at: SystemTime, anchor: Date) -> Result<(SystemTime, Judgement), Error> {
 //!     let at = Instant::from(at);
 //!     let due = contrl_due_at(at, ContrlAnlass::StromUtilmdOderOrders)?;
-//!     let verdict = VorlaufShape::LatestWerktageBefore(5).check(berlin_date(at)?, anchor)?;
-//!     Ok((SystemTime::try_from(due)?, verdict))
+//!     let judgement = VorlaufShape::LatestWerktageBefore(5).check(berlin_date(at)?, anchor)?;
+//!     Ok((SystemTime::try_from(due)?, judgement))
 //! }
 //!
 //! // 23 December 2025, 10:00 in Berlin: the fifth Werktag before 6 January 2026.
 //! let received = UNIX_EPOCH + Duration::from_secs(1_766_480_400);
-//! let (due, verdict) = receive(received, Date::new(2026, 1, 6))?;
+//! let (due, judgement) = receive(received, Date::new(2026, 1, 6))?;
 //! assert_eq!(due, received + Duration::from_secs(15 * 60));
-//! assert_eq!(verdict, VorlaufVerdict::Ok);
-//! let (_, verdict) = receive(received, Date::new(2026, 1, 5))?;
-//! assert!(matches!(verdict, VorlaufVerdict::TooLate { shortfall_wt: 1, .. }));
+//! assert_eq!(judgement, Judgement { verdict: VorlaufVerdict::Ok, margin: 0 });
+//! let (_, judgement) = receive(received, Date::new(2026, 1, 5))?;
+//! assert!(matches!(judgement.verdict, VorlaufVerdict::TooLate { shortfall_wt: 1, .. }));
+//! assert_eq!(judgement.margin, -1);
 //! let refused = receive(UNIX_EPOCH, Date::new(2026, 1, 5));
 //! assert_eq!(refused, Err(Error::Refused(Refusal::InstantOutside)));
 //! # Ok::<(), Error>(())
@@ -77,8 +78,9 @@
 //!
 //! Every byte of an answer is looked at. A number or a kind that the documents do not have for the
 //! call, something in a field that the kind does not fill, a date or an instant outside the calendar,
-//! a number of days tested that no two dates have, a count of a portfolio that its pair cannot have:
-//! each is an [`Error::Unreadable`], from any function, and never taken for the answer next to it.
+//! a number of days tested that no two dates have, a margin that its verdict cannot have, a count of a
+//! portfolio that its pair cannot have: each is an [`Error::Unreadable`], from any function, and never
+//! taken for the answer next to it.
 //! It comes only from an archive of another version than this crate. A kind that means something else
 //! in another version is still a kind: [`check_archive`], at the start of a service, finds that too.
 //!
@@ -176,7 +178,7 @@ pub use refusal::Refusal;
 pub use span::Span;
 pub use sparte::Sparte;
 pub use unreadable::Unreadable;
-pub use verdict::VorlaufVerdict;
+pub use verdict::{Judgement, VorlaufVerdict};
 pub use vorlauf_shape::VorlaufShape;
 pub use weekday::Weekday;
 pub use werktage_between::WerktageBetween;

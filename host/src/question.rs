@@ -21,7 +21,9 @@ use std::fmt;
 /// Each place has its `with`. What the call does not take may hold anything:
 ///
 /// ```
-/// use mako_fristen_host::{Call, Date, Instant, Question, Sparte, VorlaufShape, VorlaufVerdict};
+/// use mako_fristen_host::{
+///     Call, Date, Instant, Judgement, Question, Sparte, VorlaufShape, VorlaufVerdict,
+/// };
 ///
 /// let (friday, monday) = (Instant::new(1_767_999_599, 0), Instant::new(1_768_194_000, 0));
 /// let question = Question::at(Call::VorlaufCheckAt, friday)
@@ -29,7 +31,8 @@ use std::fmt;
 ///     .with_second_instant(monday)
 ///     .with_second_code(Sparte::Gas.code());
 /// let answer = question.with_second(Date::new(0, 99, 99)).answer()?;
-/// assert_eq!(answer.read(Call::VorlaufCheckAt), Ok(VorlaufVerdict::Ok));
+/// let on_the_last_day = Judgement { verdict: VorlaufVerdict::Ok, margin: 0 };
+/// assert_eq!(answer.read(Call::VorlaufCheckAt), Ok(on_the_last_day));
 /// # Ok::<(), mako_fristen_host::Error>(())
 /// ```
 #[derive(Clone, Copy, Debug, PartialEq, Eq, Hash)]

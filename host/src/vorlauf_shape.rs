@@ -3,7 +3,7 @@
 
 #[cfg(doc)]
 use crate::Refusal;
-use crate::{Call, Date, Error, Instant, Question, Span, Sparte, VorlaufVerdict};
+use crate::{Call, Date, Error, Instant, Judgement, Question, Span, Sparte};
 
 /// The shape of a Vorlauffrist, in Werktage or months relative to the anchor.
 #[derive(Clone, Copy, Debug, PartialEq, Eq, Hash)]
@@ -109,24 +109,24 @@ impl VorlaufShape {
         })
     }
 
-    /// The verdict on a transmission day and an anchor. One Werktag before a Monday is the Friday;
-    /// a message of the Saturday between is too late, although no Werktag is missing, and the
-    /// Monday that is named is the date just rejected.
+    /// The verdict on a transmission day and an anchor, and its margin. One Werktag before a Monday
+    /// is the Friday; a message of the Saturday between is too late by a day, although no Werktag is
+    /// missing, and the Monday that is named is the date just rejected.
     ///
     /// ```
-    /// use mako_fristen_host::{Date, VorlaufShape, VorlaufVerdict};
+    /// use mako_fristen_host::{Date, Judgement, VorlaufShape, VorlaufVerdict};
     ///
     /// let (saturday, monday) = (Date::new(2026, 1, 10), Date::new(2026, 1, 12));
-    /// let verdict = VorlaufShape::LatestWerktageBefore(1).check(saturday, monday);
-    /// let too_late = VorlaufVerdict::TooLate { shortfall_wt: 0, earliest_possible: monday };
-    /// assert_eq!(verdict, Ok(too_late));
+    /// let judgement = VorlaufShape::LatestWerktageBefore(1).check(saturday, monday);
+    /// let verdict = VorlaufVerdict::TooLate { shortfall_wt: 0, earliest_possible: monday };
+    /// assert_eq!(judgement, Ok(Judgement { verdict, margin: -1 }));
     /// ```
     ///
     /// # Errors
     ///
     /// [`Refusal::NoDate`], for either date; [`Refusal::LeavesCalendar`], if a date that the
     /// original computes for it does so; the shapes with months compute theirs for an Ok as well.
-    pub fn check(self, uebertragungstag: Date, anchor: Date) -> Result<VorlaufVerdict, Error> {
+    pub fn check(self, uebertragungstag: Date, anchor: Date) -> Result<Judgement, Error> {
         self.check_question(uebertragungstag, anchor).content()
     }
 
@@ -141,7 +141,7 @@ impl VorlaufShape {
     ///
     /// ```
     /// use mako_fristen_host::{
-    ///     berlin_at, berlin_midnight, Clock, Date, Error, Refusal, Sparte, VorlaufShape,
+    ///     berlin_at, berlin_midnight, Clock, Date, Error, Judgement, Refusal, Sparte, VorlaufShape,
     ///     VorlaufVerdict,
     /// };
     ///
@@ -151,7 +151,7 @@ impl VorlaufShape {
     /// let check = |anchor| {
     ///     VorlaufShape::LatestWerktageBefore(1).check_at(friday_evening, anchor, Sparte::Gas)
     /// };
-    /// assert_eq!(check(gas_day), Ok(VorlaufVerdict::Ok));
+    /// assert_eq!(check(gas_day), Ok(Judgement { verdict: VorlaufVerdict::Ok, margin: 0 }));
     /// assert_eq!(check(berlin_midnight(monday)?), Err(Refusal::NoBeginning.into()));
     /// # Ok::<(), Error>(())
     /// ```
@@ -165,7 +165,7 @@ impl VorlaufShape {
         uebertragen: Instant,
         anchor: Instant,
         sparte: Sparte,
-    ) -> Result<VorlaufVerdict, Error> {
+    ) -> Result<Judgement, Error> {
         let question = Question::at(Call::VorlaufCheckAt, uebertragen).with_second_instant(anchor);
         question.with_second_code(sparte.code()).with_shape(self).content()
     }

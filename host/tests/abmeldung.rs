@@ -1,6 +1,8 @@
 //! Deregistrations: which bytes are the deactivation reason, and the verdict of each case.
 
-use mako_fristen_host::{ffi, AbmeldungVorlauf, Answer, Date, Eeg, Refusal, VorlaufVerdict};
+use mako_fristen_host::{
+    ffi, AbmeldungVorlauf, Answer, Date, Eeg, Judgement, Refusal, VorlaufVerdict,
+};
 use AbmeldungVorlauf::{AnPruefschritt120, EinMonat, TagVorDemLetztenWerktag, Unbestimmt};
 
 const GUARD: usize = 16;
@@ -84,15 +86,18 @@ fn the_verdict_of_each_case() {
     let check = |reason: &[u8], eeg, anchor| {
         AbmeldungVorlauf::check(reason, eeg, january(8), anchor).expect("no refusal")
     };
-    let late = |shortfall_wt, earliest_possible| {
-        Some(VorlaufVerdict::TooLate { shortfall_wt, earliest_possible })
+    let late = |shortfall_wt, earliest_possible, margin| {
+        let verdict = VorlaufVerdict::TooLate { shortfall_wt, earliest_possible };
+        Some(Judgement { verdict, margin })
     };
+    let in_time = |margin| Some(Judgement { verdict: VorlaufVerdict::Ok, margin });
     let february = |day| Date::new(2026, 2, day);
-    assert_eq!(check(b"Z33", Eeg::No, january(9)), late(1, january(10)));
-    assert_eq!(check(b"Z33", Eeg::No, january(10)), Some(VorlaufVerdict::Ok));
-    assert_eq!(check(b"Z33", Eeg::Yes, february(7)), late(1, february(8)));
-    assert_eq!(check(b"Z33", Eeg::Yes, february(8)), Some(VorlaufVerdict::Ok));
-    assert_eq!(check(b"zq7", Eeg::Yes, february(8)), Some(VorlaufVerdict::Ok));
+    assert_eq!(check(b"Z33", Eeg::No, january(9)), late(1, january(10), -1));
+    assert_eq!(check(b"Z33", Eeg::No, january(10)), in_time(0));
+    assert_eq!(check(b"Z33", Eeg::No, january(13)), in_time(3));
+    assert_eq!(check(b"Z33", Eeg::Yes, february(7)), late(1, february(8), -1));
+    assert_eq!(check(b"Z33", Eeg::Yes, february(8)), in_time(0));
+    assert_eq!(check(b"zq7", Eeg::Yes, february(8)), in_time(0));
     for anchor in [january(9), february(8)] {
         assert_eq!(check(b"Z33", Eeg::Unknown, anchor), None);
         for eeg in Eeg::ALL {

@@ -143,22 +143,25 @@ fn a_day_of_an_instant() {
     assert_eq!(bytes_of(|a| ffi::mf_tag_des_beginns(1_775_102_400, 0, 1, a)), day);
 }
 
-/// Kind, count and date, all of case E but the count, which is 1 here.
+/// Kind, count, date and margin, by which a Monday is 3 days after the Friday, a Sunday a day before
+/// its Monday, and 5 January 9 days before the 14th.
 #[test]
 fn a_verdict() {
     #[rustfmt::skip]
     let too_late = [
         0, 1, 0, 0,  1, 0, 0, 0,  0, 0, 0, 0, 0, 0, 0, 0,
-        0, 0, 0, 0,  0xea, 0x07, 1, 13,  0, 0, 0, 0,  0, 0, 0, 0,
+        0, 0, 0, 0,  0xea, 0x07, 1, 13,  0, 0, 0, 0,  0xfd, 0xff, 0xff, 0xff,
     ];
     let (sunday, monday) = (1_768_172_400 - 86_400, 1_768_172_400);
     assert_eq!(bytes_of(|a| ffi::mf_vorlauf_check(0, 1, 9, 2026, 1, 12, 2026, 1, 12, a)), too_late);
     let at = |a: &mut [u8]| ffi::mf_vorlauf_check_at(0, 1, 9, monday + 3, 5, monday, 0, 0, a);
     assert_eq!(bytes_of(at), too_late);
     let ok = |a: &mut [u8]| ffi::mf_vorlauf_check_at(0, 0, 9, sunday, 5, monday, 0, 0, a);
-    assert_eq!(bytes_of(ok), [0; 32]);
+    let mut in_time = [0; 32];
+    in_time[28] = 1;
+    assert_eq!(bytes_of(ok), in_time);
     let mut too_early = [0; 32];
-    (too_early[1], too_early[4]) = (2, 5);
+    (too_early[1], too_early[4], too_early[28]) = (2, 5, 9);
     let early = |a: &mut [u8]| ffi::mf_vorlauf_check(1, 1, 0, 2026, 1, 5, 2026, 1, 14, a);
     assert_eq!(bytes_of(early), too_early);
 }
@@ -180,7 +183,8 @@ fn a_span() {
     assert_eq!(bytes_of(|a| ffi::mf_vorlauf_span(1, 1, 1, 2026, 1, 10, a)), empty);
 }
 
-/// The byte 1 has the case, and 3 where a verdict has no shape.
+/// The byte 1 has the case, and 3 where a verdict has no shape. Before 8 February the last Werktag is
+/// the 6th, and the day before it 28 days after 8 January.
 #[test]
 fn a_deregistration() {
     let kind = |kind| std::array::from_fn(|place| if place == 1 { kind } else { 0 });
@@ -190,7 +194,9 @@ fn a_deregistration() {
     let check = |reason: &[u8], eeg| {
         bytes_of(|a| ffi::mf_abmeldung_check(reason, eeg, 2026, 1, 8, 2026, 2, 8, a))
     };
-    assert_eq!(check(b"Z33", 0), [0; 32]);
+    let mut in_time = [0; 32];
+    in_time[28] = 28;
+    assert_eq!(check(b"Z33", 0), in_time);
     assert_eq!(check(b"Z33", 1), [0; 32]);
     assert_eq!(check(b"Z33", 2), kind(3));
     assert_eq!(check(b"ZQ7", 0), kind(3));
@@ -234,14 +240,16 @@ fn the_fields_of_an_answer() {
     assert_eq!(answer.date(), Date::new(0x1514, 0x16, 0x17));
     assert_eq!(answer.last_date(), Date::new(0x1918, 0x1a, 0x1b));
     assert_eq!(answer.days_tested(), 0x1b1a_1918);
-    assert_eq!(answer.as_bytes()[28..], [28, 29, 30, 31]);
+    assert_eq!(answer.margin(), 0x1f1e_1d1c);
 }
 
 #[test]
-fn seconds_are_signed() {
+fn seconds_and_a_margin_are_signed() {
     let mut bytes = [0; 32];
     bytes[8..16].fill(0xff);
-    assert_eq!(Answer::from_bytes(bytes).instant().seconds, -1);
+    bytes[28..].fill(0xff);
+    let answer = Answer::from_bytes(bytes);
+    assert_eq!((answer.instant().seconds, answer.margin()), (-1, -1));
 }
 
 #[test]
@@ -258,6 +266,10 @@ fn what_is_put_into_an_answer_is_read_from_it() {
     assert_eq!((answer.instant(), answer.date(), answer.last_date()), (instant, date, last));
     assert_eq!(answer.with_days_tested(732).days_tested(), 732);
     assert_eq!(answer.with_days_tested(732).with_last_date(last), answer, "the same bytes");
+    for margin in [0, 1, -1, 330_179, -330_179, i32::MAX, i32::MIN] {
+        assert_eq!(answer.with_margin(margin).margin(), margin);
+        assert_eq!(answer.with_margin(margin).with_margin(0), answer, "no other bytes");
+    }
     assert_eq!(Answer::refused(Refusal::LeavesCalendar).number(), 8);
 }
 

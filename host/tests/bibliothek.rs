@@ -55,14 +55,15 @@ fn gas(GasDue { kind: prozess, due }: GasDue) -> Answer {
     timed(due).with_kind(prozess as u8)
 }
 
-fn judged(verdict: VorlaufVerdict) -> Answer {
-    match verdict {
+fn judged(Judgement { verdict, margin }: Judgement) -> Answer {
+    let answer = match verdict {
         VorlaufVerdict::Ok => kind(0),
         VorlaufVerdict::TooLate { shortfall_wt, earliest_possible } => {
             dated(earliest_possible).with_kind(1).with_count(shortfall_wt)
         }
         VorlaufVerdict::TooEarly { excess_wt } => kind(2).with_count(excess_wt),
-    }
+    };
+    answer.with_margin(margin)
 }
 
 fn counted(WerktageBetween { werktage, days_tested }: WerktageBetween) -> Answer {
@@ -253,9 +254,10 @@ fn every_answer_is_read() {
             .with_count(answer.count())
             .with_instant(answer.instant())
             .with_date(answer.date())
-            .with_last_date(answer.last_date());
-        // The refusal number, two bytes and the last four are no field of these.
-        assert_eq!(again.as_bytes()[4..28], bytes[4..28]);
+            .with_last_date(answer.last_date())
+            .with_margin(answer.margin());
+        // The refusal number and two bytes are no field of these.
+        assert_eq!(again.as_bytes()[4..], bytes[4..]);
         assert_eq!(again.with_days_tested(answer.days_tested()), again);
         assert_eq!((again.as_bytes()[1], answer.number()), (bytes[1], bytes[0]));
     }
@@ -337,7 +339,7 @@ fn threads_ask_at_the_same_time() {
     is_plain::<(Question, Answer, Date, Clock, Instant, Reason)>();
     is_plain::<(Error, Refusal, Unreadable, Content)>();
     is_plain::<(Call, Parameter, ContrlAnlass, Sparte, Eeg, GasDue, FristShape)>();
-    is_plain::<(VorlaufShape, VorlaufVerdict, Span, AbmeldungVorlauf, WerktageBetween)>();
+    is_plain::<(VorlaufShape, Judgement, Span, AbmeldungVorlauf, WerktageBetween)>();
     is_plain::<(Frage, Fragesatz, Antwort, DayReason, Feiertag)>();
     let mut random = Random(0x6661_6465);
     let questions: Vec<Question> = Call::ALL.map(|call| random.question(call)).to_vec();

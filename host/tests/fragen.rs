@@ -5,7 +5,8 @@ mod zufall;
 
 use mako_fristen_host::{
     answer_records, answers, ffi, fragen, Answer, Antwort, Clock, ContrlAnlass, Date, Error, Frage,
-    Fragesatz, FristShape, Instant, Refusal, Span, VorlaufShape, VorlaufVerdict, MOST_QUESTIONS,
+    Fragesatz, FristShape, Instant, Judgement, Refusal, Span, VorlaufShape, VorlaufVerdict,
+    MOST_QUESTIONS,
 };
 use zufall::Random;
 
@@ -656,18 +657,19 @@ fn the_cases_of_document_01_in_one_file() {
         shape: FristShape::SameDayAt(Clock::new(hour, minute, 0, 0)),
         received: Instant::new(seconds, 0),
     };
-    let too_late = |shortfall_wt, earliest_possible| {
-        Ok(Antwort::Verdict(VorlaufVerdict::TooLate { shortfall_wt, earliest_possible }))
+    let judged = |verdict, margin| Ok(Antwort::Verdict(Judgement { verdict, margin }));
+    let too_late = |shortfall_wt, earliest_possible, margin| {
+        judged(VorlaufVerdict::TooLate { shortfall_wt, earliest_possible }, margin)
     };
     let from = |first| Ok(Antwort::Span(Span::From(first)));
     let due = |seconds| Ok(Antwort::Due(Instant::new(seconds, 0)));
     let refused = |refusal: Refusal| Err(refusal.into());
     let rows = [
-        (check(before(1), date(1, 10), date(1, 12)), too_late(0, date(1, 12))),
+        (check(before(1), date(1, 10), date(1, 12)), too_late(0, date(1, 12), -1)),
         (span(before(1), date(1, 10)), from(date(1, 13))),
-        (check(day_before, date(1, 8), date(1, 9)), too_late(1, date(1, 10))),
-        (check(day_before, date(1, 8), date(1, 10)), Ok(Antwort::Verdict(VorlaufVerdict::Ok))),
-        (check(month, date(1, 31), date(2, 28)), too_late(2, date(2, 28))),
+        (check(day_before, date(1, 8), date(1, 9)), too_late(1, date(1, 10), -1)),
+        (check(day_before, date(1, 8), date(1, 10)), judged(VorlaufVerdict::Ok, 0)),
+        (check(month, date(1, 31), date(2, 28)), too_late(2, date(2, 28), -3)),
         (span(month, date(1, 31)), from(date(3, 1))),
         (span(window, date(1, 10)), Ok(Antwort::Span(Span::Empty))),
         (contrl(1_774_951_199), due(1_774_972_799)),

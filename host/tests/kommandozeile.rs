@@ -13,7 +13,7 @@ mod zeilen;
 use mako_fristen_host::{
     ffi, Answer, Call, Clock, Date, DayReason, Instant, Parameter, Question, Reason,
 };
-use saetze::{CASES, DAYS, DUE, JSON, LABELS, SPANS, VERDICTS, VERDICTS_JSON};
+use saetze::{CASES, DAYS, DUE, JSON, LABELS, MARGINS, SPANS, VERDICTS, VERDICTS_JSON};
 use std::ffi::{OsStr, OsString};
 use std::fs;
 use std::path::Path;
@@ -144,12 +144,35 @@ fn windows_and_spans() {
     assert_prints(SPANS);
 }
 
+#[test]
+fn a_verdict_says_by_how_many_days() {
+    assert_prints(MARGINS);
+}
+
+/// In JSON, in the bytes and in the help; a refusal has none.
+#[test]
+fn the_margin_of_a_verdict() {
+    let check = ["check", "LatestWerktageBefore", "1", "2026-01-10", "2026-01-12"];
+    let bytes = printed(&[&check[..], &["--bytes"]].concat(), 0);
+    let fields = ["0001000000000000", &"00".repeat(12), "ea07010c", "00000000", "ffffffff\n"];
+    assert_eq!(bytes, fields.concat());
+    let help = printed(&["help", "check"], 0);
+    assert!(help.contains("\n„margin“ in --json: die Tage vom Übertragungstag "), "{help}");
+    for command in ["check", "check-at", "abmeldung"] {
+        let help = printed(&["help", command], 0).replace('\n', " ");
+        assert!(help.contains("mit den Tagen, die noch Luft sind oder zu spät"), "{help}");
+    }
+    let refused = printed(&["check", "Korridor", "1", "1996-01-01", "1996-01-01", "--json"], 2);
+    assert!(!refused.contains("margin"), "{refused}");
+}
+
 /// The verdict is answered while the span of the same day is refused.
 #[test]
 fn a_verdict_whose_span_leaves_the_calendar() {
     assert_prints(&[(
         "check WindowWerktageBefore 3 1 2899-12-28 2899-12-28",
-        "Zu spät: Übertragungstag Montag, 28. Dezember 2899, Termin Montag, 28. Dezember 2899.\n\
+        "5 Tage zu spät: Übertragungstag Montag, 28. Dezember 2899, Termin Montag, 28. Dezember \
+         2899.\n\
          Frühester Übertragungstag ist der 3. Werktag vor dem Termin, spätester der 1. Werktag vor \
          dem Termin.\n\
          Es fehlt 1 Werktag.\n\
@@ -168,15 +191,20 @@ fn deregistrations() {
     let days =
         "Übertragungstag Donnerstag, 8. Januar 2026, Zuordnungsende Montag, 12. Januar 2026.";
     let late = format!(
-        "{eeg}\nZu spät: {days}\nEs fehlen 13 Werktage.\nAls frühestes Zuordnungsende wird \
+        "{eeg}\n27 Tage zu spät: {days}\nEs fehlen 13 Werktage.\nAls frühestes Zuordnungsende wird \
          Sonntag, der 8. Februar 2026, genannt; zulässig ist ein Zuordnungsende ab diesem Tag."
     );
     let clamped = format!(
-        "{eeg}\nZu spät: Übertragungstag Samstag, 31. Januar 2026, Zuordnungsende Samstag, 28. \
+        "{eeg}\n3 Tage zu spät: Übertragungstag Samstag, 31. Januar 2026, Zuordnungsende Samstag, 28. \
          Februar 2026.\nEs fehlen 2 Werktage.\nAls frühestes Zuordnungsende wird Samstag, der 28. \
          Februar 2026, genannt; zulässig ist es nicht.\nZulässig ist ein Zuordnungsende ab \
          Sonntag, dem 1. März 2026."
     );
+    let in_time =
+        "Grund „Z33“, keine EEG-Marktlokation: Spätester Übertragungstag ist der Tag vor dem \
+                   letzten Werktag vor dem Zuordnungsende.\nFrist gewahrt, noch 3 Tage Luft: \
+                   Übertragungstag Donnerstag, 8. Januar 2026, Zuordnungsende Dienstag, 13. Januar \
+                   2026.";
     let open = format!("{unknown}\nKein Urteil, also auch nicht „Frist gewahrt“: {days}");
     let zq7 = "Grund „ZQ7“: Die Frist ist die des Prüfschritts 120: „Liegt das Eingangsdatum der \
                Abmeldung nach dem 5. WT des Monats, in dem die Zuordnungsermächtigung endet?“";
@@ -187,6 +215,7 @@ fn deregistrations() {
         ("abmeldung-fuer ZQ7 --eeg nein", zq7),
         ("abmeldung Z33 2026-01-08 --eeg ja 2026-01-12", &late),
         ("abmeldung Z33 2026-01-31 2026-02-28 --eeg ja", &clamped),
+        ("abmeldung Z33 2026-01-08 2026-01-13 --eeg nein", in_time),
         ("--eeg unbekannt abmeldung zq7 2026-01-08 2026-01-12", &open),
         ("abmeldung ZQ7 2026-01-08 2026-01-12 --eeg ja", &passed),
     ]);

@@ -3,7 +3,7 @@
 
 use mako_fristen_host::{
     AbmeldungVorlauf, Answer, Call, Date, DayReason, Error, Feiertag, GasDue, GasProzess, Instant,
-    Refusal, Span, Unreadable, VorlaufVerdict, WerktageBetween,
+    Judgement, Refusal, Span, Unreadable, VorlaufVerdict, WerktageBetween,
 };
 use std::ops::Range;
 
@@ -13,9 +13,13 @@ const INSTANT: Instant = Instant::new(1_775_080_799, 999_999_999);
 const COUNT: u32 = 249;
 /// From 31 December 2025 to 31 December 2026.
 const DAYS_TESTED: u32 = 730;
+/// More than a byte of it.
+const MARGIN: i32 = 362;
+const LARGEST_MARGIN: i32 = 330_179;
 
-/// The fields of document 01 behind the kind; the days that a count tested stand in the last.
-const FIELDS: [Range<usize>; 4] = [4..8, 8..20, 20..24, 24..28];
+/// The fields of document 01 behind the kind, where the days that a count tested stand in the last,
+/// and the margin of document 02.
+const FIELDS: [Range<usize>; 5] = [4..8, 8..20, 20..24, 24..28, 28..32];
 
 fn kind(kind: u8) -> Answer {
     Answer::default().with_kind(kind)
@@ -29,13 +33,18 @@ fn dated() -> Answer {
     Answer::default().with_date(DAY)
 }
 
+fn too_late() -> Answer {
+    counted().with_kind(1).with_date(DAY).with_margin(-MARGIN)
+}
+
 fn timed() -> Answer {
     Answer::default().with_instant(INSTANT)
 }
 
 /// One answer of each kind that the documents have for the call. No field that it fills is zero.
 fn answers(call: Call) -> Vec<Answer> {
-    let too_late = counted().with_kind(1).with_date(DAY);
+    let in_time = kind(0).with_margin(MARGIN);
+    let too_early = counted().with_kind(2).with_margin(MARGIN);
     match call {
         Call::IsWerktag => (0..=22).map(kind).collect(),
         Call::NextWerktag
@@ -62,10 +71,8 @@ fn answers(call: Call) -> Vec<Answer> {
         Call::AperakGasFolgeprozessDueAt => vec![timed()],
         Call::AperakGasInitialprozessDueAt => vec![timed().with_kind(1)],
         Call::AperakGasDueAt => vec![timed(), timed().with_kind(1)],
-        Call::VorlaufCheck | Call::VorlaufCheckAt => {
-            vec![kind(0), too_late, counted().with_kind(2)]
-        }
-        Call::AbmeldungCheck => vec![kind(0), too_late, counted().with_kind(2), kind(3)],
+        Call::VorlaufCheck | Call::VorlaufCheckAt => vec![in_time, too_late(), too_early],
+        Call::AbmeldungCheck => vec![in_time, too_late(), too_early, kind(3)],
         Call::VorlaufSpan => {
             vec![dated(), dated().with_kind(1).with_last_date(LAST_DAY), kind(2)]
         }
@@ -109,14 +116,14 @@ fn a_kind_that_document_01_does_not_have_is_an_error() {
     }
 }
 
-/// The kind of one answer with the fields of another, unless they differ in a count alone: a count
-/// may be 0.
+/// The kind of one answer with the fields of another, unless they differ in a count and a margin
+/// alone: both may be 0.
 #[test]
 fn a_kind_with_the_fields_of_another_is_an_error() {
     for (call, answer) in all() {
         for other in answers(call) {
             let mixed = answer.with_kind(other.kind());
-            if mixed.with_count(other.count()) != other {
+            if mixed.with_count(other.count()).with_margin(other.margin()) != other {
                 assert_unreadable(call, mixed);
             }
         }
@@ -137,11 +144,11 @@ fn a_byte_that_is_not_filled_must_be_zero() {
     }
 }
 
-/// 2, 3 and 28 to 31 are no field's.
+/// 2 and 3 are no field's.
 #[test]
 fn the_bytes_between_the_fields_are_always_zero() {
     for (call, answer) in all() {
-        for place in [2, 3, 28, 29, 30, 31] {
+        for place in [2, 3] {
             assert_unreadable(call, with_byte(answer, place, 1));
         }
     }
@@ -228,6 +235,30 @@ fn the_days_tested_are_those_of_two_dates() {
     }
 }
 
+/// Negative for TooLate, not so for Ok, either for TooEarly, within the calendar, and 0 for no shape.
+#[test]
+fn a_margin_is_one_that_its_verdict_can_have() {
+    let beyond = [LARGEST_MARGIN + 1, -LARGEST_MARGIN - 1, i32::MAX, i32::MIN];
+    let (before, after) = ([1, MARGIN, LARGEST_MARGIN], [-1, -MARGIN, -LARGEST_MARGIN]);
+    for call in [Call::VorlaufCheck, Call::VorlaufCheckAt, Call::AbmeldungCheck] {
+        for answer in answers(call) {
+            for margin in [0].into_iter().chain(before).chain(after).chain(beyond) {
+                let readable = match answer.kind() {
+                    0 => margin == 0 || before.contains(&margin),
+                    1 => after.contains(&margin),
+                    2 => !beyond.contains(&margin),
+                    _ => margin == 0,
+                };
+                let answer = answer.with_margin(margin);
+                match readable {
+                    true => assert_eq!(answer.checked(call), Ok(answer), "{call:?} {margin}"),
+                    false => assert_unreadable(call, answer),
+                }
+            }
+        }
+    }
+}
+
 /// 2 to 8 with nothing behind them. A 1 and a 9 leave the slice as it was, so that they never stand
 /// there, and a 10 is no single call's.
 #[test]
@@ -287,8 +318,9 @@ fn a_slice_that_is_left_untouched_is_no_answer() {
 
 #[test]
 fn each_content_as_its_type() {
-    let too_late = VorlaufVerdict::TooLate { shortfall_wt: COUNT, earliest_possible: DAY };
-    let late = counted().with_kind(1).with_date(DAY);
+    let judged = |verdict, margin| Judgement { verdict, margin };
+    let verdict = VorlaufVerdict::TooLate { shortfall_wt: COUNT, earliest_possible: DAY };
+    let late = judged(verdict, -MARGIN);
     let initial = GasDue { kind: GasProzess::Initialprozess, due: INSTANT };
     assert_eq!(kind(0).read(Call::IsWerktag), Ok(DayReason::Werktag));
     assert_eq!(kind(1).read(Call::IsWerktag), Ok(DayReason::Samstag));
@@ -301,12 +333,16 @@ fn each_content_as_its_type() {
     assert_eq!(counted().with_days_tested(DAYS_TESTED).read(Call::WerktageBetween), Ok(between));
     assert_eq!(timed().read(Call::ContrlDueAt), Ok(INSTANT));
     assert_eq!(timed().with_kind(1).read(Call::AperakGasDueAt), Ok(initial));
-    assert_eq!(kind(0).read(Call::VorlaufCheck), Ok(VorlaufVerdict::Ok));
-    assert_eq!(late.read(Call::VorlaufCheckAt), Ok(too_late));
-    let too_early = VorlaufVerdict::TooEarly { excess_wt: COUNT };
-    assert_eq!(counted().with_kind(2).read(Call::VorlaufCheck), Ok(too_early));
-    assert_eq!(late.read(Call::AbmeldungCheck), Ok(Some(too_late)));
-    assert_eq!(kind(3).read::<Option<VorlaufVerdict>>(Call::AbmeldungCheck), Ok(None));
+    let in_time = judged(VorlaufVerdict::Ok, MARGIN);
+    assert_eq!(kind(0).with_margin(MARGIN).read(Call::VorlaufCheck), Ok(in_time));
+    assert_eq!(too_late().read(Call::VorlaufCheckAt), Ok(late));
+    for margin in [MARGIN, -MARGIN] {
+        let early = judged(VorlaufVerdict::TooEarly { excess_wt: COUNT }, margin);
+        let answer = counted().with_kind(2).with_margin(margin);
+        assert_eq!(answer.read(Call::VorlaufCheck), Ok(early));
+    }
+    assert_eq!(too_late().read(Call::AbmeldungCheck), Ok(Some(late)));
+    assert_eq!(kind(3).read::<Option<Judgement>>(Call::AbmeldungCheck), Ok(None));
     assert_eq!(dated().read(Call::VorlaufSpan), Ok(Span::From(DAY)));
     assert_eq!(kind(2).read(Call::VorlaufSpan), Ok(Span::Empty));
     for (number, case) in (0..).zip(AbmeldungVorlauf::ALL) {
@@ -325,7 +361,7 @@ fn no_answer_is_read_as_another_type() {
     assert_eq!(kind(1).read::<Option<bool>>(Call::IsWerktag), Err(day_test));
     assert_eq!(kind(1).read::<AbmeldungVorlauf>(Call::IsWerktag), Err(day_test));
     let verdict = unreadable(Call::AbmeldungCheck, kind(0));
-    assert_eq!(kind(0).read::<VorlaufVerdict>(Call::AbmeldungCheck), Err(verdict));
+    assert_eq!(kind(0).read::<Judgement>(Call::AbmeldungCheck), Err(verdict));
 }
 
 #[test]

@@ -4,7 +4,7 @@
 mod utc;
 
 use mako_fristen_host::{
-    Date, Error, Instant, Refusal, Span, Sparte, VorlaufShape, VorlaufVerdict,
+    Date, Error, Instant, Judgement, Refusal, Span, Sparte, VorlaufShape, VorlaufVerdict,
     VorlaufVerdict::TooEarly, VorlaufVerdict::TooLate,
 };
 use utc::utc;
@@ -44,26 +44,34 @@ const fn months_and_werktage(monate: u32, werktage: u32) -> VorlaufShape {
     LatestMonateUndWerktageBefore { monate, werktage }
 }
 
+fn verdict(shape: VorlaufShape, day: Date, anchor: Date) -> Verdict {
+    without_margin(shape.check(day, anchor))
+}
+
+fn without_margin(judgement: Result<Judgement, Error>) -> Verdict {
+    judgement.map(|judgement| judgement.verdict)
+}
+
 /// The shape has each verdict on its anchor.
 fn gives(shape: VorlaufShape, day: Date, cases: &[(Date, Verdict)]) {
-    for &(anchor, verdict) in cases {
-        assert_eq!(shape.check(day, anchor), verdict, "{shape:?} {day} {anchor}");
+    for &(anchor, expected) in cases {
+        assert_eq!(verdict(shape, day, anchor), expected, "{shape:?} {day} {anchor}");
     }
 }
 
 #[test]
 fn case_e_one_werktag_before_monday_from_a_saturday() {
     let shape = LatestWerktageBefore(1);
-    assert_eq!(shape.check(january(10), january(12)), late(0, january(12)));
+    assert_eq!(verdict(shape, january(10), january(12)), late(0, january(12)));
     assert_eq!(shape.span(january(10)), Ok(Span::From(january(13))));
-    assert_eq!(shape.check(january(10), january(13)), OK);
+    assert_eq!(verdict(shape, january(10), january(13)), OK);
 }
 
 #[test]
 fn case_f_the_day_before_the_last_werktag_before() {
     let shape = TagVorDemLetztenWerktagVor;
-    assert_eq!(shape.check(january(8), january(9)), late(1, january(10)));
-    assert_eq!(shape.check(january(8), january(10)), OK);
+    assert_eq!(verdict(shape, january(8), january(9)), late(1, january(10)));
+    assert_eq!(verdict(shape, january(8), january(10)), OK);
     assert_eq!(shape.span(january(8)), Ok(Span::From(january(10))));
 }
 
@@ -71,9 +79,9 @@ fn case_f_the_day_before_the_last_werktag_before() {
 fn case_g_one_month_from_31_january() {
     let shape = LatestMonateBefore(1);
     let february = date(2026, 2, 28);
-    assert_eq!(shape.check(january(31), february), late(2, february));
+    assert_eq!(verdict(shape, january(31), february), late(2, february));
     assert_eq!(shape.span(january(31)), Ok(Span::From(date(2026, 3, 1))));
-    assert_eq!(shape.check(january(31), date(2026, 3, 1)), OK);
+    assert_eq!(verdict(shape, january(31), date(2026, 3, 1)), OK);
 }
 
 #[test]
@@ -163,14 +171,14 @@ fn no_werktage_and_no_months_are_the_day_itself() {
         months_and_werktage(0, 0),
     ];
     for shape in shapes {
-        assert_eq!(shape.check(saturday, saturday), OK, "{shape:?}");
+        assert_eq!(verdict(shape, saturday, saturday), OK, "{shape:?}");
         assert_eq!(shape.span(saturday), Ok(Span::From(saturday)), "{shape:?}");
-        assert!(matches!(shape.check(saturday, january(9)), Ok(TooLate { .. })), "{shape:?}");
+        assert!(matches!(verdict(shape, saturday, january(9)), Ok(TooLate { .. })), "{shape:?}");
     }
     for shape in [window(0, 0), Korridor(0)] {
-        assert_eq!(shape.check(saturday, saturday), OK, "{shape:?}");
+        assert_eq!(verdict(shape, saturday, saturday), OK, "{shape:?}");
         assert_eq!(shape.span(saturday), Ok(Span::Between(saturday, saturday)), "{shape:?}");
-        assert!(matches!(shape.check(saturday, january(11)), Ok(TooEarly { .. })), "{shape:?}");
+        assert!(matches!(verdict(shape, saturday, january(11)), Ok(TooEarly { .. })), "{shape:?}");
     }
 }
 
@@ -235,7 +243,11 @@ fn spans_hold_what_is_accepted() {
         for shape in shapes {
             for day in [CHRISTMAS, date(2025, 12, 24), date(2025, 12, 27)] {
                 let inside = shape.span(day).map(|span| span.contains(anchor));
-                assert_eq!(Ok(shape.check(day, anchor) == OK), inside, "{shape:?} {day} {anchor}");
+                assert_eq!(
+                    Ok(verdict(shape, day, anchor) == OK),
+                    inside,
+                    "{shape:?} {day} {anchor}"
+                );
             }
         }
     }
@@ -357,7 +369,7 @@ fn the_largest_counts_leave_the_calendar() {
             months_and_werktage(n, n),
         ];
         for shape in shapes {
-            assert_eq!(shape.check(day, day), LEAVES, "{shape:?}");
+            assert_eq!(verdict(shape, day, day), LEAVES, "{shape:?}");
             assert_eq!(shape.span(day), SPAN_LEAVES, "{shape:?}");
         }
     }
@@ -369,7 +381,7 @@ fn a_verdict_at_instants() {
     let shape = LatestWerktageBefore(1);
     let anchors = [(Sparte::Strom, "2026-01-11T23:00:00Z"), (Sparte::Gas, "2026-01-12T05:00:00Z")];
     for (sparte, anchor) in anchors {
-        let check = |at| shape.check_at(utc(at), utc(anchor), sparte);
+        let check = |at| without_margin(shape.check_at(utc(at), utc(anchor), sparte));
         assert_eq!(check("2026-01-09T22:59:59.999999999Z"), OK, "{sparte:?}");
         assert_eq!(check("2026-01-09T23:00:00Z"), late(0, january(12)), "{sparte:?}");
         // 03:00 in Berlin is of that day's calendar day, also for Gas.
@@ -383,7 +395,8 @@ fn a_verdict_at_instants() {
 #[test]
 fn a_verdict_at_instants_by_a_switch() {
     let shape = EarliestWerktageAfter(0);
-    let check = |anchor, sparte| shape.check_at(utc("2026-03-28T23:30:00Z"), utc(anchor), sparte);
+    let at = utc("2026-03-28T23:30:00Z");
+    let check = |anchor, sparte| without_margin(shape.check_at(at, utc(anchor), sparte));
     assert_eq!(check("2026-03-28T23:00:00Z", Sparte::Strom), OK);
     assert_eq!(check("2026-03-29T04:00:00Z", Sparte::Gas), OK);
     assert_eq!(check("2026-03-29T22:00:00Z", Sparte::Strom), OK);
@@ -396,7 +409,8 @@ fn a_verdict_at_instants_by_a_switch() {
 #[test]
 fn an_anchor_that_is_no_beginning() {
     let at = utc("2026-01-09T12:00:00Z");
-    let check = |at, anchor, sparte| LatestWerktageBefore(u32::MAX).check_at(at, anchor, sparte);
+    let shape = LatestWerktageBefore(u32::MAX);
+    let check = |at, anchor, sparte| without_margin(shape.check_at(at, anchor, sparte));
     let anchors = [
         ("2026-01-11T23:00:00Z", Sparte::Gas),
         ("2026-01-12T05:00:00Z", Sparte::Strom),

@@ -73,9 +73,9 @@ fn a_file_in_the_three_forms() {
     let input = format!("# Montag\n\n{SPAN}\n{REFUSED}\n{CHECK}\n");
     let no_end = "Ein Ergebnis verlässt den Kalender vom 1. Januar 1996 bis zum 31. Dezember 2899.";
     let late =
-        "Zu spät: Übertragungstag Samstag, 10. Januar 2026, Termin Montag, 12. Januar 2026. \
-                Spätester Übertragungstag ist der 1. Werktag vor dem Termin. Es fehlen 0 Werktage: \
-                zu spät nur um Tage, die keine Werktage sind. Als frühester Termin wird Montag, \
+        "1 Tag zu spät: Übertragungstag Samstag, 10. Januar 2026, Termin Montag, 12. Januar 2026. \
+                Spätester Übertragungstag ist der 1. Werktag vor dem Termin. Es fehlen 0 Werktage; \
+                zu spät ist es um 1 Tag, der kein Werktag ist. Als frühester Termin wird Montag, \
                 der 12. Januar 2026, genannt; zulässig ist er nicht. Zulässig sind Termine ab \
                 Dienstag, dem 13. Januar 2026.";
     let sentences =
@@ -94,7 +94,7 @@ fn a_file_in_the_three_forms() {
         concat!(
             r#"{"line":5,"call":"mf_vorlauf_check","arguments":["LatestWerktageBefore","1","#,
             r#""2026-01-10","2026-01-12"],"refusal":null,"kind":1,"kind_name":"TooLate","count":0,"#,
-            r#""date":"2026-01-12","date_acceptable":false,"#,
+            r#""margin":-1,"date":"2026-01-12","date_acceptable":false,"#,
             r#""span":{"first":"2026-01-13","last":null}}"#,
         ),
     ];
@@ -102,7 +102,7 @@ fn a_file_in_the_three_forms() {
     let bytes = [
         "3: 0000000000000000000000000000000000000000ea07010d0000000000000000",
         "4: 0800000000000000000000000000000000000000000000000000000000000000",
-        "5: 0001000000000000000000000000000000000000ea07010c0000000000000000",
+        "5: 0001000000000000000000000000000000000000ea07010c00000000ffffffff",
     ];
     assert_eq!(answers(&["--bytes"], &input, 2), bytes);
 }

@@ -45,16 +45,17 @@ pub const CASES: &[(&str, &str)] = &[
 pub const VERDICTS: &[(&str, &str)] = &[
     (
         "check LatestWerktageBefore 1 2026-01-10 2026-01-12",
-        "Zu spät: Übertragungstag Samstag, 10. Januar 2026, Termin Montag, 12. Januar 2026.\n\
+        "1 Tag zu spät: Übertragungstag Samstag, 10. Januar 2026, Termin Montag, 12. Januar 2026.\n\
          Spätester Übertragungstag ist der 1. Werktag vor dem Termin.\n\
-         Es fehlen 0 Werktage: zu spät nur um Tage, die keine Werktage sind.\n\
+         Es fehlen 0 Werktage; zu spät ist es um 1 Tag, der kein Werktag ist.\n\
          Als frühester Termin wird Montag, der 12. Januar 2026, genannt; zulässig ist er \
          nicht.\n\
          Zulässig sind Termine ab Dienstag, dem 13. Januar 2026.",
     ),
     (
         "check TagVorDemLetztenWerktagVor 2026-01-08 2026-01-09",
-        "Zu spät: Übertragungstag Donnerstag, 8. Januar 2026, Termin Freitag, 9. Januar 2026.\n\
+        "1 Tag zu spät: Übertragungstag Donnerstag, 8. Januar 2026, Termin Freitag, 9. Januar \
+         2026.\n\
          Spätester Übertragungstag ist der Tag vor dem letzten Werktag vor dem Termin.\n\
          Es fehlt 1 Werktag.\n\
          Als frühester Termin wird Samstag, der 10. Januar 2026, genannt; zulässig sind \
@@ -62,12 +63,13 @@ pub const VERDICTS: &[(&str, &str)] = &[
     ),
     (
         "check TagVorDemLetztenWerktagVor 2026-01-08 2026-01-10",
-        "Frist gewahrt: Übertragungstag Donnerstag, 8. Januar 2026, Termin Samstag, 10. Januar \
-         2026.\nSpätester Übertragungstag ist der Tag vor dem letzten Werktag vor dem Termin.",
+        "Frist gewahrt, kein Tag Luft: Übertragungstag Donnerstag, 8. Januar 2026, Termin Samstag, \
+         10. Januar 2026.\nSpätester Übertragungstag ist der Tag vor dem letzten Werktag vor dem Termin.",
     ),
     (
         "check LatestMonateBefore 1 2026-01-31 2026-02-28",
-        "Zu spät: Übertragungstag Samstag, 31. Januar 2026, Termin Samstag, 28. Februar 2026.\n\
+        "3 Tage zu spät: Übertragungstag Samstag, 31. Januar 2026, Termin Samstag, 28. Februar \
+         2026.\n\
          Spätester Übertragungstag liegt 1 Monat vor dem Termin.\n\
          Es fehlen 2 Werktage.\n\
          Als frühester Termin wird Samstag, der 28. Februar 2026, genannt; zulässig ist er \
@@ -210,20 +212,23 @@ pub const SPANS: &[(&str, &str)] = &[
         "Zu früh: Übertragungstag Montag, 13. April 2026, Termin Freitag, 24. April 2026.\n\
          Frühester Übertragungstag ist der 5. Werktag vor dem Termin, spätester der 2. Werktag \
          vor dem Termin.\n\
-         Der Zeitraum beginnt erst in 4 Werktagen.",
+         Der Zeitraum beginnt erst in 4 Werktagen.\n\
+         Bis zum spätesten Übertragungstag sind es noch 9 Tage.",
     ),
     (
         "check Korridor 2 2026-04-21 2026-04-24",
         "Zu früh: Übertragungstag Dienstag, 21. April 2026, Termin Freitag, 24. April 2026.\n\
          Der Übertragungstag muss vom 2. Werktag vor bis zum 2. Werktag nach dem Termin liegen.\n\
-         Der Zeitraum beginnt erst in 1 Werktag.",
+         Der Zeitraum beginnt erst in 1 Werktag.\n\
+         Bis zum spätesten Übertragungstag sind es noch 7 Tage.",
     ),
     (
         "check Korridor 0 2026-01-10 2026-01-11",
         "Zu früh: Übertragungstag Samstag, 10. Januar 2026, Termin Sonntag, 11. Januar 2026.\n\
          Der Übertragungstag muss der Termin selbst sein.\n\
          Bis zum Beginn des Zeitraums sind es 0 Werktage: zu früh nur um Tage, die keine Werktage \
-         sind.",
+         sind.\n\
+         Bis zum spätesten Übertragungstag ist es noch 1 Tag.",
     ),
     (
         "span Korridor 2 2026-04-07",
@@ -239,7 +244,7 @@ pub const SPANS: &[(&str, &str)] = &[
     ),
     (
         "check LatestWerktageBefore 1 2026-01-09 2026-01-09",
-        "Zu spät: Übertragungstag Freitag, 9. Januar 2026, Termin Freitag, 9. Januar 2026.\n\
+        "1 Tag zu spät: Übertragungstag Freitag, 9. Januar 2026, Termin Freitag, 9. Januar 2026.\n\
          Spätester Übertragungstag ist der 1. Werktag vor dem Termin.\n\
          Es fehlt 1 Werktag.\n\
          Als frühester Termin wird Montag, der 12. Januar 2026, genannt; zulässig ist er, der \
@@ -248,7 +253,8 @@ pub const SPANS: &[(&str, &str)] = &[
     ),
     (
         "check WindowWerktageBefore 5 2 2026-01-13 2026-01-13",
-        "Zu spät: Übertragungstag Dienstag, 13. Januar 2026, Termin Dienstag, 13. Januar 2026.\n\
+        "4 Tage zu spät: Übertragungstag Dienstag, 13. Januar 2026, Termin Dienstag, 13. Januar \
+         2026.\n\
          Frühester Übertragungstag ist der 5. Werktag vor dem Termin, spätester der 2. Werktag \
          vor dem Termin.\n\
          Es fehlen 2 Werktage.\n\
@@ -258,7 +264,8 @@ pub const SPANS: &[(&str, &str)] = &[
     ),
     (
         "check EarliestWerktageAfter 0 2026-04-07 2026-04-02",
-        "Zu spät: Übertragungstag Dienstag, 7. April 2026, Termin Donnerstag, 2. April 2026.\n\
+        "Zu spät, der Termin liegt 5 Tage zu früh: Übertragungstag Dienstag, 7. April 2026, Termin \
+         Donnerstag, 2. April 2026.\n\
          Frühester Termin ist der Übertragungstag selbst.\n\
          Es fehlt 1 Werktag.\n\
          Als frühester Termin wird Dienstag, der 7. April 2026, genannt; zulässig sind Termine \
@@ -266,9 +273,96 @@ pub const SPANS: &[(&str, &str)] = &[
     ),
     (
         "check LatestMonateUndWerktageBefore 2 1 2026-01-05 2026-04-01",
-        "Frist gewahrt: Übertragungstag Montag, 5. Januar 2026, Termin Mittwoch, 1. April \
-         2026.\n\
+        "Frist gewahrt, noch 25 Tage Luft: Übertragungstag Montag, 5. Januar 2026, Termin Mittwoch, \
+         1. April 2026.\n\
          Spätester Übertragungstag liegt 2 Monate und 1 Werktag vor dem Termin.",
+    ),
+];
+
+/// About Easter 2026, whose Ostermontag is 6 April; and windows that close before they open.
+pub const MARGINS: &[(&str, &str)] = &[
+    (
+        "check LatestWerktageBefore 1 2026-04-01 2026-04-07",
+        "Frist gewahrt, noch 1 Tag Luft: Übertragungstag Mittwoch, 1. April 2026, Termin Dienstag, \
+         7. April 2026.\n\
+         Spätester Übertragungstag ist der 1. Werktag vor dem Termin.",
+    ),
+    (
+        "check LatestWerktageBefore 1 2026-04-06 2026-04-07",
+        "4 Tage zu spät: Übertragungstag Montag, 6. April 2026, Termin Dienstag, 7. April 2026.\n\
+         Spätester Übertragungstag ist der 1. Werktag vor dem Termin.\n\
+         Es fehlen 0 Werktage; zu spät ist es um 4 Tage, die keine Werktage sind.\n\
+         Als frühester Termin wird Dienstag, der 7. April 2026, genannt; zulässig ist er nicht.\n\
+         Zulässig sind Termine ab Mittwoch, dem 8. April 2026.",
+    ),
+    (
+        "check EarliestWerktageAfter 1 2026-04-02 2026-04-07",
+        "Frist gewahrt, zum frühesten Termin: Übertragungstag Donnerstag, 2. April 2026, Termin \
+         Dienstag, 7. April 2026.\n\
+         Frühester Termin ist der 1. Werktag nach dem Übertragungstag.",
+    ),
+    (
+        "check EarliestWerktageAfter 1 2026-04-02 2026-04-08",
+        "Frist gewahrt, der Termin liegt 1 Tag nach dem frühesten: Übertragungstag Donnerstag, 2. \
+         April 2026, Termin Mittwoch, 8. April 2026.\n\
+         Frühester Termin ist der 1. Werktag nach dem Übertragungstag.",
+    ),
+    (
+        "check EarliestWerktageAfter 1 2026-04-02 2026-04-06",
+        "Zu spät, der Termin liegt 1 Tag zu früh: Übertragungstag Donnerstag, 2. April 2026, Termin \
+         Montag, 6. April 2026.\n\
+         Frühester Termin ist der 1. Werktag nach dem Übertragungstag.\n\
+         Es fehlt 1 Werktag.\n\
+         Als frühester Termin wird Dienstag, der 7. April 2026, genannt; zulässig sind Termine ab \
+         diesem Tag.",
+    ),
+    (
+        "check EarliestWerktageAfter 0 2026-04-03 2026-04-02",
+        "Zu spät, der Termin liegt 1 Tag zu früh: Übertragungstag Freitag, 3. April 2026, Termin \
+         Donnerstag, 2. April 2026.\n\
+         Frühester Termin ist der Übertragungstag selbst.\n\
+         Es fehlen 0 Werktage; zu früh liegt der Termin um 1 Tag, der kein Werktag ist.\n\
+         Als frühester Termin wird Freitag, der 3. April 2026, genannt; zulässig sind Termine ab \
+         diesem Tag.",
+    ),
+    (
+        "check EarliestWerktageAfter 0 2026-04-06 2026-04-02",
+        "Zu spät, der Termin liegt 4 Tage zu früh: Übertragungstag Montag, 6. April 2026, Termin \
+         Donnerstag, 2. April 2026.\n\
+         Frühester Termin ist der Übertragungstag selbst.\n\
+         Es fehlen 0 Werktage; zu früh liegt der Termin um 4 Tage, die keine Werktage sind.\n\
+         Als frühester Termin wird Montag, der 6. April 2026, genannt; zulässig sind Termine ab \
+         diesem Tag.",
+    ),
+    (
+        "check WindowWerktageBefore 0 5 2026-01-09 2026-01-19",
+        "Zu früh: Übertragungstag Freitag, 9. Januar 2026, Termin Montag, 19. Januar 2026.\n\
+         Frühester Übertragungstag ist der Termin selbst, spätester der 5. Werktag vor dem Termin.\n\
+         Der Zeitraum beginnt erst in 6 Werktagen.\n\
+         Bis zum spätesten Übertragungstag sind es noch 3 Tage: der Zeitraum endet, bevor er beginnt.",
+    ),
+    (
+        "check WindowWerktageBefore 0 5 2026-01-09 2026-01-16",
+        "Zu früh: Übertragungstag Freitag, 9. Januar 2026, Termin Freitag, 16. Januar 2026.\n\
+         Frühester Übertragungstag ist der Termin selbst, spätester der 5. Werktag vor dem Termin.\n\
+         Der Zeitraum beginnt erst in 5 Werktagen.\n\
+         Der Übertragungstag ist zugleich der späteste: der Zeitraum endet, bevor er beginnt.",
+    ),
+    (
+        "check WindowWerktageBefore 0 5 2026-01-09 2026-01-12",
+        "Zu früh: Übertragungstag Freitag, 9. Januar 2026, Termin Montag, 12. Januar 2026.\n\
+         Frühester Übertragungstag ist der Termin selbst, spätester der 5. Werktag vor dem Termin.\n\
+         Der Zeitraum beginnt erst in 1 Werktag.\n\
+         Der Übertragungstag liegt zugleich 7 Tage nach dem spätesten: der Zeitraum endet, bevor er \
+         beginnt.",
+    ),
+    (
+        "check WindowWerktageBefore 0 1 2026-04-03 2026-04-07",
+        "Zu früh: Übertragungstag Freitag, 3. April 2026, Termin Dienstag, 7. April 2026.\n\
+         Frühester Übertragungstag ist der Termin selbst, spätester der 1. Werktag vor dem Termin.\n\
+         Der Zeitraum beginnt erst in 1 Werktag.\n\
+         Der Übertragungstag liegt zugleich 1 Tag nach dem spätesten: der Zeitraum endet, bevor er \
+         beginnt.",
     ),
 ];
 
@@ -349,7 +443,7 @@ pub const JSON: &[(&str, &str)] = &[
         concat!(
             r#"{"call":"mf_abmeldung_check","arguments":["ZT0","--eeg","nein","2026-01-08","#,
             r#""2026-01-12"],"reason_hex":"5a5430","refusal":null,"kind":0,"kind_name":"Ok","#,
-            r#""count":0,"date":null}"#,
+            r#""count":0,"margin":0,"date":null}"#,
         ),
     ),
 ];
@@ -360,46 +454,65 @@ pub const VERDICTS_JSON: &[(&str, &str)] = &[
     (
         "check LatestWerktageBefore 1 2026-01-10 2026-01-12",
         concat!(
-            r#""kind_name":"TooLate","count":0,"date":"2026-01-12","date_acceptable":false,"#,
+            r#""kind_name":"TooLate","count":0,"margin":-1,"date":"2026-01-12","#,
+            r#""date_acceptable":false,"#,
             r#""span":{"first":"2026-01-13","last":null}}"#,
         ),
     ),
     (
         "check WindowWerktageBefore 5 2 2026-01-13 2026-01-13",
         concat!(
-            r#""kind_name":"TooLate","count":2,"date":"2026-01-15","date_acceptable":true,"#,
+            r#""kind_name":"TooLate","count":2,"margin":-4,"date":"2026-01-15","#,
+            r#""date_acceptable":true,"#,
             r#""span":{"first":"2026-01-15","last":"2026-01-20"}}"#,
         ),
     ),
     (
         "check WindowWerktageBefore 1 1 2026-01-10 2026-01-12",
         concat!(
-            r#""kind_name":"TooLate","count":0,"date":"2026-01-12","date_acceptable":false,"#,
+            r#""kind_name":"TooLate","count":0,"margin":-1,"date":"2026-01-12","#,
+            r#""date_acceptable":false,"#,
             r#""span":{"first":null,"last":null}}"#,
         ),
     ),
     (
         "check WindowWerktageBefore 3 1 2899-12-28 2899-12-28",
-        r#""kind_name":"TooLate","count":1,"date":"2899-12-29","date_acceptable":true,"span":null}"#,
+        concat!(
+            r#""kind_name":"TooLate","count":1,"margin":-5,"date":"2899-12-29","#,
+            r#""date_acceptable":true,"span":null}"#,
+        ),
     ),
     (
         "check-at TagVorDemLetztenWerktagVor 2026-01-07T23:30:00Z 2026-01-09T00:00:00+01:00 Strom",
         concat!(
-            r#""kind_name":"TooLate","count":1,"date":"2026-01-10","date_acceptable":true,"#,
+            r#""kind_name":"TooLate","count":1,"margin":-1,"date":"2026-01-10","#,
+            r#""date_acceptable":true,"#,
             r#""span":{"first":"2026-01-10","last":null}}"#,
         ),
     ),
     (
         "abmeldung Z33 --eeg ja 2026-01-31 2026-02-28",
         concat!(
-            r#""kind_name":"TooLate","count":2,"date":"2026-02-28","date_acceptable":false,"#,
+            r#""kind_name":"TooLate","count":2,"margin":-3,"date":"2026-02-28","#,
+            r#""date_acceptable":false,"#,
             r#""span":{"first":"2026-03-01","last":null}}"#,
         ),
     ),
-    ("check Korridor 0 2026-01-10 2026-01-11", r#""kind_name":"TooEarly","count":0,"date":null}"#),
+    (
+        "check Korridor 0 2026-01-10 2026-01-11",
+        r#""kind_name":"TooEarly","count":0,"margin":1,"date":null}"#,
+    ),
+    (
+        "check WindowWerktageBefore 0 5 2026-01-09 2026-01-12",
+        r#""kind_name":"TooEarly","count":1,"margin":-7,"date":null}"#,
+    ),
+    (
+        "check EarliestWerktageAfter 1 2026-04-02 2026-04-08",
+        r#""kind_name":"Ok","count":0,"margin":1,"date":null}"#,
+    ),
     (
         "abmeldung ZQ7 --eeg ja 2026-01-08 2026-01-12",
-        r#""kind_name":"NoShape","count":0,"date":null}"#,
+        r#""kind_name":"NoShape","count":0,"margin":null,"date":null}"#,
     ),
 ];
 

@@ -101,6 +101,10 @@ pub fn werktage(n: u32) -> String {
     count(n, "Werktag", "Werktage")
 }
 
+pub fn tage(n: u32) -> String {
+    count(n, "Tag", "Tage")
+}
+
 pub fn monate(n: u32) -> String {
     count(n, "Monat", "Monate")
 }

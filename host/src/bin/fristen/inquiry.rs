@@ -112,7 +112,7 @@ impl Inquiry {
     /// Whether an anchor is acceptable: its verdict is Ok. One whose verdict is refused is not.
     pub fn accepts(&self, anchor: Date) -> Result<bool, Error> {
         match self.shape()?.check(self.transmission_day()?, anchor) {
-            Ok(verdict) => Ok(verdict == VorlaufVerdict::Ok),
+            Ok(judgement) => Ok(judgement.verdict == VorlaufVerdict::Ok),
             Err(Error::Refused(_)) => Ok(false),
             Err(error) => Err(error),
         }

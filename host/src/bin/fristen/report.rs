@@ -6,7 +6,7 @@ use crate::labels;
 use crate::sentences::also;
 use mako_fristen_host::{
     AbmeldungVorlauf, Answer, BerlinTime, Clock, Content, Date, DayReason, Error, GasDue,
-    GasProzess, Instant, Parameter, Refusal, Span, VorlaufVerdict, WerktageBetween,
+    GasProzess, Instant, Judgement, Parameter, Refusal, Span, VorlaufVerdict, WerktageBetween,
 };
 use std::ffi::OsString;
 
@@ -98,13 +98,14 @@ fn label(label: Option<&str>) -> Members {
 fn verdict(
     inquiry: &Inquiry,
     answer: &Answer,
-    verdict: Option<VorlaufVerdict>,
+    judgement: Option<Judgement>,
 ) -> Result<Members, Error> {
+    let margin = judgement.map_or(Json::Null, |judgement| Json::number(judgement.margin));
     let fields = |name, count: u32, date| {
-        let filled = vec![("count", Json::number(count)), ("date", date)];
+        let filled = vec![("count", Json::number(count)), ("margin", margin), ("date", date)];
         joined([kind(answer, name), filled])
     };
-    Ok(match verdict {
+    Ok(match judgement.map(|judgement| judgement.verdict) {
         Some(VorlaufVerdict::Ok) => fields("Ok", 0, Json::Null),
         Some(VorlaufVerdict::TooEarly { excess_wt }) => fields("TooEarly", excess_wt, Json::Null),
         Some(VorlaufVerdict::TooLate { shortfall_wt, earliest_possible }) => {

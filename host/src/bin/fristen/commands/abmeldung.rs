@@ -29,13 +29,14 @@ pub const COMMANDS: [Command; 3] = [
         ],
         summary: "ob eine Abmeldung durch den Netzbetreiber rechtzeitig kam",
         meaning:
-            "Das Urteil nach der Vorlauffrist, die abmeldung-fuer nennt. Hat der Fall keine, so\n\
-                  gibt es kein Urteil; das heißt nicht, dass die Frist gewahrt ist.",
+            "Das Urteil nach der Vorlauffrist, die abmeldung-fuer nennt, mit den Tagen, die noch\n\
+                  Luft sind oder zu spät; „margin“ in --json wie bei check. Hat der Fall keine, so gibt\n\
+                  es kein Urteil und „margin“ ist null; das heißt nicht, dass die Frist gewahrt ist.",
         example: "abmeldung ZT0 --eeg nein 2026-01-08 2026-01-12",
         output: "Grund „ZT0“, keine EEG-Marktlokation: Spätester Übertragungstag ist der Tag vor \
                  dem letzten Werktag vor dem Zuordnungsende.\n\
-                 Frist gewahrt: Übertragungstag Donnerstag, 8. Januar 2026, Zuordnungsende Montag, \
-                 12. Januar 2026.",
+                 Frist gewahrt, kein Tag Luft: Übertragungstag Donnerstag, 8. Januar 2026, \
+                 Zuordnungsende Montag, 12. Januar 2026.",
     },
     Command {
         name: "ankuendigung",

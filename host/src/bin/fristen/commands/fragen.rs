@@ -25,6 +25,6 @@ nichts ausgegeben.",
     output: "\
 2: Eingang am Samstag, 10. Januar 2026, um 12:00 Uhr: Die CONTRL auf ALOCAT Gas ist fällig am \
 Samstag, 10. Januar 2026, um 12:45 Uhr (contrl-delivery-window).
-3: Frist gewahrt: Übertragungstag Freitag, 9. Januar 2026, Termin Montag, 12. Januar 2026. \
-Spätester Übertragungstag ist der 1. Werktag vor dem Termin.",
+3: Frist gewahrt, kein Tag Luft: Übertragungstag Freitag, 9. Januar 2026, Termin Montag, \
+12. Januar 2026. Spätester Übertragungstag ist der 1. Werktag vor dem Termin.",
 }];

@@ -13,14 +13,19 @@ pub const COMMANDS: [Command; 3] = [
             (Parameter::SecondDate, "TERMIN"),
         ],
         summary: "ob eine Nachricht für ihren Termin rechtzeitig kam",
-        meaning: "Das Urteil über Übertragungstag und Termin: gewahrt, zu spät oder zu früh. Bei „zu\n\
-                  spät“ mit den fehlenden Werktagen und dem Termin, den die Quelle als frühesten\n\
-                  nennt; der ist nicht immer zulässig, darum folgen die zulässigen Termine.",
+        meaning: "Das Urteil über Übertragungstag und Termin: gewahrt, zu spät oder zu früh, mit den\n\
+                  Tagen, die noch Luft sind oder zu spät. Bei „zu spät“ auch mit den fehlenden\n\
+                  Werktagen und dem Termin, den die Quelle als frühesten nennt; der ist nicht immer\n\
+                  zulässig, darum folgen die zulässigen Termine.\n\
+                  „margin“ in --json: die Tage vom Übertragungstag bis zum spätesten, negativ nach\n\
+                  diesem; bei EarliestWerktageAfter vom frühesten Termin bis zum Termin, negativ\n\
+                  vor jenem. In --bytes das 29. bis 32. Byte, im Zweierkomplement, das\n\
+                  niederwertigste zuerst.",
         example: "check LatestWerktageBefore 1 2026-01-10 2026-01-12",
         output: "\
-Zu spät: Übertragungstag Samstag, 10. Januar 2026, Termin Montag, 12. Januar 2026.
+1 Tag zu spät: Übertragungstag Samstag, 10. Januar 2026, Termin Montag, 12. Januar 2026.
 Spätester Übertragungstag ist der 1. Werktag vor dem Termin.
-Es fehlen 0 Werktage: zu spät nur um Tage, die keine Werktage sind.
+Es fehlen 0 Werktage; zu spät ist es um 1 Tag, der kein Werktag ist.
 Als frühester Termin wird Montag, der 12. Januar 2026, genannt; zulässig ist er nicht.
 Zulässig sind Termine ab Dienstag, dem 13. Januar 2026.",
     },
@@ -34,13 +39,13 @@ Zulässig sind Termine ab Dienstag, dem 13. Januar 2026.",
             (Parameter::SecondSparte, "SPARTE"),
         ],
         summary: "dasselbe mit Zeitpunkten",
-        meaning: "Das Urteil wie bei check. Der Übertragungstag ist der Tag in Berlin; der Termin ist\n\
-                  als Beginn seines Tages in der Sparte gegeben, sonst wird abgelehnt (7).\n\
-                  SPARTE ist Strom oder Gas.",
+        meaning: "Das Urteil wie bei check, mit den Tagen, die noch Luft sind oder zu spät. Der\n\
+                  Übertragungstag ist der Tag in Berlin; der Termin ist als Beginn seines Tages in\n\
+                  der Sparte gegeben, sonst wird abgelehnt (7). SPARTE ist Strom oder Gas.",
         example: "check-at TagVorDemLetztenWerktagVor 2026-01-08T10:00:00+01:00 \
                   2026-01-09T00:00:00+01:00 Strom",
         output: "\
-Zu spät: Übertragungstag Donnerstag, 8. Januar 2026, Termin Freitag, 9. Januar 2026.
+1 Tag zu spät: Übertragungstag Donnerstag, 8. Januar 2026, Termin Freitag, 9. Januar 2026.
 Spätester Übertragungstag ist der Tag vor dem letzten Werktag vor dem Termin.
 Es fehlt 1 Werktag.
 Als frühester Termin wird Samstag, der 10. Januar 2026, genannt; zulässig sind Termine ab diesem Tag.",

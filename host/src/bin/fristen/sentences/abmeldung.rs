@@ -2,7 +2,7 @@ use super::vorlauf::{verdict, ZUORDNUNGSENDE};
 use crate::deutsch::{am, tag};
 use crate::inquiry::Inquiry;
 use crate::usage::quoted_bytes;
-use mako_fristen_host::{sub_werktage, AbmeldungVorlauf, BerlinTime, Eeg, Error, VorlaufVerdict};
+use mako_fristen_host::{sub_werktage, AbmeldungVorlauf, BerlinTime, Eeg, Error, Judgement};
 
 /// The reason, the mark where it matters, and the case.
 pub fn heading(inquiry: &Inquiry, case: AbmeldungVorlauf) -> Result<String, Error> {
@@ -15,7 +15,7 @@ pub fn heading(inquiry: &Inquiry, case: AbmeldungVorlauf) -> Result<String, Erro
     Ok(format!("Grund {}{malo}: {}", quoted_bytes(&inquiry.reason), case.beschreibung()))
 }
 
-pub fn judged(inquiry: &Inquiry, judged: Option<VorlaufVerdict>) -> Result<String, Error> {
+pub fn judged(inquiry: &Inquiry, judged: Option<Judgement>) -> Result<String, Error> {
     let heading = heading(inquiry, inquiry.abmeldung()?)?;
     let (from, to) = (tag(inquiry.question.date), tag(inquiry.question.date2));
     let days = format!("Übertragungstag {from}, Zuordnungsende {to}.");

@@ -1,6 +1,6 @@
-use crate::deutsch::{dem, den, der, tag, werktage, werktagen};
+use crate::deutsch::{dem, den, der, tag, tage, werktage, werktagen};
 use crate::inquiry::Inquiry;
-use mako_fristen_host::{Date, Error, Span, VorlaufVerdict};
+use mako_fristen_host::{Date, Error, Judgement, Span, VorlaufShape, VorlaufVerdict};
 
 /// What the anchor is called, with the words of its gender and number.
 pub struct Anchor {
@@ -35,37 +35,71 @@ pub fn spanned(inquiry: &Inquiry, span: Span) -> Result<String, Error> {
     Ok(format!("Übertragungstag {from}. {rule}\n{}", TERMIN.allowed(span)))
 }
 
-pub fn judged(inquiry: &Inquiry, given: VorlaufVerdict) -> Result<String, Error> {
+pub fn judged(inquiry: &Inquiry, given: Judgement) -> Result<String, Error> {
     let (from, to) = (tag(inquiry.transmission_day()?), tag(inquiry.anchor()?));
     let rule = inquiry.shape()?.beschreibung();
     let what = format!("Übertragungstag {from}, Termin {to}.\n{rule}");
     verdict(inquiry, given, &TERMIN, &what)
 }
 
-/// The verdict, `what` was judged, and for a `TooLate` what is missing and which dates are allowed.
+/// The verdict with its margin, `what` was judged, and for a `TooLate` what is missing and which
+/// dates are allowed.
 pub fn verdict(
     inquiry: &Inquiry,
-    given: VorlaufVerdict,
+    Judgement { verdict, margin }: Judgement,
     anchor: &Anchor,
     what: &str,
 ) -> Result<String, Error> {
-    Ok(match given {
-        VorlaufVerdict::Ok => format!("Frist gewahrt: {what}"),
+    let (shape, days) = (inquiry.shape()?, margin.unsigned_abs());
+    Ok(match verdict {
+        VorlaufVerdict::Ok => format!("Frist gewahrt, {}: {what}", to_spare(shape, days)),
         VorlaufVerdict::TooEarly { excess_wt } => {
-            format!("Zu früh: {what}\n{}", too_early(excess_wt))
+            let (early, latest) = (too_early(excess_wt), latest(shape, margin));
+            format!("Zu früh: {what}\n{early}\n{latest}")
         }
         VorlaufVerdict::TooLate { shortfall_wt, earliest_possible } => {
-            let missing = missing(shortfall_wt);
+            let (late, missing) = (too_late(shape, days), missing(shape, days, shortfall_wt));
             let earliest = anchor.earliest(earliest_possible, inquiry)?;
-            format!("Zu spät: {what}\n{missing}\n{earliest}")
+            format!("{late}: {what}\n{missing}\n{earliest}")
         }
     })
 }
 
-fn missing(n: u32) -> String {
+/// Whether the margin is the anchor's and not the transmission day's. No deregistration has such a
+/// shape, so that the anchor is a Termin.
+fn is_of_the_termin(shape: VorlaufShape) -> bool {
+    matches!(shape, VorlaufShape::EarliestWerktageAfter(_))
+}
+
+fn to_spare(shape: VorlaufShape, days: u32) -> String {
+    match (is_of_the_termin(shape), days) {
+        (false, 0) => "kein Tag Luft".to_owned(),
+        (false, _) => format!("noch {} Luft", tage(days)),
+        (true, 0) => "zum frühesten Termin".to_owned(),
+        (true, _) => format!("der Termin liegt {} nach dem frühesten", tage(days)),
+    }
+}
+
+fn too_late(shape: VorlaufShape, days: u32) -> String {
+    match is_of_the_termin(shape) {
+        false => format!("{} zu spät", tage(days)),
+        true => format!("Zu spät, der Termin liegt {} zu früh", tage(days)),
+    }
+}
+
+/// Where no Werktag is missing, by how many days: none of them is one.
+fn missing(shape: VorlaufShape, days: u32, n: u32) -> String {
     let verb = if n == 1 { "fehlt" } else { "fehlen" };
-    let why = if n == 0 { ": zu spät nur um Tage, die keine Werktage sind" } else { "" };
-    format!("Es {verb} {}{why}.", werktage(n))
+    let missing = format!("Es {verb} {}", werktage(n));
+    if n > 0 {
+        return format!("{missing}.");
+    }
+    let by = match is_of_the_termin(shape) {
+        false => "zu spät ist es um",
+        true => "zu früh liegt der Termin um",
+    };
+    let none = if days == 1 { "der kein Werktag ist" } else { "die keine Werktage sind" };
+    format!("{missing}; {by} {}, {none}.", tage(days))
 }
 
 fn too_early(n: u32) -> String {
@@ -75,6 +109,24 @@ fn too_early(n: u32) -> String {
             .to_owned(),
         _ => format!("Der Zeitraum beginnt erst in {}.", werktagen(n)),
     }
+}
+
+/// Where the latest transmission day lies from one that is too early.
+fn latest(shape: VorlaufShape, margin: i32) -> String {
+    let days = tage(margin.unsigned_abs());
+    let latest = match margin {
+        1 => format!("Bis zum spätesten Übertragungstag ist es noch {days}"),
+        2.. => format!("Bis zum spätesten Übertragungstag sind es noch {days}"),
+        0 => "Der Übertragungstag ist zugleich der späteste".to_owned(),
+        _ => format!("Der Übertragungstag liegt zugleich {days} nach dem spätesten"),
+    };
+    let window = match shape {
+        VorlaufShape::WindowWerktageBefore { earliest, latest } if earliest < latest => {
+            ": der Zeitraum endet, bevor er beginnt"
+        }
+        _ => "",
+    };
+    format!("{latest}{window}.")
 }
 
 impl Anchor {
