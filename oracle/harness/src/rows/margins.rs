@@ -11,8 +11,6 @@ use crate::original::{self, werktage_before};
 use crate::random::Random;
 use mako_fristen_host::{Call, Date, Eeg, Question, Reason, VorlaufShape};
 
-/// The calls whose answers have a margin.
-const CALLS: [Call; 3] = [Call::VorlaufCheck, Call::VorlaufCheckAt, Call::AbmeldungCheck];
 const SHAPES: u64 = VorlaufShape::CODES as u64;
 /// Below 0, at 0 and above.
 const SIGNS: u64 = 3;
@@ -32,7 +30,8 @@ pub fn rows(seed: u64, random: u64) -> Vec<Row> {
         both_ways(walked),
         by_list(to_the_edge(seed)),
     ];
-    rows.extend(CALLS.map(|call| by_list(far_off(call, "random, far margins", random / 40))));
+    let calls = Call::ALL.into_iter().filter(|&call| original::has_margin(call));
+    rows.extend(calls.map(|call| by_list(far_off(call, "random, far margins", random / 40))));
     rows
 }
 
@@ -232,7 +231,7 @@ fn put_to(call: Call, question: Question, random: &mut Random) -> Question {
 
 #[cfg(test)]
 mod tests {
-    use super::{rows, ABOUT_0, CALLS, SIGNS};
+    use super::{rows, ABOUT_0, SIGNS};
     use crate::days::{self, DAYS};
     use crate::original;
     use crate::rows::vorlauf::{EARLIEST_AFTER, TAG_VOR_DEM_LETZTEN_WERKTAG};
@@ -307,15 +306,15 @@ mod tests {
 
     #[test]
     fn far_margins_go_through_the_calendar_both_ways() {
-        for call in CALLS {
-            let row = row(call, "random, far margins");
-            let answers = (0..row.len).map(|place| asked(&row, place).1);
+        for row in rows(1, 2_000_000).iter().filter(|row| row.what == "random, far margins") {
+            let answers = (0..row.len).map(|place| asked(row, place).1);
             let margins: Vec<i32> = answers
                 .filter(|answer| answer.number() == 0)
                 .map(|answer| original::margin(&answer))
                 .collect();
             let far = |sign: i32| margins.iter().filter(|&margin| margin * sign > 300_000).count();
-            assert!(far(1) > 100 && far(-1) > 100, "{}: {}, {}", call.name(), far(1), far(-1));
+            let name = row.call.name();
+            assert!(far(1) > 100 && far(-1) > 100, "{name}: {}, {}", far(1), far(-1));
         }
         let row = row(Call::VorlaufCheck, "from edge to edge");
         let margins: HashSet<i32> =
