@@ -7,7 +7,7 @@ mod corners;
 pub mod files;
 mod instants;
 mod kalender;
-mod margins;
+pub mod margins;
 pub mod portfolios;
 mod uhr;
 mod vorlauf;
@@ -87,12 +87,6 @@ pub fn through_years(seed: u64, random: u64) -> Vec<Row> {
     years::rows(seed, random)
 }
 
-/// Rows of verdicts by their margin.
-#[must_use]
-pub fn by_margin(seed: u64, random: u64) -> Vec<Row> {
-    margins::rows(seed, random)
-}
-
 /// The rows of a short run: those above, of the tz database, of files and of portfolios.
 #[must_use]
 pub fn short(seed: u64, random: u64) -> Vec<Box<dyn Places>> {
@@ -102,7 +96,7 @@ pub fn short(seed: u64, random: u64) -> Vec<Box<dyn Places>> {
 fn short_rows(seed: u64, random: u64) -> Vec<Row> {
     let mut rows = rows(seed, random);
     rows.extend(through_years(seed, random));
-    rows.extend(by_margin(seed, random));
+    rows.extend(margins::rows(seed, random));
     rows
 }
 

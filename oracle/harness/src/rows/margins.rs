@@ -10,6 +10,7 @@ use crate::instants::to_host;
 use crate::original::{self, werktage_before};
 use crate::random::Random;
 use mako_fristen_host::{Call, Date, Eeg, Question, Reason, VorlaufShape};
+use time::macros::date;
 
 const SHAPES: u64 = VorlaufShape::CODES as u64;
 /// Below 0, at 0 and above.
@@ -125,6 +126,38 @@ pub(super) fn far_off(call: Call, random: &mut Random) -> Question {
         _ => question,
     };
     put_to(call, with_other(question, years::any_day(random)), random)
+}
+
+/// Each shape with the margins -1, 0 and 1 for Monday, 12 January 2026, case E first; a window that has
+/// closed before it opens, on days before both, between them and after; margins from edge to edge.
+#[must_use]
+pub fn of_note() -> Vec<Question> {
+    use VorlaufShape::{
+        EarliestWerktageAfter, Korridor, LatestMonateBefore, LatestMonateUndWerktageBefore,
+        LatestWerktageAfter, LatestWerktageBefore, TagVorDemLetztenWerktagVor,
+        WindowWerktageBefore,
+    };
+    let monday = days::index(date!(2026 - 01 - 12));
+    let shapes = [
+        LatestWerktageBefore(1),
+        WindowWerktageBefore { earliest: 2, latest: 1 },
+        LatestWerktageAfter(1),
+        EarliestWerktageAfter(1),
+        Korridor(1),
+        TagVorDemLetztenWerktagVor,
+        LatestMonateBefore(1),
+        LatestMonateUndWerktageBefore { monate: 1, werktage: 1 },
+    ];
+    let about_0 =
+        |shape| [-1, 0, 1].map(|margin| with_margin(on(monday).with_shape(shape), margin));
+    let closed = on(monday).with_shape(WindowWerktageBefore { earliest: 1, latest: 3 });
+    let closed = [1, 0, -1, -2].map(|margin| with_margin(closed, margin));
+    let from_edge_to_edge = [LatestWerktageBefore(0), LatestMonateBefore(0)].map(|shape| {
+        let first = on(0).with_shape(shape);
+        [first.with_second(Date::LAST), Question { date: Date::LAST, ..first }]
+    });
+    let all = shapes.into_iter().flat_map(about_0);
+    all.chain(closed).chain(from_edge_to_edge.into_iter().flatten()).collect()
 }
 
 /// A verdict with both dates on the day of an index.
