@@ -82,3 +82,24 @@ fn turns(shape: VorlaufShape, day: Date, anchor: Date, margin: i32) -> bool {
         _ => closes(shape),
     }
 }
+
+#[cfg(test)]
+mod tests {
+    use super::{expected_of_the_checks, margin, shape, turns};
+    use crate::days;
+    use crate::original::expected;
+    use crate::rows::margins;
+
+    #[test]
+    fn the_checks_bear_out_one_margin_alone() {
+        for question in margins::of_note() {
+            let answer = expected(&question).expect("no unknown panic");
+            assert_eq!(expected_of_the_checks(&question), Ok(answer), "{question}");
+            let [day, anchor] = [question.date, question.date2].map(days::given);
+            let (day, anchor) = (day.expect("a date"), anchor.expect("a date"));
+            let borne_out = |by| turns(shape(&question), day, anchor, margin(&answer) + by);
+            assert!(borne_out(0), "{question}");
+            assert!(![-7, -3, -2, -1, 1, 2, 3, 7].into_iter().any(borne_out), "{question}");
+        }
+    }
+}
