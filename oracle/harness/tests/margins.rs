@@ -4,6 +4,7 @@ mod replay;
 
 use harness::instants::to_host;
 use harness::original::{self, has_margin, margin};
+use harness::random::Random;
 use harness::rows::{self, margins, Row};
 use mako_fristen_host::VorlaufShape::{
     EarliestWerktageAfter, Korridor, LatestMonateBefore, LatestMonateUndWerktageBefore,
@@ -20,7 +21,7 @@ const TOO_EARLY: u8 = 2;
 const NO_SHAPE: u8 = 3;
 const WINDOW: u8 = 1;
 
-/// The same on both sides; the original's is also the one to which the list of Werktage leads.
+/// What both sides say, the original from the list of Werktage.
 fn answer(question: &Question) -> Answer {
     let mut bytes = [u8::MAX; Answer::LEN];
     let number = question.ask(&mut bytes);
@@ -31,11 +32,12 @@ fn answer(question: &Question) -> Answer {
     host
 }
 
-/// The kind and the margin of an answer that is not refused.
+/// The kind and the margin of what is not refused, for which the original walks as well.
 fn found(question: &Question) -> (u8, i32) {
-    assert_eq!(original::expected_both_ways(question), Ok(answer(question)), "{question}");
-    assert_eq!(answer(question).number(), 0, "{question}");
-    (answer(question).kind(), margin(&answer(question)))
+    let answer = answer(question);
+    assert_eq!(original::expected(question), Ok(answer), "{question}");
+    assert_eq!(answer.number(), 0, "{question}");
+    (answer.kind(), margin(&answer))
 }
 
 fn verdict(shape: VorlaufShape, day: Date, anchor: Date) -> Question {
@@ -180,7 +182,7 @@ fn it_is_negative_exactly_under_too_late() {
     let rows = [rows::rows, rows::through_years, margins::rows].map(|rows| rows(1, RANDOM));
     let mut met = [0; 4];
     for row in rows.iter().flatten().filter(|row| has_margin(row.call)) {
-        for question in spread(row, EACH) {
+        for question in some(row, EACH) {
             let answer = answer(&question);
             let (kind, negative) = (answer.kind(), margin(&answer) < 0);
             if answer.number() != 0 || kind == NO_SHAPE {
@@ -198,10 +200,10 @@ fn it_is_negative_exactly_under_too_late() {
     assert!(met[..3].iter().all(|&met| met > 10_000) && met[3] > 500, "{met:?}");
 }
 
-/// So many questions of the row, or all; those with an answer of 32 bytes.
-fn spread(row: &Row, each: u64) -> impl Iterator<Item = Question> + '_ {
-    let probes =
-        (0..row.len).step_by((row.len / each).max(1) as usize).map(|place| (row.probe)(place));
+/// So many questions of the row, or as many as it has; those with an answer of 32 bytes.
+fn some(row: &Row, number: u64) -> impl Iterator<Item = Question> + '_ {
+    let places = (0..number.min(row.len)).map(|place| Random::at(1, 2, place).number() % row.len);
+    let probes = places.map(|place| (row.probe)(place));
     probes.filter(|probe| probe.len == Answer::LEN).map(|probe| probe.question)
 }
 

@@ -217,8 +217,8 @@ fn counted(
     }
 }
 
-/// With the day of an index for the transmission, with `EarliestWerktageAfter` for the anchor: for the
-/// date from which its shape takes no step.
+/// With the day of an index for the transmission; with `EarliestWerktageAfter`, which steps from there,
+/// for the anchor.
 fn with_other(question: Question, index: u32) -> Question {
     let date = days::date(index);
     match question.code {
@@ -227,7 +227,7 @@ fn with_other(question: Question, index: u32) -> Question {
     }
 }
 
-/// With this date moved until the margin is this, as far as the calendar goes. Where the shape steps
+/// With this date moved so that the margin is this, as far as the calendar goes. Where the shape steps
 /// out of it, the question is left as it is.
 fn with_margin(question: Question, margin: i32) -> Question {
     let answer = original::expected_by_list(&with_other(question, 0));
