@@ -13,7 +13,7 @@ pub use file::FileCase;
 pub use portfolio::PortfolioCase;
 pub use system::{on_valgrind, tell_of_crashes};
 
-use crate::original::caught;
+use crate::original::{caught, has_margin};
 use crate::portfolio::AskPortfolio;
 use crate::records;
 use crate::rows::files::AskFile;
@@ -204,7 +204,8 @@ impl Fuzzer {
         let fault = match <[u8; Answer::LEN]>::try_from(&*answer.slice()) {
             Ok(bytes) if whole => {
                 self.found.told += u64::from(expected.is_some());
-                answer_fault(number, Answer::from_bytes(bytes), expected)
+                let margin = has_margin(case.question.call);
+                answer_fault(number, Answer::from_bytes(bytes), margin, expected)
             }
             _ => length_fault(number, answer.slice() == round.content),
         };
@@ -307,11 +308,20 @@ impl Fuzzer {
     }
 }
 
-/// What is wrong with an answer of 32 bytes.
-fn answer_fault(number: u8, given: Answer, expected: Option<Answer>) -> Option<String> {
+/// What is wrong with an answer of 32 bytes, the last four of which may be a margin.
+fn answer_fault(
+    number: u8,
+    given: Answer,
+    margin: bool,
+    expected: Option<Answer>,
+) -> Option<String> {
     let bytes = given.as_bytes();
     let refused = number != 0;
-    let zero = if refused { [&bytes[1..4], &bytes[4..]] } else { [&bytes[2..4], &bytes[28..]] };
+    let zero = match (refused, margin) {
+        (true, _) => [&bytes[1..4], &bytes[4..]],
+        (false, false) => [&bytes[2..4], &bytes[28..]],
+        (false, true) => [&bytes[2..4], &[]],
+    };
     if number != given.number() {
         Some(format!("{number} returned, but byte 0 is {}", given.number()))
     } else if refused && !(Refusal::UnknownCode.number()..=8).contains(&number) {

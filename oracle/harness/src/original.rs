@@ -1,6 +1,7 @@
 //! What the original answers to a question, in document 01's terms: the one place where an expected
 //! answer is made.
 
+mod margin;
 mod panics;
 mod portfolio;
 mod reason;
@@ -9,6 +10,7 @@ mod tested;
 mod verdict;
 mod werktage;
 
+pub use margin::{expected_of_the_checks, has_margin, margin};
 pub use panics::{caught, Panic};
 pub use portfolio::{
     count_both_ways, count_by_list, count_soon, expected_of_portfolio,

@@ -34,6 +34,12 @@ pub fn each(file: &[u8]) -> impl Iterator<Item = &Record> {
     file.as_chunks().0.iter()
 }
 
+/// The single call of a record's operation.
+#[must_use]
+pub fn call(record: &Record) -> Option<Call> {
+    OPERATIONS.get(usize::from(record[0])).copied()
+}
+
 /// The question that is put to the single call for a record.
 ///
 /// # Errors

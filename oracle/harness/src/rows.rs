@@ -7,6 +7,7 @@ mod corners;
 pub mod files;
 mod instants;
 mod kalender;
+pub mod margins;
 pub mod portfolios;
 mod uhr;
 mod vorlauf;
@@ -95,6 +96,7 @@ pub fn short(seed: u64, random: u64) -> Vec<Box<dyn Places>> {
 fn short_rows(seed: u64, random: u64) -> Vec<Row> {
     let mut rows = rows(seed, random);
     rows.extend(through_years(seed, random));
+    rows.extend(margins::rows(seed, random));
     rows
 }
 

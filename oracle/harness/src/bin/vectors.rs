@@ -6,7 +6,7 @@ use harness::days::{self, DAYS};
 use harness::options::{self, DEFAULT_SEED};
 use harness::original::{self, werktage_before, ENDS};
 use harness::random::Random;
-use harness::rows::{self, Row};
+use harness::rows::{self, margins, Row};
 use harness::run::hex;
 use mako_fristen_host::{Answer, Call, Date, Question};
 use std::collections::HashSet;
@@ -17,6 +17,8 @@ const PER_CALENDAR_CALL: usize = 352;
 const PER_OTHER_CALL: usize = 200;
 /// More of each call that steps over Werktage or counts them, behind those that it always has.
 const THROUGH_YEARS: usize = 10;
+/// More of each call whose answers have a margin, behind these and those of note.
+const BY_MARGIN: usize = 12;
 /// Of each random row; how long a row is does not matter here.
 const RANDOM: u64 = 1_000_000;
 
@@ -24,7 +26,7 @@ fn main() -> ExitCode {
     options::only(&["--seed", "--out"]);
     let seed = options::option("--seed", DEFAULT_SEED);
     let path = options::option("--out", String::from("vectors.txt"));
-    let rows = [rows::rows(seed, RANDOM), rows::through_years(seed, RANDOM)];
+    let rows = [rows::rows, rows::through_years, margins::rows].map(|rows| rows(seed, RANDOM));
     let questions: Vec<Question> =
         Call::ALL.into_iter().flat_map(|call| sample(call, &rows, seed)).collect();
     let text = match questions.iter().map(line).collect::<Result<String, String>>() {
@@ -42,20 +44,27 @@ fn main() -> ExitCode {
     ExitCode::SUCCESS
 }
 
-/// Different questions of the call: those that it always has, then some from its rows in turn; and
-/// the same through years.
-fn sample(call: Call, [rows, through_years]: &[Vec<Row>; 2], seed: u64) -> Vec<Question> {
+/// Different questions of the call: those that it always has, then some from its rows in turn; the
+/// same through years, and by the margin.
+fn sample(
+    call: Call,
+    [rows, through_years, by_margin]: &[Vec<Row>; 3],
+    seed: u64,
+) -> Vec<Question> {
     let wanted = if call.number() <= Call::SubtractMonths.number() {
         PER_CALENDAR_CALL
     } else {
         PER_OTHER_CALL
     };
-    let number = u64::from(call.number());
+    let random = |by: u64| Random::at(seed, call.number().into(), u64::MAX - by);
     let mut questions = always(call);
-    draw(call, rows, wanted, &mut Random::at(seed, number, u64::MAX), &mut questions);
+    draw(call, rows, wanted, &mut random(0), &mut questions);
     questions.extend(far(call));
     let wanted = questions.len() + THROUGH_YEARS;
-    draw(call, through_years, wanted, &mut Random::at(seed, number, u64::MAX - 1), &mut questions);
+    draw(call, through_years, wanted, &mut random(1), &mut questions);
+    questions.extend(margins::of_note().into_iter().filter(|question| question.call == call));
+    let wanted = questions.len() + BY_MARGIN;
+    draw(call, by_margin, wanted, &mut random(2), &mut questions);
     questions
 }
 

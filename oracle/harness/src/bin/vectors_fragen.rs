@@ -5,7 +5,8 @@
 use harness::original;
 use harness::random::Random;
 use harness::records::{self, Record, LAST_CLOCK, LEN, LONGEST_FILE, OPERATIONS};
-use harness::rows::files::{any_bytes, any_record, turned};
+use harness::rows::files::{self, any_bytes, any_record, turned};
+use harness::rows::margins;
 use harness::stored::{self, write, UNWRITTEN};
 use mako_fristen_host::{Call, Refusal};
 use std::path::Path;
@@ -73,7 +74,10 @@ fn files(random: &mut Random) -> Vec<File> {
         let lent = questions.len();
         (questions, lent)
     };
-    questions.into_iter().map(with_answers).chain(refused(random)).collect()
+    let files = questions.into_iter().map(with_answers).chain(refused(random));
+    let verdicts =
+        margins::of_note().iter().flat_map(|question| files::written(question, random)).collect();
+    files.chain([with_answers(verdicts)]).collect()
 }
 
 /// Questions of every kind, and some of which little or nothing is known.

@@ -2,7 +2,7 @@
 
 use super::case::{rounds, wild, Round, WALKED};
 use super::{answer_fault, Ask};
-use crate::original::{self, Expected, Panic};
+use crate::original::{self, has_margin, Expected, Panic};
 use crate::random::Random;
 use crate::records::{self, Record, CALL, LEN, LONGEST_FILE, OPERATIONS};
 use crate::rows::files::{
@@ -82,11 +82,12 @@ impl FileCase {
             return Some(format!("{number} returned"));
         }
         let given = records::each(answers).map(|&answer| Answer::from_bytes(answer));
+        let given = given.zip(records::each(&self.questions));
         let each = given.zip(singles).zip(&self.expected).enumerate();
-        let mut faults = each.filter_map(|(place, ((given, &single), expected))| {
-            let expected = expected.as_ref().ok().copied();
-            let fault = answer_fault(given.number(), given, expected)
-                .or_else(|| answer_fault(given.number(), given, Some(single)));
+        let mut faults = each.filter_map(|(place, (((given, record), &single), expected))| {
+            let margin = records::call(record).is_some_and(has_margin);
+            let fault = |expected| answer_fault(given.number(), given, margin, expected);
+            let fault = fault(expected.as_ref().ok().copied()).or_else(|| fault(Some(single)));
             fault.map(|fault| format!("answer {place}: {fault}"))
         });
         faults.next()

@@ -16,7 +16,7 @@ use std::process::{Command, Output};
 use std::time::Duration;
 use std::{env, thread};
 
-/// `mf_abmeldung_check` of 8 January 2026 against 9 January: TooLate.
+/// `mf_abmeldung_check` of 8 January 2026 against 9 January: TooLate, by 30 days.
 fn question() -> Question {
     let question = Question::on(Call::AbmeldungCheck, Date::new(2026, 1, 8));
     let reason = Reason::new(b"Z33").expect("not too long");
@@ -111,16 +111,32 @@ fn a_wrong_number_is_found() {
 fn bytes_that_have_to_be_zero_are_looked_at() {
     let in_an_answer: Ask = |question, reason, answer| {
         let number = host_calls(question, reason, answer);
-        answer[31] = 1;
+        answer[3] = 1;
         number
     };
     assert_found(in_an_answer, 32, "bytes that have to be zero");
     let in_a_refusal: Ask = |_, _, answer| {
         answer.fill(0);
-        (answer[0], answer[1]) = (8, 1);
+        (answer[0], answer[31]) = (8, 1);
         8
     };
     assert_found(in_a_refusal, 32, "bytes that have to be zero");
+}
+
+/// The last four, where another call than one with a verdict has written them.
+#[test]
+fn a_margin_is_told_from_bytes_that_have_to_be_zero() {
+    let at_the_end: Ask = |question, reason, answer| {
+        let number = host_calls(question, reason, answer);
+        answer[31] ^= 1;
+        number
+    };
+    assert_found(at_the_end, 32, "expected");
+    let question = Question::on(Call::IsWerktag, Date::new(2026, 1, 8));
+    let step = Case { question, expected: original::expected(&question), ..case(32) };
+    let faults = faults(at_the_end, &step);
+    assert_eq!(faults.len(), 4);
+    assert!(faults.iter().all(|fault| fault.starts_with("bytes that have to be")), "{faults:?}");
 }
 
 #[test]

@@ -1,8 +1,8 @@
 //! Verdicts: of a shape, of a deregistration's reason, of the 13:00 announcement.
 
 use super::{
-    day_begun, host_date, months_back, months_on, next_werktag, werktage_back, werktage_between,
-    werktage_on, Steps,
+    day_begun, host_date, margin, months_back, months_on, next_werktag, werktage_back,
+    werktage_between, werktage_on, Steps,
 };
 use crate::{days, instants};
 use mako_fristen::abmeldung::AbmeldungVorlauf;
@@ -83,22 +83,23 @@ pub(super) fn verdict(
     told(found, steps, || Some(shape.check(day, anchor, BdewMaKo)))
 }
 
-/// The original's own verdict; with steps from the list, the one that is found.
+/// The original's own verdict; with steps from the list, the one that is found. With either the
+/// margin that is found.
 ///
 /// # Panics
 ///
-/// Where the original's is another.
+/// Where the original's verdict is another.
 fn told(
-    found: Found,
+    (found, margin): (Found, i32),
     steps: Steps,
     original: impl FnOnce() -> Option<VorlaufVerdict>,
 ) -> Result<Answer, Refusal> {
-    if let Steps::Listed = steps {
-        return answer(found.counted(steps));
-    }
-    let verdict = original().expect("a verdict of a shape");
+    let verdict = match steps {
+        Steps::Listed => found.counted(steps),
+        Steps::Walked(_) => original().expect("a verdict of a shape"),
+    };
     assert!(found.is(verdict), "{found:?} is found, and the verdict is {verdict:?}");
-    answer(verdict)
+    Ok(margin::told_in(answer(verdict)?, margin))
 }
 
 fn answer(verdict: VorlaufVerdict) -> Result<Answer, Refusal> {
@@ -148,15 +149,21 @@ impl Found {
 }
 
 /// What `check` finds for the shape, with the functions that it has for its dates and under its
-/// conditions. One that leaves the calendar is refusal 8, where `check` goes on.
-fn found(shape: VorlaufShape, day: Date, anchor: Date, steps: Steps) -> Result<Found, Refusal> {
+/// conditions, and the margin: the date after which it finds a day too late, minus that day. A date
+/// that leaves the calendar is refusal 8, where `check` goes on.
+fn found(
+    shape: VorlaufShape,
+    day: Date,
+    anchor: Date,
+    steps: Steps,
+) -> Result<(Found, i32), Refusal> {
     let back = |n| werktage_back(anchor, n, steps);
     let on = |date, n| werktage_on(date, n, steps);
     match shape {
         VorlaufShape::LatestWerktageBefore(n) => not_after(back(n)?, day, || on(day, n)),
         VorlaufShape::WindowWerktageBefore { earliest, latest } => {
             let (opens, closes) = (back(earliest)?, back(latest)?);
-            not_before(opens, day, || not_after(closes, day, || on(day, latest)))
+            not_before(opens, closes, day, || on(day, latest))
         }
         VorlaufShape::LatestWerktageAfter(n) => not_after(on(anchor, n)?, day, || Ok(anchor)),
         VorlaufShape::EarliestWerktageAfter(n) => {
@@ -165,7 +172,7 @@ fn found(shape: VorlaufShape, day: Date, anchor: Date, steps: Steps) -> Result<F
         }
         VorlaufShape::Korridor(n) => {
             let (opens, closes) = (back(n)?, on(anchor, n)?);
-            not_before(opens, day, || not_after(closes, day, || Ok(opens)))
+            not_before(opens, closes, day, || Ok(opens))
         }
         VorlaufShape::TagVorDemLetztenWerktagVor => {
             let closes = days::before(back(1)?)?;
@@ -188,21 +195,24 @@ fn not_after(
     last: Date,
     day: Date,
     earliest_possible: impl FnOnce() -> Result<Date, Refusal>,
-) -> Result<Found, Refusal> {
+) -> Result<(Found, i32), Refusal> {
+    let margin = margin::days(last, day);
     if day <= last {
-        return Ok(Found::Ok);
+        return Ok((Found::Ok, margin));
     }
-    Ok(Found::TooLate { counted: (last, day), earliest_possible: earliest_possible()? })
+    let earliest_possible = earliest_possible()?;
+    Ok((Found::TooLate { counted: (last, day), earliest_possible }, margin))
 }
 
-/// Too early for a day before the first, by the Werktage until then.
+/// Too early for a day before the first, by the Werktage until then; else by the last.
 fn not_before(
     first: Date,
+    last: Date,
     day: Date,
-    else_found: impl FnOnce() -> Result<Found, Refusal>,
-) -> Result<Found, Refusal> {
+    earliest_possible: impl FnOnce() -> Result<Date, Refusal>,
+) -> Result<(Found, i32), Refusal> {
     if day < first {
-        return Ok(Found::TooEarly { counted: (day, first) });
+        return Ok((Found::TooEarly { counted: (day, first) }, margin::days(last, day)));
     }
-    else_found()
+    not_after(last, day, earliest_possible)
 }

@@ -33,6 +33,10 @@ pub(super) const REASONS: [&[u8]; 24] = [
     b"ZQ7ZQ7ZQ7ZQ7Z",
 ];
 
+/// Those of a reason.
+pub(super) const SHAPES: [VorlaufShape; 2] =
+    [VorlaufShape::TagVorDemLetztenWerktagVor, VorlaufShape::LatestMonateBefore(1)];
+
 pub fn rows(seed: u64, random: u64) -> Vec<Row> {
     let what = "random, any reason";
     vec![
@@ -52,8 +56,7 @@ fn any_check(call: Call, random: &mut Random) -> Question {
 
 /// One reason in two is an ordinary one. The anchor is by where the verdict of a shape changes.
 pub(super) fn check_on(question: Question, random: &mut Random) -> Question {
-    let shapes = [VorlaufShape::TagVorDemLetztenWerktagVor, VorlaufShape::LatestMonateBefore(1)];
-    let span = Question::on(Call::VorlaufSpan, question.date).with_shape(random.one_of(&shapes));
+    let span = Question::on(Call::VorlaufSpan, question.date).with_shape(random.one_of(&SHAPES));
     let anchor = days::date(vorlauf::any_anchor(&span, random));
     let reason = match random.below(2) {
         0 => of_bytes(b"Z33"),

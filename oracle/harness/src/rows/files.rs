@@ -1,7 +1,8 @@
 //! Files of questions: the four operations with the arguments of their single calls, what is no
 //! question, and lengths.
 
-use super::{any, corners, far, instants, vorlauf, years};
+use super::{any, corners, far, instants, margins, vorlauf, years};
+use crate::days::DAYS;
 use crate::instants::to_host;
 use crate::original::{self, Expected};
 use crate::random::Random;
@@ -103,6 +104,11 @@ pub fn rows(seed: u64, random: u64) -> Vec<FileRow> {
         FileRow {
             expected: original::expected_of_record_soon,
             ..FileRow::random("random, through years", random / 500, seed, short(through_years))
+        },
+        margins_about_0(seed),
+        FileRow {
+            expected: original::expected_of_record_soon,
+            ..FileRow::random("random, far margins", random / 500, seed, short(far_margin))
         },
         FileRow::listed("corner arguments", of_calls(corners::corners)),
         FileRow::listed("what is no date", of_calls(no_dates)),
@@ -232,6 +238,20 @@ pub fn any_bytes(random: &mut Random) -> Record {
 pub fn through_years(random: &mut Random) -> Record {
     let call = random.one_of(&OPERATIONS[1..]);
     written(&years::question(call, random), random)
+}
+
+/// A verdict with an anchor on every date.
+fn margins_about_0(seed: u64) -> FileRow {
+    const ROW: u64 = 9 << 32;
+    FileRow::of_records("every date, margins about 0", DAYS.into(), move |place| {
+        let random = &mut Random::at(seed, ROW, place);
+        let verdict = margins::about_0_on(place as u32, Call::VorlaufCheck, place, random);
+        written(&verdict, random)
+    })
+}
+
+fn far_margin(random: &mut Random) -> Record {
+    written(&margins::far_off(Call::VorlaufCheck, random), random)
 }
 
 fn any_count(random: &mut Random) -> Record {

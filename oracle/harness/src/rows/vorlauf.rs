@@ -16,7 +16,7 @@ const SECOND: i64 = 1_000_000_000;
 /// Codes of shapes.
 pub(super) const WINDOW: u8 = 1;
 pub(super) const LATEST_AFTER: u8 = 2;
-const EARLIEST_AFTER: u8 = 3;
+pub(super) const EARLIEST_AFTER: u8 = 3;
 pub(super) const KORRIDOR: u8 = 4;
 pub(super) const TAG_VOR_DEM_LETZTEN_WERKTAG: u8 = 5;
 pub(super) const MONATE: u8 = 6;

@@ -229,7 +229,7 @@ fn spans_of_every_date(seed: u64) -> Row {
 }
 
 /// The shape of a question with these Werktage; a window has both.
-fn with_werktage(question: Question, n: u32, n2: u32) -> Question {
+pub(super) fn with_werktage(question: Question, n: u32, n2: u32) -> Question {
     match question.code {
         vorlauf::WINDOW => question.with_count(n2).with_second_count(n),
         vorlauf::MONATE_UND_WERKTAGE => question.with_second_count(n),
@@ -306,7 +306,7 @@ pub(super) fn other_day(index: u32, random: &mut Random) -> u32 {
     }
 }
 
-fn instant_of(index: u32, random: &mut Random) -> Instant {
+pub(super) fn instant_of(index: u32, random: &mut Random) -> Instant {
     let midnight = to_host(mako_fristen::berlin_midnight(days::day(index)));
     moved(midnight, i64::from(random.below(23 * 3600)) * SECOND)
 }

@@ -2,7 +2,7 @@ use harness::original;
 use mako_fristen_host::{Answer, Call, Date, Question};
 use std::{array, fs};
 
-/// The questions of a calendar call in the replay list and their answers, which have to be the
+/// The questions of a call with dates in the replay list and their answers, which have to be the
 /// original's of today.
 pub fn replayed(call: Call) -> Vec<(Question, Answer)> {
     let path = concat!(env!("CARGO_MANIFEST_DIR"), "/../../crates/vektoren/stdin");
@@ -14,8 +14,9 @@ pub fn replayed(call: Call) -> Vec<(Question, Answer)> {
         let byte = |at: usize| u8::from_str_radix(&asked[2 * at..2 * at + 2], 16).expect(line);
         let year = |at: usize| u16::from_le_bytes([byte(at), byte(at + 1)]);
         let date = |at: usize| Date::new(year(at), byte(at + 2), byte(at + 3));
-        let n = u32::from_le_bytes(array::from_fn(|by| byte(12 + by)));
-        let question = Question::on(call, date(4)).with_second(date(8)).with_count(n);
+        let count = |at: usize| u32::from_le_bytes(array::from_fn(|by| byte(at + by)));
+        let question = Question::on(call, date(4)).with_second(date(8)).with_code(byte(1));
+        let question = question.with_count(count(12)).with_second_count(count(32));
         let answer = original::expected_soon(&question).expect("no unknown panic");
         assert_eq!(format!("{answer:x}"), stored, "{question}");
         (question, answer)

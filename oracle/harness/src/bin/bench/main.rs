@@ -286,6 +286,15 @@ fn verdicts(anchored: &[(u32, u32)]) -> Vec<Case> {
             })
         })
         .into();
+    for (what, (_, shape, original)) in
+        [("before 5, margin", SHAPES[0]), ("3 Monate, margin", SHAPES[6])]
+    {
+        let question = Question::new(Call::VorlaufCheck).with_shape(shape);
+        cases.push(case(question, what, anchored, move |i| {
+            let shape = black_box(original);
+            (shape.check(i.from, i.to, BdewMaKo), margin(shape, i.from, i.to))
+        }));
+    }
     let (_, shape, original) = SHAPES[0];
     let question = Question::new(Call::VorlaufCheckAt).with_shape(shape);
     cases.push(case(question, "the first, Strom", anchored, move |i| {
@@ -294,6 +303,24 @@ fn verdicts(anchored: &[(u32, u32)]) -> Vec<Case> {
         anchor.map(|anchor| black_box(original).check(day, anchor, BdewMaKo))
     }));
     cases
+}
+
+/// The days up to the last permitted one, by the original's steps.
+fn margin(shape: VorlaufShape, day: time::Date, anchor: time::Date) -> i64 {
+    let on = |day, n| mako_fristen::add_werktage(day, n, BdewMaKo);
+    let back = |day, n| mako_fristen::sub_werktage(day, n, BdewMaKo);
+    let days = match shape {
+        VorlaufShape::LatestWerktageBefore(n)
+        | VorlaufShape::WindowWerktageBefore { latest: n, .. } => back(anchor, n) - day,
+        VorlaufShape::LatestWerktageAfter(n) | VorlaufShape::Korridor(n) => on(anchor, n) - day,
+        VorlaufShape::EarliestWerktageAfter(n) => anchor - on(day, n),
+        VorlaufShape::TagVorDemLetztenWerktagVor => back(anchor, 1) - Duration::DAY - day,
+        VorlaufShape::LatestMonateBefore(n) => mako_fristen::subtract_months(anchor, n) - day,
+        VorlaufShape::LatestMonateUndWerktageBefore { monate, werktage } => {
+            back(mako_fristen::subtract_months(anchor, monate), werktage) - day
+        }
+    };
+    days.whole_days()
 }
 
 fn spans(anchored: &[(u32, u32)]) -> Vec<Case> {
@@ -508,6 +535,7 @@ fn main() {
     println!(
         "Anchors are 1 to 20 days later. The original has no span: its steps to the same ends."
     );
+    println!("Its verdict has no margin: in the rows named so it takes the steps to that as well.");
     println!("The day test: ours tells why a day is closed, the original only whether.");
     println!("Files have 2048 questions in all, as many of each operation, mixed: per question.");
     println!("A count over 900 years whose answer has 31 bytes is refused with 1.");

@@ -5,7 +5,7 @@ use crate::fuzz::{host_calls, tell_of_crashes, FileCase, Found, Fuzzer, Place};
 use crate::original;
 use crate::records::{self, LEN};
 use crate::rows::files::AskFile;
-use mako_fristen_host::{ffi, Answer};
+use mako_fristen_host::{ffi, Answer, Call, Date, Question};
 use std::collections::HashSet;
 use std::os::unix::process::ExitStatusExt;
 use std::thread;
@@ -99,6 +99,33 @@ fn bytes_that_have_to_be_zero_are_looked_at_in_each_answer() {
         number
     };
     assert_found(unlisted, [128, 128], "answer 1: refused with 9");
+}
+
+/// Case E beside a CONTRL: only its answer has a margin.
+#[test]
+fn a_margin_is_told_from_bytes_that_have_to_be_zero() {
+    let verdict = Question::on(Call::VorlaufCheck, Date::new(2026, 1, 10)).with_count(1);
+    let verdict = records::written(&verdict.with_second(Date::new(2026, 1, 12)), [0; LEN]);
+    let questions = [&records::four()[..LEN], &verdict].concat();
+    let expected = records::each(&questions).map(original::expected_of_record).collect();
+    let with_a_verdict = FileCase { questions, expected, ..case([64, 64], &PLACES) };
+    assert_eq!(put(ffi::mf_questions, &with_a_verdict).wrong, 0);
+    let of_the_verdict: AskFile = |questions, answers| {
+        let number = ffi::mf_questions(questions, answers);
+        answers[63] ^= 1;
+        number
+    };
+    let of_the_other: AskFile = |questions, answers| {
+        let number = ffi::mf_questions(questions, answers);
+        answers[31] ^= 1;
+        number
+    };
+    let asks = [(of_the_verdict, "answer 1: expected"), (of_the_other, "answer 0: bytes that")];
+    for (ask, fault) in asks {
+        let found = put(ask, &with_a_verdict);
+        assert_eq!(found.wrong, 4, "{fault}");
+        assert!(found.shown.iter().all(|shown| shown.contains(fault)), "{:?}", found.shown);
+    }
 }
 
 #[test]
