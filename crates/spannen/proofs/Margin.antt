@@ -146,7 +146,7 @@ early_else w v n t o c b f h =
     day_cases (λ x. x ≡ Some v → IsEarly v) f _ (λ _ e. none_some v e)
     (λ y _ e. absurd (n (between w c t, y, sym e)))))
 
-module _ (w : ℕ → Bool) (t a : ℕ) (ha : a ≤ last) where
+module _ (w : ℕ → Bool) (t a : ℕ) where
   module _ (s : VorlaufShape) where
     margin_none : margin_of w s t a ≡ None → check_of w s t a ≡ None
     unfolding margin_of check_of
@@ -174,22 +174,23 @@ module _ (w : ℕ → Bool) (t a : ℕ) (ha : a ≤ last) where
           let y = on_step_day (reaches w s t) _ m x.2 in
           (x.0, y.0, x.1, y.1, cc)
 
-      pub margin_fits : t ≤ last → mag m ≤ last
-      margin_fits ht =
-          let d = margin_days in
-          rw d.4 (difference_fits d.0 d.1 (closes_inside w s a d.0 ha d.2) (reaches_inside w s t d.1 ht d.3))
+      module _ (ha : a ≤ last) where
+        pub margin_fits : t ≤ last → mag m ≤ last
+        margin_fits ht =
+            let d = margin_days in
+            rw d.4 (difference_fits d.0 d.1 (closes_inside w s a d.0 ha d.2) (reaches_inside w s t d.1 ht d.3))
 
-      pub late_negative : IsLate (Some v) → m <ℤ pos 0
-      late_negative l =
-          let d = margin_days in
-          rw d.4 ((below_iff d.0 d.1).1 (late_after w t a ha s d.0 d.1 d.2 d.3 (rw judged_parts.0 l)))
+        pub late_negative : IsLate (Some v) → m <ℤ pos 0
+        late_negative l =
+            let d = margin_days in
+            rw d.4 ((below_iff d.0 d.1).1 (late_after w t a ha s d.0 d.1 d.2 d.3 (rw judged_parts.0 l)))
 
-      pub negative_iff : Ordered s → (m <ℤ pos 0) ↔ IsLate (Some v)
-      negative_iff o =
-          let d = margin_days in
-          let n : check_of w s t a ≢ None = λ e. some_none v (sym judged_parts.0 ∙ e) in
-          let i = late_iff w t a ha s d.0 d.1 d.2 d.3 o n in
-          (λ k. rw judged_parts.0 at (i.1 ((below_iff d.0 d.1).0 (rw d.4 at k))), late_negative)
+        pub negative_iff : Ordered s → (m <ℤ pos 0) ↔ IsLate (Some v)
+        negative_iff o =
+            let d = margin_days in
+            let n : check_of w s t a ≢ None = λ e. some_none v (sym judged_parts.0 ∙ e) in
+            let i = late_iff w t a ha s d.0 d.1 d.2 d.3 o n in
+            (λ k. rw judged_parts.0 at (i.1 ((below_iff d.0 d.1).0 (rw d.4 at k))), late_negative)
 
   -- 'For `EarliestWerktageAfter`(n) the number is the anchor minus `add_werktage`(transmission day, n)'
   pub refused_earliest : (n : ℕ) → (judgement_of w (EarliestWerktageAfter n) t a ≡ None) ↔ (add w t n ≡ None)
@@ -199,24 +200,24 @@ module _ (w : ℕ → Bool) (t a : ℕ) (ha : a ≤ last) where
       let k = held_none w a (add w t n) in
       (λ e. k.0 (i.0 e), λ e. i.1 (k.1 e))
 
-  module _ (earliest latest : ℕ) (v : VorlaufVerdict) (m : ℤ) where
-    pub window_early :
-        judgement_of w (WindowWerktageBefore earliest latest) t a ≡ Some (v, m) → m <ℤ pos 0 → (IsLate (Some v) → ⊥) →
-        IsEarly v × (earliest < latest)
-    unfolding check_of closes reaches
-    window_early j k n =
-        let s = WindowWerktageBefore earliest latest in
-        let d = margin_days s v m j in
-        let l : d.0 < d.1 = (below_iff d.0 d.1).0 (rw d.4 at k) in
-        let e : d.1 ≡ t = cc in
-        (
-          day_cases (λ x. x ≡ Some v → IsEarly v) (sub w a earliest) _ (λ _ e. none_some v e)
-          (λ o _. early_else w v n t o d.0 _ (add w t latest) (omega arith)) (rw d.2 at (judged_parts s v m j).0),
-          elim (dec_le latest earliest) [
-            | yes o ↦ absurd (n ((negative_iff s v m j o).0 k))
-            | no o ↦ omega arith
-          ],
-        )
+  pub window_early :
+      (earliest latest : ℕ) (v : VorlaufVerdict) (m : ℤ) → a ≤ last →
+      judgement_of w (WindowWerktageBefore earliest latest) t a ≡ Some (v, m) → m <ℤ pos 0 → (IsLate (Some v) → ⊥) →
+      IsEarly v × (earliest < latest)
+  unfolding check_of closes reaches
+  window_early earliest latest v m ha j k n =
+      let s = WindowWerktageBefore earliest latest in
+      let d = margin_days s v m j in
+      let l : d.0 < d.1 = (below_iff d.0 d.1).0 (rw d.4 at k) in
+      let e : d.1 ≡ t = cc in
+      (
+        day_cases (λ x. x ≡ Some v → IsEarly v) (sub w a earliest) _ (λ _ e. none_some v e)
+        (λ o _. early_else w v n t o d.0 _ (add w t latest) (omega arith)) (rw d.2 at (judged_parts s v m j).0),
+        elim (dec_le latest earliest) [
+          | yes o ↦ absurd (n ((negative_iff s v m j ha o).0 k))
+          | no o ↦ omega arith
+        ],
+      )
 
 -- 'where TooEarly may stand beside a negative margin'
 pub early_negative :
