@@ -88,9 +88,9 @@ below_iff c r =
       | yes h ↦ (λ _. h, λ _. rw (sub_neg c r h) (record { lt = tt }))
       | no h ↦ (
         λ k.
-          let l : c - r < 0 = ltb→lt (c - r) 0 ((rw (sub_pos c r (omega arith)) at k).lt) in
-          absurd (omega arith),
-        λ k. absurd (omega arith)
+            let l : c - r < 0 = ltb→lt (c - r) 0 ((rw (sub_pos c r (omega arith)) at k).lt) in
+            absurd (omega arith),
+        λ k. absurd (omega arith),
       )
     ]
 
@@ -130,10 +130,12 @@ reaches_inside w (LatestMonateUndWerktageBefore monate werktage) t r h p = let q
 held_none :
     (w : ℕ → Bool) (a : ℕ) (s : Option ℕ) → (on_step None s (λ r. not_after w r a (Some r)) ≡ None) ↔ (s ≡ None)
 held_none w a None = (λ _. refl, λ _. refl)
-held_none w a (Some r) =
-    (upto_cases (λ x. x ≡ None → Some r ≡ None) r a (Some Ok) (Some (TooLate (between w a r) r))
-    (λ _ e. some_none Ok e)
-    (λ _ e. some_none (TooLate (between w a r) r) e), λ e. some_none r e)
+held_none w a (Some r) = (
+  upto_cases (λ x. x ≡ None → Some r ≡ None) r a (Some Ok) (Some (TooLate (between w a r) r))
+      (λ _ e. some_none Ok e)
+      (λ _ e. some_none (TooLate (between w a r) r) e),
+  λ e. some_none r e,
+)
 
 -- past the day on which a window closes, a verdict that is not TooLate is TooEarly
 early_else :
@@ -209,10 +211,9 @@ module _ (w : ℕ → Bool) (t a : ℕ) where
       let s = WindowWerktageBefore earliest latest in
       let d = margin_days s v m j in
       let l : d.0 < d.1 = (below_iff d.0 d.1).0 (rw d.4 at k) in
-      let e : d.1 ≡ t = cc in
-      (
+      let e : d.1 ≡ t = cc in (
         day_cases (λ x. x ≡ Some v → IsEarly v) (sub w a earliest) _ (λ _ e. none_some v e)
-        (λ o _. early_else w v n t o d.0 _ (add w t latest) (omega arith)) (rw d.2 at (judged_parts s v m j).0),
+            (λ o _. early_else w v n t o d.0 _ (add w t latest) (omega arith)) (rw d.2 at (judged_parts s v m j).0),
         elim (dec_le latest earliest) [
           | yes o ↦ absurd (n ((negative_iff s v m j ha o).0 k))
           | no o ↦ omega arith
