@@ -12,10 +12,10 @@ ghost use Rattle.antworten_vorlauf.specs.Vorlauf.{eog_ankuendigung_fristgerecht_
 use datum::Date;
 use werktag::HolidayCalendar;
 
-/// The verdict of a lead-time shape on a transmission date and an anchor, its Werktage and its earliest date:
-/// `LatestWerktageBefore(1)` for 10 January 2026, a Saturday, against Monday, the 12th, is TooLate, 0, and names that
-/// Monday. "The two month shapes compute their earliest date even when the verdict is Ok": refusal 8 where it leaves
-/// the calendar.
+/// The verdict of a lead-time shape on a transmission date and an anchor, its Werktage, its earliest date and its
+/// margin: `LatestWerktageBefore(1)` for 10 January 2026, a Saturday, against Monday, the 12th, is TooLate, 0, names
+/// that Monday, and has -1. "The two month shapes compute their earliest date even when the verdict is Ok": refusal 8
+/// where it leaves the calendar.
 pub fn mf_vorlauf_check(
     shape: u8,
     count: u32,
@@ -127,7 +127,7 @@ pub fn mf_abmeldung_fuer(reason: &[u8], eeg: u8, answer: &mut [u8]) -> u8
 }
 
 /// The verdict of a deregistration, kind 3 where it has no shape: "ZQ7, or an unknown EEG mark". Its two dates are
-/// checked even then. An ordinary one on 8 January 2026 for the 9th: TooLate, 1, 10 January.
+/// checked even then. An ordinary one on 8 January 2026 for the 9th: TooLate, 1, 10 January, -1.
 pub fn mf_abmeldung_check(
     reason: &[u8],
     eeg: u8,
