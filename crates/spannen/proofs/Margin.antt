@@ -7,7 +7,7 @@
 --   refused_closes    there is none where the last permitted transmission day leaves the calendar
 --   refused_earliest  for `EarliestWerktageAfter` there is none exactly if `add_werktage` leaves the calendar
 --   margin_fits       a margin is a number of days of the calendar, or the negative of one
---   late_negative     TooLate has a negative margin, of any shape
+--   late_negative     TooLate has a negative margin, whatever the shape
 --   negative_iff      the margin is negative exactly if the verdict is TooLate, if the shape is Ordered
 --   window_early      a window's negative margin without TooLate says TooEarly, and that `earliest` is below `latest`
 --   early_negative    which happens: 3 January 1996, day 2, is TooEarly for Window(1, 3) against the 5th, beside −1
