@@ -20,7 +20,7 @@ use Rattle.berlin.specs.Berlin.{berlin_midnight}
 use Rattle.fristen.specs.Fristen.{instant_later, contrl_seconds, in_window, toleranz_in, formatumstellung_toleranz}
 use Rattle.fristen.specs.Fristen.{contrl_due_at, nth_werktag_at}
 use Rattle.fristen.specs.FristShape.{same_day_at, due_at_of}
-use Rattle.vorlauf.specs.Verdict.{closes, reaches, check_of}
+use Rattle.vorlauf.specs.Verdict.{closes, reaches, not_after, check_of}
 use Rattle.vorlauf.specs.Margin.{margin_of, judgement_of}
 use Rattle.vorlauf.specs.Span.{span_of}
 use Rattle.zahlen.specs.TwosComplement.{bits_in, signed_in}
@@ -77,7 +77,7 @@ unfolding start at is_leap days_in_month year_len is_date index_of date_in date_
     easter_sunday easter_index any is_fixed is_buss_und_bettag is_easter_feast is_werktag
     is_before in_limits read_instant last_sunday year_at offset_at berlin_at berlin_midnight
     instant_later contrl_seconds in_window toleranz_in formatumstellung_toleranz contrl_due_at nth_werktag_at
-    same_day_at due_at_of closes reaches check_of margin_of judgement_of span_of bits_in signed_in
+    same_day_at due_at_of closes reaches not_after check_of margin_of judgement_of span_of bits_in signed_in
     of_kind at_instant judged spanned bytes_of question_of is_file records
     contrl_due_at_answer frist_due_at_answer vorlauf_check_answer vorlauf_span_answer
     clock_of_seconds question_answer answers_to questions_reply

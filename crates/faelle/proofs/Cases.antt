@@ -25,7 +25,8 @@ use Rattle.berlin.specs.Berlin.{berlin_midnight, end_of_day_berlin, tagesbeginn_
 use Rattle.fristen.specs.Fristen.{instant_later, contrl_seconds, in_window, toleranz_in, formatumstellung_toleranz}
 use Rattle.fristen.specs.Fristen.{contrl_due_at, nth_werktag_at}
 use Rattle.fristen.specs.FristShape.{same_day_at, due_at_of}
-use Rattle.vorlauf.specs.Verdict.{closes, reaches, check_of, fruehester_termin_nach_tag_vor_dem_letzten_werktag}
+use Rattle.vorlauf.specs.Verdict.{closes, reaches, fruehester_termin_nach_tag_vor_dem_letzten_werktag, not_after}
+use Rattle.vorlauf.specs.Verdict.{check_of}
 use Rattle.vorlauf.specs.Margin.{margin_of, judgement_of}
 use Rattle.vorlauf.specs.Span.{span_of}
 use Rattle.zahlen.specs.TwosComplement.{bits_in}
@@ -92,8 +93,8 @@ unfolding start at is_leap days_in_month year_len is_date index_of date_in date_
     is_before in_limits read_instant read_clock last_sunday year_at offset_at berlin_at
     berlin_midnight end_of_day_berlin tagesbeginn_utc
     instant_later contrl_seconds in_window toleranz_in formatumstellung_toleranz contrl_due_at nth_werktag_at
-    same_day_at due_at_of closes reaches check_of fruehester_termin_nach_tag_vor_dem_letzten_werktag
-    margin_of judgement_of span_of bits_in of_kind dated at_instant judged spanned
+    same_day_at due_at_of closes reaches fruehester_termin_nach_tag_vor_dem_letzten_werktag not_after
+    check_of margin_of judgement_of span_of bits_in of_kind dated at_instant judged spanned
     is_werktag_answer add_werktage_answer berlin_at_answer tagesbeginn_utc_answer
     contrl_due_at_answer frist_due_at_answer vorlauf_check_answer vorlauf_span_answer
 cases = refl

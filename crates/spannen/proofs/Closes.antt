@@ -53,6 +53,7 @@ step_lates s f = day_cases Lates s f (λ _ n. absurd (n refl))
 
 module _ (w : ℕ → Bool) (t a : ℕ) (ha : a ≤ last) where
   upto_lates : (r c : ℕ) (f : Option ℕ) → c < r → Lates (not_after w r c f)
+  unfolding not_after
   upto_lates r c f h =
       upto_cases Lates r c (Some Ok) (on_step None f (λ y. (Some (TooLate (between w c r) y))))
       (λ g. absurd (omega arith))

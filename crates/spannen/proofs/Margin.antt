@@ -129,6 +129,7 @@ reaches_inside w (LatestMonateUndWerktageBefore monate werktage) t r h p = let q
 
 held_none :
     (w : ℕ → Bool) (a : ℕ) (s : Option ℕ) → (on_step None s (λ r. not_after w r a (Some r)) ≡ None) ↔ (s ≡ None)
+unfolding not_after
 held_none w a None = (λ _. refl, λ _. refl)
 held_none w a (Some r) = (
   upto_cases (λ x. x ≡ None → Some r ≡ None) r a (Some Ok) (Some (TooLate (between w a r) r))
@@ -141,6 +142,7 @@ held_none w a (Some r) = (
 early_else :
     (w : ℕ → Bool) (v : VorlaufVerdict) → (IsLate (Some v) → ⊥) → (t o c b : ℕ) (f : Option ℕ) → c < t →
     cond (ltb t o) (Some (TooEarly b)) (not_after w t c f) ≡ Some v → IsEarly v
+unfolding not_after
 early_else w v n t o c b f h =
     under_cases (λ x. x ≡ Some v → IsEarly v) t o (Some (TooEarly b)) (not_after w t c f) (λ _ e. (b, cc)) (λ _.
     upto_cases (λ x. x ≡ Some v → IsEarly v) t c (Some Ok) (on_step None f (λ y. Some (TooLate (between w c t) y)))

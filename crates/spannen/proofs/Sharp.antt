@@ -26,7 +26,7 @@ use Rattle.werktag.specs.Werktag.{is_fixed, is_buss_und_bettag, is_easter_feast,
 use Rattle.vorlauf.specs.declared.VorlaufShape.TheVariants.{WindowWerktageBefore, Korridor}
 use Rattle.vorlauf.specs.declared.VorlaufVerdict.TheVariants.{Ok, TooLate}
 use Rattle.vorlauf.specs.declared.Span.TheVariants.{Both}
-use Rattle.vorlauf.specs.Verdict.{closes, reaches, check_of}
+use Rattle.vorlauf.specs.Verdict.{closes, reaches, not_after, check_of}
 use Rattle.vorlauf.specs.Span.{span_of, LiesIn, Begins}
 use Rattle.spannen.proofs.Demand3.{span_iff}
 use Rattle.std.specs.Prelude.{Some, None}
@@ -81,7 +81,7 @@ pub clause_inside :
     (index 2899 12 22))))
     × (span_of w (WindowWerktageBefore 5 0) (index 2899 12 22) ≡ None)
     × (Begins (span_of w (WindowWerktageBefore 5 0) (index 2899 12 22)) (index 2899 12 22) → ⊥)
-unfolding span_of check_of closes reaches W past add sub up down between among
+unfolding span_of check_of closes reaches not_after W past add sub up down between among
     is_werktag is_fixed is_buss_und_bettag is_easter_feast any
     easter_index easter_sunday date_in at start year_len days_in_month is_leap
 clause_inside = (refl, refl, λ e. e)

@@ -89,6 +89,7 @@ module _ {A : Type 0} where
   day_accepts s f g = day_cases (λ v. Accepts v A) s f (λ _ h. absurd (h refl)) g
 
   pub upto_ok : (w : ℕ → Bool) (t c : ℕ) (f : Option ℕ) → (t ≤ c) ↔ A → (not_after w t c f ≡ (Some Ok)) ↔ A
+  unfolding not_after
   upto_ok w t c f i =
       upto_cases (λ v. (v ≡ (Some Ok)) ↔ A) t c (Some Ok) (on_step None f (λ y. (Some (TooLate (between w c t) y))))
       (λ h. (λ _. i.0 h, λ _. refl))
@@ -138,6 +139,7 @@ module _ {R : Type 0} (b y : ℕ) where
   pub late_upto :
       (w : ℕ → Bool) (t c : ℕ) (f : Option ℕ) → (c < t → f ≡ Some y → between w c t ≡ b → R) →
       not_after w t c f ≡ (Some (TooLate b y)) → R
+  unfolding not_after
   late_upto w t c f g =
       upto_cases (λ v. v ≡ (Some (TooLate b y)) → R) t c (Some Ok) _
       (λ _ e. let z : ◌≡◌ {A = ℕ} 0 1 = cc in absurd (omega arith))

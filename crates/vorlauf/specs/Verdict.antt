@@ -51,7 +51,7 @@ fruehester_termin_nach_tag_vor_dem_letzten_werktag w t = on_step None (day_after
     (λ d. on_step None (next w d) day_after)
 
 -- '`Ok` while `uebertragungstag` is at or before `latest_uet`, else `TooLate`'
-abbrev pub not_after : (ℕ → Bool) → ℕ → ℕ → Option ℕ → Option VorlaufVerdict
+unfoldable pub not_after : (ℕ → Bool) → ℕ → ℕ → Option ℕ → Option VorlaufVerdict
 not_after w t c f = cond (leb t c) (Some Ok) (on_step None f (λ y. Some (TooLate (between w c t) y)))
 
 -- 'The two month shapes compute their earliest date even when the verdict is Ok; leaving the calendar there is

@@ -101,6 +101,7 @@ fn margin(t: Tag, closes: Tag) -> i32
 }
 
 /// `Ok` while t is at or before `closes`, else `TooLate` with the date of `first`, which is computed only then.
+#[tactic(auto, unfolding(crate::specs::Verdict::not_after))]
 fn not_after<F: FnOnce() -> Option<Tag>>(
     t: Tag,
     closes: Tag,
