@@ -1,12 +1,13 @@
-// What the calls for due instants answer: document 01, refusals 2, 4, 5, 6 and 8. There is one function for each call
-// of C, named as it.
+// What the calls for due instants answer: document 01, refusals 2, 4, 5, 6 and 8, and document 02, F-7, where a date is
+// given, 3. There is one function for each call of C, named as it.
 #![tactic(auto)]
 
 ghost use Rattle.std.specs.Prelude.{◌≡◌, ok_or, slice_get};
 ghost use Rattle.werktag.specs.Werktag.{is_werktag};
 ghost use Rattle.antwortsatz.specs.declared.Refusal.TheVariants.{UnknownCode};
 ghost use Rattle.antworten_frist.specs.FristReading.{anlaesse, frist_shapes, due_answer, prozess_kind};
-ghost use Rattle.antworten_frist.specs.Frist.{contrl_due_at_answer, aperak_strom_due_at_answer};
+ghost use Rattle.antworten_frist.specs.Frist.{contrl_due_at_answer, contrl_due_at_change_answer};
+ghost use Rattle.antworten_frist.specs.Frist.{aperak_strom_due_at_answer};
 ghost use Rattle.antworten_frist.specs.Frist.{aperak_strom_allgemein_due_at_answer};
 ghost use Rattle.antworten_frist.specs.Frist.{aperak_gas_folgeprozess_due_at_answer};
 ghost use Rattle.antworten_frist.specs.Frist.{aperak_gas_initialprozess_due_at_answer};
@@ -17,6 +18,7 @@ ghost use Rattle.antworten_frist.specs.Frist.{frist_due_at_answer};
 
 use antwortsatz::{Answer, Refusal};
 use berlin::{Clock, Moment};
+use datum::Date;
 use fristen::{ContrlAnlass, FristShape, GasProzess, NoDue};
 use werktag::HolidayCalendar;
 
@@ -80,6 +82,24 @@ pub fn contrl_due_at_answer(instant: Option<Moment>, code: u8) -> Result<Answer,
     let anlass = anlass_of(code)?;
     let received = instant.ok_or(Refusal::InstantOutside)?;
     due_answer(0, fristen::contrl_due_at(received, anlass))
+}
+
+/// When a CONTRL is due if the Formatumstellung is on a date of the caller's, its Stichtag: what is due from 18:00 of the
+/// day before and before 00:00 of the day after is due then. Stichtag 6 June 2026, Regelfall received on the 5th
+/// 11:59:59 Berlin: 17:59:59; received 12:00:00: 7 June 00:00. The Stichtag goes before the instant's limits; refusal 8
+/// also for the calendar's first day and its last.
+#[tactic(auto, unfolding(crate::specs::Frist::contrl_due_at_change_answer))]
+pub fn contrl_due_at_change_answer(
+    instant: Option<Moment>,
+    code: u8,
+    stichtag: Date,
+) -> Result<Answer, Refusal>
+    ensures { result ≡ contrl_due_at_change_answer instant code stichtag }
+{
+    let anlass = anlass_of(code)?;
+    let day = datum::index_of(stichtag).ok_or(Refusal::NoDate)?;
+    let received = instant.ok_or(Refusal::InstantOutside)?;
+    due_answer(0, fristen::contrl_due_at_change(received, anlass, day))
 }
 
 /// When the Strom APERAK on a UTILMD or ORDERS is due: 45 minutes after its receipt; "Saturday gives Sunday 12:00".

@@ -18,7 +18,7 @@ use Rattle.berlin.specs.Berlin.{berlin_midnight, end_of_day_berlin}
 use Rattle.fristen.specs.declared.ContrlAnlass.TheVariants.{Regelfall, StromUtilmdOderOrders, GasAlocat}
 use Rattle.fristen.specs.declared.FristShape.TheVariants.{SameDayAt, SameDay}
 use Rattle.fristen.specs.Fristen.{noon, instant_later, contrl_seconds, in_window, toleranz_in}
-use Rattle.fristen.specs.Fristen.{formatumstellung_toleranz}
+use Rattle.fristen.specs.Fristen.{formatumstellung_toleranz, contrl_due_at_change}
 use Rattle.fristen.specs.Fristen.{contrl_due_at, nth_werktag_at, next_werktag_at, end_of_werktag_after}
 use Rattle.fristen.specs.Fristen.{deadline_at_werktage}
 use Rattle.fristen.specs.Fristen.{add_hours, aperak_strom_due_at, aperak_strom_allgemein_due_at, is_initial}
@@ -62,6 +62,47 @@ pub contrl_days :
 unfolding contrl_due_at contrl_seconds instant_later in_limits formatumstellung_toleranz toleranz_in in_window is_before
     berlin_midnight berlin_at offset_at year_at last_sunday date_of date_in at start year_len days_in_month is_leap
 contrl_days = refl
+
+-- Stichtag Saturday 6 June 2026, day 11114: received on the 5th 11:59:59 and 12:00:00, and on the 6th 17:59:59 and
+-- 18:00:00, due on the 5th 17:59:59, and on the 7th 00:00 three times; 30 September 12:00:00, due 18:00:00
+pub change_window :
+    contrl_due_at_change (m 1780653599) Regelfall 11114 ∷ contrl_due_at_change (m 1780653600) Regelfall 11114
+    ∷ contrl_due_at_change (m 1780761599) Regelfall 11114 ∷ contrl_due_at_change (m 1780761600) Regelfall 11114
+    ∷ contrl_due_at_change (m 1790762400) Regelfall 11114 ∷ []
+    ≡ due 1780675199 ∷ due 1780783200
+    ∷ due 1780783200 ∷ due 1780783200
+    ∷ due 1790784000 ∷ []
+unfolding contrl_due_at_change day_after contrl_seconds instant_later in_limits in_window is_before
+    berlin_midnight berlin_at offset_at year_at last_sunday date_of date_in at start year_len days_in_month is_leap
+change_window = refl
+
+-- Stichtag Sunday 29 March 2026, day 11045, and 25 October, day 11255: the window has 29 hours and 31, from Saturday
+-- 18:00 to Monday 00:00; a second before each end and at it
+pub switch_sundays :
+    contrl_due_at_change (m 1774695599) Regelfall 11045 ∷ contrl_due_at_change (m 1774695600) Regelfall 11045
+    ∷ contrl_due_at_change (m 1774799999) Regelfall 11045 ∷ contrl_due_at_change (m 1774800000) Regelfall 11045
+    ∷ contrl_due_at_change (m 1792835999) Regelfall 11255 ∷ contrl_due_at_change (m 1792836000) Regelfall 11255
+    ∷ contrl_due_at_change (m 1792947599) Regelfall 11255 ∷ contrl_due_at_change (m 1792947600) Regelfall 11255 ∷ []
+    ≡ due 1774717199 ∷ due 1774821600
+    ∷ due 1774821600 ∷ due 1774821600
+    ∷ due 1792857599 ∷ due 1792969200
+    ∷ due 1792969200 ∷ due 1792969200 ∷ []
+unfolding contrl_due_at_change day_after contrl_seconds instant_later in_limits in_window is_before
+    berlin_midnight berlin_at offset_at year_at last_sunday date_of date_in at start year_len days_in_month is_leap
+switch_sundays = refl
+
+-- received at the calendar's first instant, due at 06:00: no day is before its first day and none after its last; of
+-- its second the window opens on that day at 18:00
+pub change_edges :
+    contrl_due_at_change (m 820450800) Regelfall 0 ∷ contrl_due_at_change (m 820450800) Regelfall 1
+    ∷ contrl_due_at_change (m 820493999) Regelfall 1 ∷ contrl_due_at_change (m 820494000) Regelfall 1
+    ∷ contrl_due_at_change (m 820450800) Regelfall 330178 ∷ contrl_due_at_change (m 820450800) Regelfall 330179 ∷ []
+    ≡ Err Outside ∷ due 820472400
+    ∷ due 820515599 ∷ due 820623600
+    ∷ due 820472400 ∷ Err Outside ∷ []
+unfolding contrl_due_at_change day_after contrl_seconds instant_later in_limits in_window is_before
+    berlin_midnight berlin_at offset_at year_at last_sunday date_of date_in at start year_len days_in_month is_leap
+change_edges = refl
 
 -- Monday 6 January 2025 10:00 UTC: 45 minutes; Saturday 11 January: Sunday 12:00; that Sunday: 45 minutes; the last
 -- instant of the calendar: outside

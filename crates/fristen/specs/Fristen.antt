@@ -10,13 +10,15 @@
 --   contrl_seconds d a                   = how long after a receipt on the day d the CONTRL is due, before the
 --                                          tolerance
 --   day_on y m d                         = the day with that date
+--   before_tolerance m a                 = when the CONTRL would be due without a tolerance
 --   in_window a b m                      = whether m lies from 18:00 of the day a on and before the midnight that
 --                                          begins the day b
---   toleranz_in y m                      = the end of the Formatumstellung's window of the year y in which m lies; m
---                                          itself in none
+--   toleranz a b m                       = the end of that window, if m lies in it; else m itself
+--   toleranz_in y m                      = the same with the windows of both Formatumstellungen of the year y
 --   formatumstellung_toleranz m          = the same in the year of m
---   tolerated_due r                      = the same of the instant of r
+--   tolerated_due t r                    = t, a tolerance, of the instant of r
 --   contrl_due_at m a                    = when a CONTRL is due
+--   contrl_due_at_change m a d           = the same where the Formatumstellung is on the day d
 --   at_least_one n                       = n, and 1 for 0
 --   nth_werktag_on w d n c               = the clock c on the n-th Werktag after the day d
 --   nth_werktag_at w m n c               = the clock c on the n-th Werktag after the receipt day; next_werktag_at w m
@@ -33,9 +35,9 @@
 --   gas_prozess pid                      = which of the two windows a Prüfidentifikator has
 --   aperak_gas_due_at w pid m            = when the APERAK is due
 -- Source: CONTRL AHB 1.0 Kap. 2.3.1 and 2.4.1; APERAK AHB 1.1 Kap. 2.3.1 and 2.4.1; GPKE; as document 01, 'lib.rs,
--- messages', and the original's comments quote them.
+-- messages', and the original's comments quote them; document 02, F-7.
 use Rattle.std.specs.Prelude.{ℕ, ◌+◌, Bool, false, not, ◌&&◌, cond, List, [], ◌∷◌, eqb, Result, Ok, Err, ok_or}
-use Rattle.zaehlung.specs.Walk.{on_step, day_after, add}
+use Rattle.zaehlung.specs.Walk.{on_step, day_after, day_before, add}
 use Rattle.datum.specs.Calendar.{days_before, date_of, weekday}
 use Rattle.zaehlung.specs.Lists.{any}
 use Rattle.berlin.specs.declared.Moment.{Moment}
@@ -95,6 +97,9 @@ contrl_seconds d Regelfall = contrl_frist
 contrl_seconds d StromUtilmdOderOrders = cond (is_saturday d) contrl_frist contrl_strom_schnell
 contrl_seconds d GasAlocat = contrl_alocat
 
+abbrev pub before_tolerance : Moment → ContrlAnlass → Result Moment NoDue
+before_tolerance m a = instant_later m (contrl_seconds (receipt_day m) a)
+
 abbrev pub day_on : ℕ → ℕ → ℕ → ℕ
 day_on y m d = days_before (record { year = y; month = m; day = d })
 
@@ -103,23 +108,33 @@ unfoldable pub in_window : ℕ → ℕ → Moment → Bool
 in_window a b m =
     on_resolved false (berlin_at a window_opens) (λ o. not (is_before m o)) && is_before m (berlin_midnight b)
 
+-- '.. becomes that midnight. Due exactly at that midnight stays.'
+abbrev pub toleranz : ℕ → ℕ → Moment → Moment
+toleranz a b m = cond (in_window a b m) (berlin_midnight b) m
+
 -- 'Due at 31 March or 30 September 18:00:00 Berlin or later and before 2 April or 2 October 00:00 becomes that
--- midnight. Due exactly at that midnight stays.' A window lies in one year: that of the instant's Berlin day.
+-- midnight.' A window lies in one year: that of the instant's Berlin day.
 unfoldable pub toleranz_in : ℕ → Moment → Moment
-toleranz_in y m =
-    cond (in_window (day_on y 3 31) (day_on y 4 2) m) (berlin_midnight (day_on y 4 2))
-    (cond (in_window (day_on y 9 30) (day_on y 10 2) m) (berlin_midnight (day_on y 10 2)) m)
+toleranz_in y m = toleranz (day_on y 9 30) (day_on y 10 2) (toleranz (day_on y 3 31) (day_on y 4 2) m)
 
 unfoldable pub formatumstellung_toleranz : Moment → Moment
 formatumstellung_toleranz m = toleranz_in (date_of (berlin_date m)).year m
 
 -- 'the tolerance test on the due instant', never on the receipt
-abbrev pub tolerated_due : Result Moment NoDue → Result Moment NoDue
-tolerated_due (Ok m) = Ok (formatumstellung_toleranz m)
-tolerated_due (Err e) = Err e
+abbrev pub tolerated_due : (Moment → Moment) → Result Moment NoDue → Result Moment NoDue
+tolerated_due t (Ok m) = Ok (t m)
+tolerated_due t (Err e) = Err e
 
 unfoldable pub contrl_due_at : Moment → ContrlAnlass → Result Moment NoDue
-contrl_due_at m a = tolerated_due (instant_later m (contrl_seconds (receipt_day m) a))
+contrl_due_at m a = tolerated_due formatumstellung_toleranz (before_tolerance m a)
+
+-- F-7: 'Version two takes the change day from the caller: the window runs from 18:00 of the day before to 00:00 of the
+-- day after, and no other window exists in that call'; '8 also where the day before or after the change day leaves the
+-- calendar'
+unfoldable pub contrl_due_at_change : Moment → ContrlAnlass → ℕ → Result Moment NoDue
+contrl_due_at_change m a d =
+    on_step (Err Outside) (day_before d)
+    (λ v. on_step (Err Outside) (day_after d) (λ n. tolerated_due (toleranz v n) (before_tolerance m a)))
 
 -- '`nth_werktag_at` with 0 equals 1'
 abbrev pub at_least_one : ℕ → ℕ

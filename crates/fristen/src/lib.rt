@@ -6,13 +6,14 @@
 // under the name that the original has: the general Strom APERAK, the two of Gas, and `deadline_at_werktage`.
 #![tactic(auto)]
 
-ghost use Rattle.std.specs.Prelude.{◌≡◌, true, ◌+◌, ◌*◌, ◌≤◌, ◌<◌, cond, Some, None};
+ghost use Rattle.std.specs.Prelude.{◌≡◌, ◌+◌, ◌*◌, ◌≤◌, ◌<◌};
 ghost use Rattle.zaehlung.specs.Walk.{last};
-ghost use Rattle.datum.specs.Calendar.{first_year, last_year, days_before, is_date};
+ghost use Rattle.datum.specs.Calendar.{first_year, last_year};
 ghost use Rattle.werktag.specs.Werktag.{is_werktag};
-ghost use Rattle.berlin.specs.Berlin.{day_seconds, berlin_midnight};
+ghost use Rattle.berlin.specs.Berlin.{day_seconds};
 ghost use Rattle.fristen.specs.Fristen.{receipt_day, instant_later, clock_on, is_saturday, contrl_seconds};
-ghost use Rattle.fristen.specs.Fristen.{contrl_due_at, in_window, toleranz_in, formatumstellung_toleranz};
+ghost use Rattle.fristen.specs.Fristen.{before_tolerance, contrl_due_at, contrl_due_at_change};
+ghost use Rattle.fristen.specs.Fristen.{in_window, toleranz, toleranz_in, formatumstellung_toleranz};
 ghost use Rattle.fristen.specs.Fristen.{aperak_strom_due_at, aperak_strom_allgemein_due_at};
 ghost use Rattle.fristen.specs.Fristen.{aperak_gas_folgeprozess_due_at, aperak_gas_initialprozess_due_at};
 ghost use Rattle.fristen.specs.Fristen.{is_initial, gas_prozess, aperak_gas_due_at, nth_werktag_on};
@@ -117,6 +118,13 @@ fn contrl_seconds(received: Moment, anlass: ContrlAnlass) -> u32
     }
 }
 
+/// When the CONTRL would be due without a tolerance.
+fn before_tolerance(received: Moment, anlass: ContrlAnlass) -> Result<Moment, NoDue>
+    ensures { result ≡ before_tolerance received anlass }
+{
+    instant_later(received, 0, contrl_seconds(received, anlass))
+}
+
 /// When the CONTRL on a message is due: '6 hours; 45 minutes for `GasAlocat`; `StromUtilmdOderOrders` 15 minutes, 6
 /// hours if received on Saturday'. 'the Saturday test is on the receipt, the tolerance test on the due instant'.
 ///
@@ -125,8 +133,28 @@ fn contrl_seconds(received: Moment, anlass: ContrlAnlass) -> u32
 pub fn contrl_due_at(received: Moment, anlass: ContrlAnlass) -> Result<Moment, NoDue>
     ensures { result ≡ contrl_due_at received anlass }
 {
-    let due = instant_later(received, 0, contrl_seconds(received, anlass))?;
+    let due = before_tolerance(received, anlass)?;
     Ok(formatumstellung_toleranz(due))
+}
+
+/// When it is due if the Formatumstellung is on another day, its Stichtag: document 02, F-7. 'the window runs from 18:00
+/// of the day before to 00:00 of the day after, and no other window exists in that call'. Outside for the calendar's
+/// first day and its last, since there is no day before the one and none after the other.
+///
+/// Regelfall, Stichtag 1 July 2026, received 30 June 11:59:59 Berlin: 17:59:59. Received 12:00:00: 2 July 00:00.
+#[tactic(auto, unfolding(crate::specs::Fristen::contrl_due_at_change, zaehlung::specs::Walk::day_after))]
+pub fn contrl_due_at_change(
+    received: Moment,
+    anlass: ContrlAnlass,
+    stichtag: u32,
+) -> Result<Moment, NoDue>
+    ensures { result ≡ contrl_due_at_change received anlass stichtag }
+{
+    if stichtag == 0 || LAST <= stichtag {
+        return Err(NoDue::Outside);
+    }
+    let due = before_tolerance(received, anlass)?;
+    Ok(toleranz(due, stichtag - 1, stichtag + 1))
 }
 
 /// Whether an instant lies in the window from 18:00 of one day to the midnight that begins the other.
@@ -139,17 +167,15 @@ fn in_window(at: Moment, von: u32, bis: u32) -> bool
     !berlin::is_before(at, opens) && berlin::is_before(at, berlin::berlin_midnight(bis))
 }
 
-/// The end of the window from one date to the other, if an instant lies in it.
-fn window_end(at: Moment, von: Date, bis: Date) -> Option<Moment>
-    requires { (is_date von ≡ true) × (is_date bis ≡ true) }
-    ensures { let end = days_before bis in
-        result ≡ cond (in_window (days_before von) end at) (Some (berlin_midnight end)) None }
+/// What is due in the window from one day to the other is due at its end.
+fn toleranz(due: Moment, von: u32, bis: u32) -> Moment
+    requires { (von ≤ last) × (bis ≤ last) }
+    ensures { result ≡ toleranz von bis due }
 {
-    let end = datum::days_before(bis);
-    if !in_window(at, datum::days_before(von), end) {
-        return None;
+    if in_window(due, von, bis) {
+        return berlin::berlin_midnight(bis);
     }
-    Some(berlin::berlin_midnight(end))
+    due
 }
 
 /// The tolerance in a year.
@@ -159,14 +185,20 @@ fn toleranz_in(year: u16, due: Moment) -> Moment
     ensures { result ≡ toleranz_in year due }
 {
     let on = |month: u8, day: u8| Date { year, month, day };
-    if let Some(end) = window_end(due, on(3, 31), on(4, 2)) {
-        return end;
-    }
-    window_end(due, on(9, 30), on(10, 2)).unwrap_or(due)
+    let spring = toleranz(
+        due,
+        datum::days_before(on(3, 31)),
+        datum::days_before(on(4, 2)),
+    );
+    toleranz(
+        spring,
+        datum::days_before(on(9, 30)),
+        datum::days_before(on(10, 2)),
+    )
 }
 
 /// 'Abweichungen von diesen Fristen sind von den Marktpartnern zu akzeptieren im Zeitraum der Formatumstellung': what
-/// is due in a window is due at its end. A window lies in one year.
+/// is due in one is due at its end. Each lies in one year.
 #[tactic(auto, using(datum::proofs::Dates::index_date), unfolding(crate::specs::Fristen::formatumstellung_toleranz))]
 fn formatumstellung_toleranz(due: Moment) -> Moment
     ensures { result ≡ formatumstellung_toleranz due }

@@ -1,10 +1,12 @@
-// Due instants: document 01, refusals 4, 5, 6 and 8.
+// Due instants: document 01, refusals 4, 5, 6 and 8; document 02, F-7, where a date is given, 3.
 ghost use Rattle.std.specs.Prelude.{◌≡◌};
 ghost use Rattle.werktag.specs.declared.HolidayCalendar.TheVariants.{BdewMaKo};
 ghost use Rattle.werktag.specs.Werktag.{is_werktag};
 ghost use Rattle.antwortsatz.specs.Bytes.{reply};
 ghost use Rattle.berlin.specs.Berlin.{read_instant, read_clock};
-ghost use Rattle.antworten_frist.specs.Frist.{contrl_due_at_answer, aperak_strom_due_at_answer};
+ghost use Rattle.antworten.specs.Reading.{date_from};
+ghost use Rattle.antworten_frist.specs.Frist.{contrl_due_at_answer, contrl_due_at_change_answer};
+ghost use Rattle.antworten_frist.specs.Frist.{aperak_strom_due_at_answer};
 ghost use Rattle.antworten_frist.specs.Frist.{aperak_strom_allgemein_due_at_answer};
 ghost use Rattle.antworten_frist.specs.Frist.{aperak_gas_folgeprozess_due_at_answer};
 ghost use Rattle.antworten_frist.specs.Frist.{aperak_gas_initialprozess_due_at_answer, aperak_gas_due_at_answer};
@@ -13,6 +15,7 @@ ghost use Rattle.antworten_frist.specs.Frist.{deadline_at_werktage_answer, end_o
 ghost use Rattle.antworten_frist.specs.Frist.{next_werktag_at_answer};
 ghost use Rattle.antworten_frist.specs.Frist.{nth_werktag_at_answer, frist_due_at_answer};
 
+use datum::Date;
 use werktag::HolidayCalendar;
 
 /// When a CONTRL is due: 6 hours after its receipt, 45 minutes for `GasAlocat`; `StromUtilmdOderOrders` 15 minutes, 6
@@ -27,6 +30,31 @@ pub fn mf_contrl_due_at(seconds: i64, nanos: u32, anlass: u8, answer: &mut [u8])
     antwortsatz::reply_with(
         answer,
         || antworten_frist::contrl_due_at_answer(instant, anlass),
+    )
+}
+
+/// When a CONTRL is due if the Formatumstellung is on another day than 1 April or 1 October: "the window runs from 18:00
+/// of the day before to 00:00 of the day after, and no other window exists in that call", and what is due in it is due
+/// at its end. With 6 June 2026, Regelfall received on the 5th 12:00:00 Berlin is due on the 7th 00:00, a second earlier
+/// 17:59:59. The change day goes before the instant's limits: 3 before 4. "8 also where the day before or after the
+/// change day leaves the calendar."
+pub fn mf_contrl_due_at_change(
+    seconds: i64,
+    nanos: u32,
+    anlass: u8,
+    year: u16,
+    month: u8,
+    day: u8,
+    answer: &mut [u8],
+) -> u8
+    ensures { (result, answer.new) ≡ reply answer.old
+        (contrl_due_at_change_answer (read_instant seconds nanos) anlass (date_from year month day)) }
+{
+    let instant = berlin::read_instant(seconds, nanos);
+    let stichtag = Date { year, month, day };
+    antwortsatz::reply_with(
+        answer,
+        || antworten_frist::contrl_due_at_change_answer(instant, anlass, stichtag),
     )
 }
 

@@ -18,8 +18,8 @@ pub use fragen::mf_questions;
 pub use frist::{
     mf_add_hours, mf_aperak_gas_due_at, mf_aperak_gas_folgeprozess_due_at,
     mf_aperak_gas_initialprozess_due_at, mf_aperak_strom_allgemein_due_at, mf_aperak_strom_due_at,
-    mf_contrl_due_at, mf_deadline_at_werktage, mf_end_of_werktag_after, mf_frist_due_at,
-    mf_next_werktag_at, mf_nth_werktag_at,
+    mf_contrl_due_at, mf_contrl_due_at_change, mf_deadline_at_werktage, mf_end_of_werktag_after,
+    mf_frist_due_at, mf_next_werktag_at, mf_nth_werktag_at,
 };
 pub use kalender::{
     mf_add_months, mf_add_werktage, mf_is_werktag, mf_next_werktag, mf_sub_werktage,

@@ -4,7 +4,9 @@ ghost use Rattle.werktag.specs.declared.HolidayCalendar.TheVariants.{BdewMaKo};
 ghost use Rattle.werktag.specs.Werktag.{is_werktag};
 ghost use Rattle.antwortsatz.specs.Bytes.{reply};
 ghost use Rattle.berlin.specs.Berlin.{read_instant, read_clock};
-ghost use Rattle.antworten_frist.specs.Frist.{contrl_due_at_answer, aperak_strom_due_at_answer};
+ghost use Rattle.antworten.specs.Reading.{date_from};
+ghost use Rattle.antworten_frist.specs.Frist.{contrl_due_at_answer, contrl_due_at_change_answer};
+ghost use Rattle.antworten_frist.specs.Frist.{aperak_strom_due_at_answer};
 ghost use Rattle.antworten_frist.specs.Frist.{aperak_strom_allgemein_due_at_answer};
 ghost use Rattle.antworten_frist.specs.Frist.{aperak_gas_folgeprozess_due_at_answer};
 ghost use Rattle.antworten_frist.specs.Frist.{aperak_gas_initialprozess_due_at_answer, aperak_gas_due_at_answer};
@@ -20,6 +22,23 @@ pub extern "C" fn mf_contrl_due_at(seconds: i64, nanos: u32, anlass: u8, answer:
         (contrl_due_at_answer (read_instant seconds nanos) anlass) }
 {
     mako_fristen::mf_contrl_due_at(seconds, nanos, anlass, answer)
+}
+
+/// [`mako_fristen::mf_contrl_due_at_change`] for C.
+#[unsafe(no_mangle)]
+pub extern "C" fn mf_contrl_due_at_change(
+    seconds: i64,
+    nanos: u32,
+    anlass: u8,
+    year: u16,
+    month: u8,
+    day: u8,
+    answer: &mut [u8],
+) -> u8
+    ensures { (result, answer.new) ≡ reply answer.old
+        (contrl_due_at_change_answer (read_instant seconds nanos) anlass (date_from year month day)) }
+{
+    mako_fristen::mf_contrl_due_at_change(seconds, nanos, anlass, year, month, day, answer)
 }
 
 /// [`mako_fristen::mf_aperak_strom_due_at`] for C.

@@ -161,6 +161,8 @@ fn ask(q: &[u8; QUESTION_BYTES], answer: &mut [u8]) -> Option<u8> {
         30 => mako_fristen::mf_eog_ankuendigung_fristgerecht(
             seconds, nanos, year, month, day, answer,
         ),
+        // Document 02.
+        31 => mako_fristen::mf_contrl_due_at_change(seconds, nanos, code, year, month, day, answer),
         _ => return None,
     };
     Some(number)
