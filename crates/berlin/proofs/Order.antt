@@ -2,11 +2,13 @@
 --   day_less day_more second_less second_more second_same   the order of two instants is that of the first part in
 --                        which
 --                                                           they differ
+--   full_second          where the later has no nanoseconds, it is that of the seconds
 -- Assumes nothing.
 use Prim.Native.Nat.{◌≤◌, ◌<◌}
 use mathlib.Core.Bool.{true, false}
-use mathlib.Core.Path.{◌≡◌}
+use mathlib.Core.Path.{◌≡◌, sym, ◌∙◌}
 use native.Mathlib.Omega.{arith}
+use native.Mathlib.Decide.{dec_lt}
 use lib.Dec.{ltb}
 use borrow.Author.Tests.{lt-ltb, le-ltb, eq-eqb, ne_eqb}
 use Rattle.berlin.specs.declared.Moment.{Moment}
@@ -25,6 +27,17 @@ module _ (a b : Moment) where
   same_second : seconds_of a ≡ seconds_of b → ltb a.nanos b.nanos ≡ is_before a b
   unfolding is_before
   same_second h = rw (le-ltb (seconds_of a) (seconds_of b) (omega arith), eq-eqb (seconds_of a) (seconds_of b) h)
+
+  pub full_second : b.nanos ≡ 0 → is_before a b ≡ ltb (seconds_of a) (seconds_of b)
+  full_second n =
+      elim (dec_lt (seconds_of a) (seconds_of b)) [
+        | yes y ↦ sym (earlier y) ∙ sym (lt-ltb (seconds_of a) (seconds_of b) y)
+        | no y ↦
+            sym (elim (dec_lt (seconds_of b) (seconds_of a)) [
+              | yes z ↦ not_earlier z
+              | no z ↦ sym (le-ltb a.nanos b.nanos (omega arith)) ∙ same_second (omega arith)
+            ]) ∙ sym (le-ltb (seconds_of a) (seconds_of b) (omega arith))
+      ]
 
   module _ (p : a.second < 86400) (q : b.second < 86400) where
     pub day_less : a.utcday < b.utcday → true ≡ is_before a b

@@ -6,12 +6,14 @@
 --   repeated     it is repeated exactly from 02:00 to before 03:00 of the last Sunday of October
 --   tiling       'Consecutive days tile the timeline without gap or overlap' (lib.rs); end_of_day 'the last moment of
 --                `date`'
+--   before_midnight  an instant is before a midnight exactly if the clock shows an earlier day; before_clock  and before
+--                a full second that is never absent or repeated exactly if it shows an earlier time
 --   switch_days  the clock changes on Sundays
 -- Assumes nothing.
 use Prim.Native.Nat.{ℕ, suc, ◌+◌, ◌-◌, ◌≤◌, ◌<◌}
 use mathlib.Core.Bool.{cond}
 use mathlib.Core.Logic.{◌↔◌}
-use mathlib.Core.Path.{◌≡◌, ap}
+use mathlib.Core.Path.{◌≡◌, ap, ◌∙◌}
 use native.Mathlib.Omega.{arith}
 use native.Mathlib.Decide.{dec_lt}
 use lib.Dec.{ltb}
@@ -21,15 +23,16 @@ use Rattle.zaehlung.specs.Walk.{last}
 use Rattle.datum.specs.Calendar.{date_of, weekday}
 use Rattle.berlin.specs.declared.Moment.{Moment}
 use Rattle.berlin.specs.declared.Clock.{Clock}
-use Rattle.berlin.specs.Berlin.{calendar_start, hours, day_start, seconds_of, first_second, last_second, last_sunday}
+use Rattle.berlin.specs.Berlin.{calendar_start, hours, day_start, seconds_of, is_before, first_second, last_second}
+use Rattle.berlin.specs.Berlin.{last_sunday}
 use Rattle.berlin.specs.Berlin.{berlin_clock, local_of, berlin_day, berlin_at, berlin_midnight, end_of_day_berlin}
 use Rattle.berlin.specs.Inside.{ProperClock}
 use Rattle.berlin.proofs.SummerTime.{sundays}
 use Rattle.berlin.proofs.LocalTime.{clock_from, clock_to, clock_first, clock_final}
 use Rattle.berlin.proofs.Found.{Earliest, Repeated, is_earliest, earliest_is, absent_none, none_absent}
 use Rattle.berlin.proofs.Found.{absent_when, when_absent, repeated_when, when_repeated}
-use Rattle.berlin.proofs.Proper.{end_earliest}
-use Rattle.berlin.proofs.Tiling.{midnight_begins, end_last}
+use Rattle.berlin.proofs.Proper.{midnight_earliest, end_earliest}
+use Rattle.berlin.proofs.Tiling.{comes_to, before_time, midnight_begins, end_last}
 
 pub limits : (s : ℕ) →
     ((first_second ≤ s) × (s ≤ last_second))
@@ -90,6 +93,20 @@ module _ (i s : ℕ) (h : i ≤ last) (from : first_second ≤ s) (to : s ≤ la
 
 pub end_in_day : (i : ℕ) → i ≤ last → berlin_day (seconds_of (end_of_day_berlin i)) ≡ i
 end_in_day i h = let e = end_earliest i h in omega (arith, e.shown)
+
+pub before_midnight :
+    (i : ℕ) (m : Moment) → i ≤ last → is_before m (berlin_midnight i) ≡ ltb (berlin_clock (seconds_of m)) (day_start i)
+before_midnight i m h =
+    before_time m (berlin_midnight i) (day_start i) (midnight_earliest i h).nanos (midnight_begins i h)
+
+pub before_clock :
+    (i : ℕ) (c : Clock) (m o : Moment) → i ≤ last → ProperClock c → c.nanos ≡ 0 →
+    (7200 ≤ c.second → c.second < 10800 → ⊥) → berlin_at i c ≡ Some o →
+    is_before m o ≡ ltb (berlin_clock (seconds_of m)) (day_start i + c.second)
+before_clock i c m o h u z n e =
+    let a = is_earliest i c h u o e in
+    before_time m o (day_start i + c.second) (a.nanos ∙ z)
+    (comes_to i c.second (seconds_of o) h u.second_lt n a.shown)
 
 pub switch_days : (y : ℕ) → 1996 ≤ y → (weekday (last_sunday y 3) ≡ 6) × (weekday (last_sunday y 10) ≡ 6)
 switch_days y h =

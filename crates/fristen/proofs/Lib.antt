@@ -1,3 +1,4 @@
 pub mod Rules
+pub mod Formatumstellung
 pub mod NeverAbsent
 pub mod OutsideValues

@@ -4,7 +4,7 @@
 --   switches_shut         on neither of the two days on which the clock changes is there a Werktag
 --   werktag_shown         so on a Werktag no local time is absent
 --   later_never           any instant that is counted in seconds
---   contrl_never          contrl_due_at
+--   contrl_never          contrl_due_at; change_never  contrl_due_at_change
 --   hours_never           add_hours
 --   strom_never           aperak_strom_due_at
 --   nth_never             nth_werktag_at, and with it next_werktag_at, aperak_strom_allgemein_due_at,
@@ -36,7 +36,8 @@ use Rattle.berlin.proofs.Proper.{day_le, not_absent}
 use Rattle.berlin.proofs.Zeit.{absent, switch_days}
 use Rattle.fristen.specs.declared.ContrlAnlass.{ContrlAnlass}
 use Rattle.fristen.specs.declared.FristShape.TheVariants.{WerktagAt, EndOfWerktag, SameDayAt, SameDay}
-use Rattle.fristen.specs.Fristen.{noon, receipt_day, instant_later, contrl_due_at, nth_werktag_at}
+use Rattle.fristen.specs.Fristen.{noon, receipt_day, instant_later, contrl_due_at, contrl_due_at_change}
+use Rattle.fristen.specs.Fristen.{nth_werktag_at}
 use Rattle.fristen.specs.Fristen.{end_of_werktag_after, add_hours, aperak_strom_due_at, aperak_gas_due_at}
 use Rattle.fristen.specs.FristShape.{same_day_at, due_at_of}
 use Rattle.std.specs.Prelude.{Some, None, Err}
@@ -66,6 +67,10 @@ later_never m t e = grind (arith, common_steps)
 pub contrl_never : (m : Moment) (a : ContrlAnlass) → contrl_due_at m a ≡ Err Absent → ⊥
 unfolding contrl_due_at
 contrl_never m a e = grind (arith, common_steps, later_never)
+
+pub change_never : (m : Moment) (a : ContrlAnlass) (d : ℕ) → contrl_due_at_change m a d ≡ Err Absent → ⊥
+unfolding contrl_due_at_change
+change_never m a d e = grind (arith, common_steps, later_never)
 
 pub hours_never : (m : Moment) (n : ℕ) → add_hours m n ≡ Err Absent → ⊥
 hours_never m n e = later_never m (n * 3600) e

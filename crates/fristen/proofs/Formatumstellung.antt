@@ -1,0 +1,330 @@
+-- The tolerance of the CONTRL: version one, `contrl_due_at`, with both windows of a year, and version two,
+-- `contrl_due_at_change`, with the one of a change day d. o is the due instant before the tolerance, y its year.
+--   Shown a b o        at o the Berlin clock shows 18:00 of the day a or later, and no time of the day b yet
+--   window_iff         that is when o lies in the window from a to b
+--   spring autumn      whether o lies in the window of 1 April, of 1 October
+--   apart              it lies in one at most
+--   by_spring by_autumn by_none    version one, in document 01's words
+--   change_refused     version two is refused exactly if the due instant is outside, or a day beside the change day
+--   moved stays        what is due in its window is due when that ends, and all else when it is
+--   on_change_day      so what is due on the change day is moved
+--   days_away          and what is due on another day stays, but for the evening before
+--   spring_agree autumn_agree    with change day 1 April of y both versions agree exactly if o is not in the autumn
+--                      window, with 1 October exactly if it is not in that of spring
+--   inside_spring inside_autumn    so they agree in the change day's window
+--   outside            in neither window both leave o as it is
+--   stays_in_autumn stays_in_spring    in the other window version two leaves it as it is
+-- Source: document 02, F-7: 'With change day 1 April or 1 October of the due instant's year, both versions agree
+-- wherever the due instant before tolerance lies inside that window'; document 01, 'Due at 31 March or 30 September
+-- 18:00:00 Berlin or later and before 2 April or 2 October 00:00 becomes that midnight.'
+-- Assumes nothing.
+use Prim.Native.Nat.{ℕ, suc, ◌+◌, ◌-◌, ◌≤◌, ◌<◌}
+use mathlib.Core.Bool.{Bool, true, false, not, ◌&&◌}
+use mathlib.Core.Logic.{◌↔◌, ◌⊎◌, inl, inr}
+use mathlib.Core.Path.{◌≡◌, refl, sym, ap, ◌∙◌}
+use native.Mathlib.Omega.{arith}
+use native.Mathlib.Decide.{dec_le, dec_lt}
+use lib.Dec.{ltb}
+use borrow.Author.Tests.{lt-ltb, le-ltb}
+use Rattle.std.specs.Prelude.{Option, Some, None, Result, Ok, Err}
+use Rattle.std.proofs.lemmas.Grind.{common_steps}
+use Rattle.zaehlung.specs.Walk.{bit, last, day_after}
+use Rattle.zaehlung.specs.Blocks.{start}
+use Rattle.datum.specs.Calendar.{is_leap, days_in_month, month_start, date_of}
+use Rattle.datum.proofs.Dates.{valid_is, index_below, index_date}
+use Rattle.berlin.specs.declared.Moment.{Moment}
+use Rattle.berlin.specs.Berlin.{hours, day_start, moment_of, seconds_of, is_before, in_limits, berlin_clock}
+use Rattle.berlin.specs.Berlin.{berlin_date, berlin_at, on_resolved, berlin_midnight}
+use Rattle.berlin.specs.Inside.{Proper}
+use Rattle.berlin.proofs.SummerTime.{start_3, start_10}
+use Rattle.berlin.proofs.LocalTime.{clock_from, clock_to}
+use Rattle.berlin.proofs.Proper.{proper_clock, limits_hold, never_absent, midnight_earliest, day_le}
+use Rattle.berlin.proofs.Zeit.{before_midnight, before_clock}
+use Rattle.fristen.specs.declared.ContrlAnlass.{ContrlAnlass}
+use Rattle.fristen.specs.declared.NoDue.{NoDue}
+use Rattle.fristen.specs.declared.NoDue.TheVariants.{Outside}
+use Rattle.fristen.specs.Fristen.{window_opens, receipt_day, contrl_seconds, before_tolerance, instant_later}
+use Rattle.fristen.specs.Fristen.{day_on, in_window, toleranz, toleranz_in, formatumstellung_toleranz}
+use Rattle.fristen.specs.Fristen.{tolerated_due, contrl_due_at, contrl_due_at_change}
+use Rattle.fristen.proofs.Rules.{october_2}
+
+abbrev pub Shown : ℕ → ℕ → Moment → Type 0
+Shown a b o = (day_start a + hours 18 ≤ berlin_clock (seconds_of o)) × (berlin_clock (seconds_of o) < day_start b)
+
+module _ (a b : ℕ) (h : a ≤ last) (k : b ≤ last) (o : Moment) where
+  abbrev t : ℕ
+  t = berlin_clock (seconds_of o)
+
+  -- 18:00 is never absent
+  opened :
+      (r : Option Moment) → berlin_at a window_opens ≡ r →
+      on_resolved false r (λ v. not (is_before o v)) ≡ not (ltb t (day_start a + 64800))
+  opened (Some v) e =
+      ap not (before_clock a window_opens o v h (proper_clock _ (omega arith) (omega arith)) refl (λ x y. omega arith) e)
+  opened None e =
+      absurd (never_absent a window_opens None h (proper_clock _ (omega arith) (omega arith)) (omega arith) (sym e) refl)
+
+  by_clock : in_window a b o ≡ (not (ltb t (day_start a + 64800)) && ltb t (day_start b))
+  unfolding in_window
+  by_clock = rw (opened (berlin_at a window_opens) refl, before_midnight b o k)
+
+  shown_inside : Shown a b o → in_window a b o ≡ true
+  shown_inside s = by_clock ∙ rw (le-ltb t (day_start a + 64800) s.0, lt-ltb t (day_start b) s.1) refl
+
+  not_shown : (Shown a b o → ⊥) → in_window a b o ≡ false
+  not_shown n =
+      by_clock
+      ∙ elim (dec_lt t (day_start a + 64800)) [
+        | yes y ↦ rw (lt-ltb t (day_start a + 64800) y) refl
+        | no y ↦
+            elim (dec_lt t (day_start b)) [
+              | yes z ↦ absurd (n (omega arith, z))
+              | no z ↦ rw (le-ltb t (day_start a + 64800) (omega arith), le-ltb t (day_start b) (omega arith)) refl
+            ]
+      ]
+
+  inside_shown : in_window a b o ≡ true → Shown a b o
+  inside_shown e =
+      elim (dec_lt t (day_start a + 64800)) [
+        | yes y ↦ absurd (cc (e, not_shown (λ s. omega arith)))
+        | no y ↦
+            elim (dec_lt t (day_start b)) [
+              | yes z ↦ (omega arith, z)
+              | no z ↦ absurd (cc (e, not_shown (λ s. omega arith)))
+            ]
+      ]
+
+  pub window_iff : (in_window a b o ≡ true) ↔ Shown a b o
+  window_iff = (inside_shown, shown_inside)
+
+abbrev pub spring : ℕ → Moment → Bool
+spring y o = in_window (day_on y 3 31) (day_on y 4 2) o
+
+abbrev pub autumn : ℕ → Moment → Bool
+autumn y o = in_window (day_on y 9 30) (day_on y 10 2) o
+
+-- the days before a month
+start_4 : (l : Bool) → month_start l 4 ≡ 90 + bit l
+unfolding start days_in_month
+start_4 true = refl
+start_4 false = refl
+
+start_9 : (l : Bool) → month_start l 9 ≡ 243 + bit l
+unfolding start days_in_month
+start_9 true = refl
+start_9 false = refl
+
+-- the days of both windows, side by side, spring's before autumn's
+record Days (y : ℕ) : Type 0 where
+  first : 1 ≤ day_on y 4 1
+  march : day_on y 4 1 ≡ suc (day_on y 3 31)
+  april : day_on y 4 2 ≡ suc (day_on y 4 1)
+  between : day_on y 4 2 ≤ day_on y 9 30
+  september : day_on y 10 1 ≡ suc (day_on y 9 30)
+  october : day_on y 10 2 ≡ suc (day_on y 10 1)
+  final : day_on y 10 2 ≤ last
+
+days : (y : ℕ) → 1996 ≤ y → y ≤ 2899 → Days y
+days y h k =
+    let c = start_3 (is_leap y) in
+    let d = start_4 (is_leap y) in
+    let i = start_9 (is_leap y) in
+    let j = start_10 (is_leap y) in
+    record {
+      first = omega arith;
+      march = omega arith;
+      april = omega arith;
+      between = omega arith;
+      september = omega arith;
+      october = omega arith;
+      final = index_below _ (valid_is _ (october_2 y h k));
+    }
+
+module _ (y : ℕ) (h : 1996 ≤ y) (k : y ≤ 2899) (o : Moment) where
+  pub apart : spring y o ≡ true → autumn y o ≡ true → ⊥
+  apart e f =
+      let g = days y h k in
+      let a = inside_shown (day_on y 3 31) (day_on y 4 2) (omega (arith, g)) (omega (arith, g)) o e in
+      let b = inside_shown (day_on y 9 30) (day_on y 10 2) (omega (arith, g)) g.final o f in
+      omega (arith, g, a.1, b.0)
+
+  -- 2 April 00:00 lies in no autumn window
+  spring_ends : autumn y (berlin_midnight (day_on y 4 2)) ≡ false
+  spring_ends =
+      let g = days y h k in
+      let e = midnight_earliest (day_on y 4 2) (omega (arith, g)) in
+      not_shown (day_on y 9 30) (day_on y 10 2) (omega (arith, g)) g.final (berlin_midnight (day_on y 4 2))
+      (λ s. omega (arith, g, s.0, e.shown))
+
+  pub by_spring : spring y o ≡ true → toleranz_in y o ≡ berlin_midnight (day_on y 4 2)
+  unfolding toleranz_in
+  by_spring e = rw (e, spring_ends)
+
+  pub by_autumn : autumn y o ≡ true → toleranz_in y o ≡ berlin_midnight (day_on y 10 2)
+  unfolding toleranz_in
+  by_autumn e = grind (arith, common_steps, apart)
+
+  pub by_none : spring y o ≡ false → autumn y o ≡ false → toleranz_in y o ≡ o
+  unfolding toleranz_in
+  by_none e f = rw (e, f)
+
+module _ (m : Moment) (a : ContrlAnlass) (d : ℕ) where
+  by_change :
+      1 ≤ d → d < last → contrl_due_at_change m a d ≡ tolerated_due (toleranz (d - 1) (suc d)) (before_tolerance m a)
+  unfolding contrl_due_at_change day_after
+  by_change h k = grind (arith, common_steps, lt-ltb d last k)
+
+  no_change : (d ≡ 0) ⊎ (last ≤ d) → contrl_due_at_change m a d ≡ Err Outside
+  unfolding contrl_due_at_change day_after
+  no_change (inl e) = rw e
+  no_change (inr h) = grind (arith, common_steps, le-ltb d last h)
+
+  not_due :
+      (t : Moment → Moment) → tolerated_due t (before_tolerance m a) ≡ Err Outside → before_tolerance m a ≡ Err Outside
+  not_due t e = grind (arith, common_steps)
+
+  refused_when :
+      contrl_due_at_change m a d ≡ Err Outside → (before_tolerance m a ≡ Err Outside) ⊎ ((d ≡ 0) ⊎ (last ≤ d))
+  refused_when e =
+      elim (dec_le 1 d) [
+        | no x ↦ inr (inl (omega arith))
+        | yes x ↦
+            elim (dec_lt d last) [
+              | no z ↦ inr (inr (omega arith))
+              | yes z ↦ inl (not_due (toleranz (d - 1) (suc d)) (sym (by_change x z) ∙ e))
+            ]
+      ]
+
+  when_refused :
+      (before_tolerance m a ≡ Err Outside) ⊎ ((d ≡ 0) ⊎ (last ≤ d)) → contrl_due_at_change m a d ≡ Err Outside
+  when_refused (inr f) = no_change f
+  when_refused (inl e) =
+      elim (dec_le 1 d) [
+        | no x ↦ no_change (inl (omega arith))
+        | yes x ↦
+            elim (dec_lt d last) [
+              | no z ↦ no_change (inr (omega arith))
+              | yes z ↦ by_change x z ∙ rw e refl
+            ]
+      ]
+
+  pub change_refused :
+      (contrl_due_at_change m a d ≡ Err Outside) ↔ ((before_tolerance m a ≡ Err Outside) ⊎ ((d ≡ 0) ⊎ (last ≤ d)))
+  change_refused = (refused_when, when_refused)
+
+by_test : {P : Type 0} (b : Bool) → (b ≡ true → P) → (b ≡ false → P) → P
+by_test true f g = f refl
+by_test false f g = g refl
+
+-- o is the due instant before the tolerance
+module _ (m : Moment) (p : Proper m) (a : ContrlAnlass) (o : Moment) (e : before_tolerance m a ≡ Ok o) where
+  later_inside : (n : ℕ) → instant_later m n ≡ Ok o → Proper o
+  unfolding instant_later
+  later_inside n q =
+      let f : in_limits (seconds_of m + n) ≡ true = grind (arith, common_steps) in
+      let g : moment_of (seconds_of m + n) m.nanos ≡ o = grind (arith, common_steps) in
+      let l = limits_hold (seconds_of m + n) f in
+      rw (sym g)
+      (record {
+        second_lt = omega arith;
+        nanos_le = p.nanos_le;
+        from = omega (arith, l.0);
+        to = omega (arith, l.1);
+      })
+
+  inside : Proper o
+  inside = later_inside (contrl_seconds (receipt_day m) a) e
+
+  clock_inside : (day_start 0 ≤ berlin_clock (seconds_of o)) × (berlin_clock (seconds_of o) < day_start 330180)
+  clock_inside = (clock_from (seconds_of o) inside.from, clock_to (seconds_of o) inside.from inside.to)
+
+  module _ (d : ℕ) (h : 1 ≤ d) (k : d < last) where
+    pub moved : Shown (d - 1) (suc d) o → contrl_due_at_change m a d ≡ Ok (berlin_midnight (suc d))
+    moved s = by_change m a d h k ∙ rw (e, shown_inside (d - 1) (suc d) (omega arith) k o s) refl
+
+    pub stays : (Shown (d - 1) (suc d) o → ⊥) → contrl_due_at_change m a d ≡ Ok o
+    stays n = by_change m a d h k ∙ rw (e, not_shown (d - 1) (suc d) (omega arith) k o n) refl
+
+    pub on_change_day : berlin_date o ≡ d → contrl_due_at_change m a d ≡ Ok (berlin_midnight (suc d))
+    on_change_day q = let c = clock_inside in moved (omega arith, omega arith)
+
+    pub days_away : (suc (berlin_date o) < d) ⊎ (d < berlin_date o) → contrl_due_at_change m a d ≡ Ok o
+    days_away (inl q) = let c = clock_inside in stays (λ s. omega (arith, s.0))
+    days_away (inr q) = let c = clock_inside in stays (λ s. omega (arith, s.1))
+
+  abbrev y : ℕ
+  y = (date_of (berlin_date o)).year
+
+  from : 1996 ≤ y
+  from = (index_date (berlin_date o) (day_le o inside)).0.from
+
+  to : y ≤ 2899
+  to = (index_date (berlin_date o) (day_le o inside)).0.to
+
+  version_one : contrl_due_at m a ≡ Ok (toleranz_in y o)
+  unfolding contrl_due_at formatumstellung_toleranz
+  version_one = rw e refl
+
+  by_april : contrl_due_at_change m a (day_on y 4 1) ≡ Ok (toleranz (day_on y 3 31) (day_on y 4 2) o)
+  by_april =
+      let g = days y from to in
+      let v : day_on y 4 1 - 1 ≡ day_on y 3 31 = omega (arith, g) in
+      by_change m a (day_on y 4 1) g.first (omega (arith, g)) ∙ rw (e, v, sym g.april) refl
+
+  by_october : contrl_due_at_change m a (day_on y 10 1) ≡ Ok (toleranz (day_on y 9 30) (day_on y 10 2) o)
+  by_october =
+      let g = days y from to in
+      let v : day_on y 10 1 - 1 ≡ day_on y 9 30 = omega (arith, g) in
+      by_change m a (day_on y 10 1) (omega (arith, g)) (omega (arith, g)) ∙ rw (e, v, sym g.october) refl
+
+  pub stays_in_autumn : autumn y o ≡ true → contrl_due_at_change m a (day_on y 4 1) ≡ Ok o
+  stays_in_autumn q = by_april ∙ by_test (spring y o) (λ s. absurd (apart y from to o s q)) (λ s. rw s refl)
+
+  pub stays_in_spring : spring y o ≡ true → contrl_due_at_change m a (day_on y 10 1) ≡ Ok o
+  stays_in_spring q = by_october ∙ by_test (autumn y o) (λ s. absurd (apart y from to o q s)) (λ s. rw s refl)
+
+  -- no instant of a window is its end
+  not_the_end :
+      (b c : ℕ) (r : Result Moment NoDue) → b ≤ last → c ≤ last → in_window b c o ≡ true → r ≡ Ok o →
+      r ≡ Ok (berlin_midnight c) → ⊥
+  not_the_end b c r h k q f g =
+      let s = inside_shown b c h k o q in
+      let v = midnight_earliest c k in
+      let z : o ≡ berlin_midnight c = cc in
+      omega (arith, s.1, v.shown, ap (λ (x : Moment). berlin_clock (seconds_of x)) z)
+
+  pub spring_agree : (contrl_due_at_change m a (day_on y 4 1) ≡ contrl_due_at m a) ↔ (autumn y o ≡ false)
+  spring_agree = (
+    λ r. by_test (autumn y o)
+        (λ q.
+        absurd (not_the_end (day_on y 9 30) (day_on y 10 2) (contrl_due_at m a) (omega (arith, days y from to))
+        (days y from to).final q (sym r ∙ stays_in_autumn q) (version_one ∙ ap Ok (by_autumn y from to o q))))
+        (λ q. q),
+    λ q. by_april ∙ by_test (spring y o)
+        (λ s. rw s (sym (version_one ∙ ap Ok (by_spring y from to o s))))
+        (λ s. rw s (sym (version_one ∙ ap Ok (by_none y from to o s q)))),
+  )
+
+  pub autumn_agree : (contrl_due_at_change m a (day_on y 10 1) ≡ contrl_due_at m a) ↔ (spring y o ≡ false)
+  autumn_agree = (
+    λ r. by_test (spring y o)
+        (λ q.
+        absurd (not_the_end (day_on y 3 31) (day_on y 4 2) (contrl_due_at m a) (omega (arith, days y from to))
+        (omega (arith, days y from to)) q (sym r ∙ stays_in_spring q) (version_one ∙ ap Ok (by_spring y from to o q))))
+        (λ q. q),
+    λ q. by_october ∙ by_test (autumn y o)
+        (λ s. rw s (sym (version_one ∙ ap Ok (by_autumn y from to o s))))
+        (λ s. rw s (sym (version_one ∙ ap Ok (by_none y from to o q s)))),
+  )
+
+  pub inside_spring : spring y o ≡ true → contrl_due_at_change m a (day_on y 4 1) ≡ contrl_due_at m a
+  inside_spring q = spring_agree.1 (by_test (autumn y o) (λ s. absurd (apart y from to o q s)) (λ s. s))
+
+  pub inside_autumn : autumn y o ≡ true → contrl_due_at_change m a (day_on y 10 1) ≡ contrl_due_at m a
+  inside_autumn q = autumn_agree.1 (by_test (spring y o) (λ s. absurd (apart y from to o s q)) (λ s. s))
+
+  pub outside :
+      spring y o ≡ false → autumn y o ≡ false →
+      (contrl_due_at_change m a (day_on y 4 1) ≡ Ok o) × (contrl_due_at_change m a (day_on y 10 1) ≡ Ok o)
+      × (contrl_due_at m a ≡ Ok o)
+  outside q r = (by_april ∙ rw q refl, by_october ∙ rw r refl, version_one ∙ ap Ok (by_none y from to o q r))
