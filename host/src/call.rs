@@ -145,6 +145,7 @@ calls! {
     AbmeldungFuer mf_abmeldung_fuer(Reason, Eeg) -> AbmeldungVorlauf;
     AbmeldungCheck mf_abmeldung_check(Reason, Eeg, Date, SecondDate) -> AbmeldungVerdict;
     EogAnkuendigungFristgerecht mf_eog_ankuendigung_fristgerecht(Instant, Date) -> Ankuendigung;
+    ContrlDueAtChange mf_contrl_due_at_change(Instant, Anlass, Date) -> Instant;
 }
 
 impl Call {

@@ -449,7 +449,10 @@ fn arguments(question: &Question) -> String {
             Parameter::Eeg => "--eeg ja".to_owned(),
             Parameter::Reason => "ZT0".to_owned(),
             // It stands before the instant here.
-            Parameter::Anlass => return format!("contrl StromUtilmdOderOrders {}", words[1]),
+            Parameter::Anlass => {
+                words.insert(1, "StromUtilmdOderOrders".to_owned());
+                continue;
+            }
         };
         words.push(word);
     }

@@ -1,7 +1,7 @@
 use crate::command::{Command, Task};
 use mako_fristen_host::{Call, Parameter};
 
-pub const COMMANDS: [Command; 12] = [
+pub const COMMANDS: [Command; 13] = [
     Command {
         name: "contrl",
         task: Task::Ask(Call::ContrlDueAt),
@@ -14,6 +14,23 @@ pub const COMMANDS: [Command; 12] = [
         example: "contrl Regelfall 2026-03-31T11:59:59+02:00",
         output: "Eingang am Dienstag, 31. März 2026, um 11:59:59 Uhr: Die CONTRL im Regelfall ist \
                  fällig am Dienstag, 31. März 2026, um 17:59:59 Uhr (contrl-delivery-window).",
+    },
+    Command {
+        name: "contrl-due-at-change",
+        task: Task::Ask(Call::ContrlDueAtChange),
+        operands: &[
+            (Parameter::Anlass, "ANLASS"),
+            (Parameter::Instant, "EINGANG"),
+            (Parameter::Date, "STICHTAG"),
+        ],
+        summary: "wann die CONTRL bei verlegter Formatumstellung fällig ist",
+        meaning: "Wie contrl, aber mit dem STICHTAG der Formatumstellung: Was vom Vortag 18:00 Uhr an\n\
+                  fällig wäre und vor 00:00 Uhr des Folgetags, ist es dann. Einen anderen Zeitraum\n\
+                  gibt es dabei nicht, auch nicht um den 1. April oder den 1. Oktober.",
+        example: "contrl-due-at-change Regelfall 2026-06-05T12:00:00+02:00 2026-06-06",
+        output: "Eingang am Freitag, 5. Juni 2026, um 12:00 Uhr: Die CONTRL im Regelfall ist fällig \
+                 am Sonntag, 7. Juni 2026, um 00:00 Uhr (contrl-delivery-window).\n\
+                 Stichtag der Formatumstellung ist Samstag, der 6. Juni 2026.",
     },
     Command {
         name: "aperak-strom",

@@ -1,4 +1,4 @@
-use crate::deutsch::{am, faellig, stunden, zeitpunkt};
+use crate::deutsch::{am, der, faellig, stunden, zeitpunkt};
 use crate::inquiry::Inquiry;
 use crate::labels;
 use mako_fristen_host::{
@@ -39,14 +39,23 @@ fn corner(shape: FristShape, received: BerlinTime, due: BerlinTime) -> Result<&'
 }
 
 pub fn contrl(inquiry: &Inquiry, due: Instant) -> Result<String, Error> {
+    let end = umstellung(BerlinTime::of(due)?);
+    Ok(contrl_due(inquiry, due)? + end)
+}
+
+pub fn contrl_change(inquiry: &Inquiry, due: Instant) -> Result<String, Error> {
+    let stichtag = der(inquiry.question.date);
+    Ok(format!("{}\nStichtag der Formatumstellung ist {stichtag}.", contrl_due(inquiry, due)?))
+}
+
+fn contrl_due(inquiry: &Inquiry, due: Instant) -> Result<String, Error> {
     let anlass = ContrlAnlass::of_code(inquiry.question.code).ok_or(Refusal::UnknownCode)?;
     let message = match anlass {
         ContrlAnlass::Regelfall => "Die CONTRL im Regelfall",
         ContrlAnlass::StromUtilmdOderOrders => "Die CONTRL auf UTILMD oder ORDERS Strom",
         ContrlAnlass::GasAlocat => "Die CONTRL auf ALOCAT Gas",
     };
-    let end = umstellung(BerlinTime::of(due)?);
-    Ok(message_due(inquiry, message, due, labels::of(inquiry.call))? + end)
+    message_due(inquiry, message, due, labels::of(inquiry.call))
 }
 
 /// The midnight at which the tolerance of a Formatumstellung ends, moved there or not.
