@@ -135,7 +135,7 @@ calls! {
         year: u16, month: u8, day: u8, year2: u16, month2: u8, day2: u8
     );
     mf_eog_ankuendigung_fristgerecht(seconds: i64, nanos: u32, year: u16, month: u8, day: u8);
-    mf_contrl_due_at_change(seconds: i64, nanos: u32, anlass: u8, year: u16, month: u8, day: u8);
     mf_questions(&questions: u8);
     mf_portfolio(&from: u32, &to: u32, *counts: u32);
+    mf_contrl_due_at_change(seconds: i64, nanos: u32, anlass: u8, year: u16, month: u8, day: u8);
 }
