@@ -504,6 +504,20 @@ pub const JSON: &[(&str, &str)] = &[
         ),
     ),
     (
+        "contrl Regelfall 2026-06-06T16:00:00Z --stichtag=2026-06-06 --json",
+        concat!(
+            r#"{"call":"mf_contrl_due_at_change","arguments":["Regelfall","#,
+            r#""2026-06-06T16:00:00Z","--stichtag=2026-06-06"],"refusal":null,"#,
+            r#""instant":{"seconds":1780783200,"nanos":0,"utc":"2026-06-06T22:00:00Z","#,
+            r#""berlin":"2026-06-07T00:00:00+02:00"},"label":"contrl-delivery-window","#,
+            r#""moved":false,"due_before_tolerance":{"seconds":1780783200,"nanos":0,"#,
+            r#""utc":"2026-06-06T22:00:00Z","berlin":"2026-06-07T00:00:00+02:00"},"#,
+            r#""window":{"from":{"seconds":1780675200,"nanos":0,"utc":"2026-06-05T16:00:00Z","#,
+            r#""berlin":"2026-06-05T18:00:00+02:00"},"to":{"seconds":1780783200,"nanos":0,"#,
+            r#""utc":"2026-06-06T22:00:00Z","berlin":"2026-06-07T00:00:00+02:00"}}}"#,
+        ),
+    ),
+    (
         "contrl-due-at-change GasAlocat 2026-03-28T16:14:59Z 2026-03-29 --json",
         concat!(
             r#"{"call":"mf_contrl_due_at_change","arguments":["GasAlocat","#,
