@@ -14,7 +14,8 @@ use crate::{
 /// of document 02, whose day test gives 1 for a Werktag and 0 for every other day, would be read the
 /// wrong way round; here it is found, and so is one from before F-3, whose counts do not say how
 /// many days they tested, and one from before F-6, whose verdicts have no margin. (One from before F-5
-/// has no `mf_portfolio`: no program is linked with it.) It takes some microseconds.
+/// has no `mf_portfolio`, one from before F-7 no `mf_contrl_due_at_change`: no program is linked with
+/// it.) It takes some microseconds.
 ///
 /// ```
 /// assert_eq!(mako_fristen_host::check_archive(), Ok(()));

@@ -1,5 +1,5 @@
-//! The host calls by name, parameters and content. A new call is a new row of `calls!`, with the
-//! parameters that docs/host-calls.md gives; its number is its place there. Neither [`Call`] nor
+//! The host calls by name, parameters and content. A new call is a new row of `calls!`, the last one,
+//! with the parameters that docs/host-calls.md gives; its number is its place. Neither [`Call`] nor
 //! [`Parameter`] nor [`Content`] is `non_exhaustive`: whoever goes through all calls is to be stopped
 //! by a new one.
 //!
@@ -145,10 +145,12 @@ calls! {
     AbmeldungFuer mf_abmeldung_fuer(Reason, Eeg) -> AbmeldungVorlauf;
     AbmeldungCheck mf_abmeldung_check(Reason, Eeg, Date, SecondDate) -> AbmeldungVerdict;
     EogAnkuendigungFristgerecht mf_eog_ankuendigung_fristgerecht(Instant, Date) -> Ankuendigung;
+    ContrlDueAtChange mf_contrl_due_at_change(Instant, Anlass, Date) -> Instant;
 }
 
 impl Call {
-    /// Its place in docs/host-calls.md, from 0: `mf_add_werktage` has 2.
+    /// Its place among the calls, from 0: `mf_add_werktage` has 2. It stays, so that what is stored can
+    /// be read; a new call comes behind all others.
     #[must_use]
     pub const fn number(self) -> u8 {
         self as u8

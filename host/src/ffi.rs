@@ -137,4 +137,5 @@ calls! {
     mf_eog_ankuendigung_fristgerecht(seconds: i64, nanos: u32, year: u16, month: u8, day: u8);
     mf_questions(&questions: u8);
     mf_portfolio(&from: u32, &to: u32, *counts: u32);
+    mf_contrl_due_at_change(seconds: i64, nanos: u32, anlass: u8, year: u16, month: u8, day: u8);
 }

@@ -4,10 +4,10 @@
 
 #[cfg(doc)]
 use crate::Refusal;
-use crate::{Call, Clock, ContrlAnlass, Error, GasDue, Instant, Question};
+use crate::{Call, Clock, ContrlAnlass, Date, Error, GasDue, Instant, Question};
 
 /// The label under which the original registers the due instant of [`contrl_due_at`], whatever the
-/// Anlass.
+/// Anlass. [`contrl_due_at_change`] is the same Frist.
 pub const CONTRL_FRIST_LABEL: &str = "contrl-delivery-window";
 
 /// The original's label of [`aperak_strom_due_at`], also for a receipt on a Saturday.
@@ -40,6 +40,42 @@ pub fn contrl_due_at(received: Instant, anlass: ContrlAnlass) -> Result<Instant,
 
 pub(crate) fn contrl_question(received: Instant, anlass: ContrlAnlass) -> Question {
     Question::at(Call::ContrlDueAt, received).with_code(anlass.code())
+}
+
+/// The same with the change day of the Formatumstellung, which is sometimes put off (document 02,
+/// F-7): what would be due from 18:00 of the day before on and before 00:00 of the day after is due
+/// at that midnight. There is no other window, about 1 April or 1 October neither, unless that is the
+/// change day.
+///
+/// ```
+/// use mako_fristen_host::{
+///     berlin_at, berlin_midnight, contrl_due_at_change, Clock, ContrlAnlass, Date,
+/// };
+///
+/// // Put off from 1 April.
+/// let change_day = Date::new(2026, 6, 6);
+/// let due = |received| contrl_due_at_change(received, ContrlAnlass::Regelfall, change_day);
+/// let day_before = |hour, minute, second| {
+///     berlin_at(Date::new(2026, 6, 5), Clock::new(hour, minute, second, 0))
+/// };
+/// assert_eq!(due(day_before(11, 59, 59)?), day_before(17, 59, 59));
+/// assert_eq!(due(day_before(12, 0, 0)?), berlin_midnight(Date::new(2026, 6, 7)));
+/// let last_of_march = |hour| berlin_at(Date::new(2026, 3, 31), Clock::new(hour, 0, 0, 0));
+/// assert_eq!(due(last_of_march(12)?), last_of_march(18), "no window of that call");
+/// # Ok::<(), mako_fristen_host::Error>(())
+/// ```
+///
+/// # Errors
+///
+/// [`Refusal::NoDate`], [`Refusal::InstantOutside`], [`Refusal::LeavesCalendar`]; the last one also
+/// for a change day whose day before or after leaves the calendar, whatever the due instant is.
+pub fn contrl_due_at_change(
+    received: Instant,
+    anlass: ContrlAnlass,
+    change_day: Date,
+) -> Result<Instant, Error> {
+    let question = Question::at(Call::ContrlDueAtChange, received).with_code(anlass.code());
+    Question { date: change_day, ..question }.content()
 }
 
 /// The APERAK on a Strom UTILMD or ORDERS: 45 minutes; Sunday 12:00 if received on a Saturday.

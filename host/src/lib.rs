@@ -12,6 +12,7 @@
 //! | *And in a Sparte? Which day begins then?* | [`tagesbeginn_utc`], [`tag_des_beginns`] |
 //! | *Which day is it in Berlin?* | [`berlin_date`] |
 //! | *When is a CONTRL due?* | [`contrl_due_at`] |
+//! | *And with a change day that is put off?* | [`contrl_due_at_change`] |
 //! | *When is an APERAK due, of Strom?* | [`aperak_strom_due_at`], [`aperak_strom_allgemein_due_at`] |
 //! | *And of Gas, by the Prüfidentifikator?* | [`aperak_gas_due_at`] |
 //! | *And by the process?* | [`aperak_gas_folgeprozess_due_at`], [`aperak_gas_initialprozess_due_at`] |
@@ -160,9 +161,9 @@ pub use fragesatz::Fragesatz;
 pub use frist_shape::FristShape;
 pub use fristen::{
     add_hours, aperak_gas_due_at, aperak_gas_folgeprozess_due_at, aperak_gas_initialprozess_due_at,
-    aperak_strom_allgemein_due_at, aperak_strom_due_at, contrl_due_at, deadline_at_werktage,
-    end_of_werktag_after, next_werktag_at, nth_werktag_at, APERAK_STROM_ALLGEMEIN_LABEL,
-    APERAK_STROM_WINDOW_LABEL, CONTRL_FRIST_LABEL,
+    aperak_strom_allgemein_due_at, aperak_strom_due_at, contrl_due_at, contrl_due_at_change,
+    deadline_at_werktage, end_of_werktag_after, next_werktag_at, nth_werktag_at,
+    APERAK_STROM_ALLGEMEIN_LABEL, APERAK_STROM_WINDOW_LABEL, CONTRL_FRIST_LABEL,
 };
 pub use gas::{GasDue, GasProzess};
 pub use instant::{Instant, InstantError};

@@ -151,6 +151,7 @@ fn refusal_2_from_one_past_the_last_code() {
         (Call::VorlaufSpan, 8),
         (Call::AbmeldungFuer, 3),
         (Call::AbmeldungCheck, 3),
+        (Call::ContrlDueAtChange, 3),
     ];
     let knowing = |call: Call| Some((call, call.codes()?));
     assert_eq!(Call::ALL.into_iter().filter_map(knowing).collect::<Vec<_>>(), codes);

@@ -153,6 +153,10 @@ fn by_case(q: &Question) -> Result<Option<Answer>, Error> {
         Call::TagesbeginnUtc => timed(tagesbeginn_utc(q.date, case(&Sparte::ALL, q.code)?)?),
         Call::TagDesBeginns => dated(tag_des_beginns(q.instant, case(&Sparte::ALL, q.code)?)?),
         Call::ContrlDueAt => timed(contrl_due_at(q.instant, case(&ContrlAnlass::ALL, q.code)?)?),
+        Call::ContrlDueAtChange => {
+            let anlass = case(&ContrlAnlass::ALL, q.code)?;
+            timed(contrl_due_at_change(q.instant, anlass, q.date)?)
+        }
         Call::FristDueAt => timed(frist_shape(q)?.due_at(q.instant)?),
         Call::VorlaufCheck => judged(vorlauf_shape(q)?.check(q.date, q.date2)?),
         Call::VorlaufCheckAt => {

@@ -13,7 +13,9 @@ mod zeilen;
 use mako_fristen_host::{
     ffi, Answer, Call, Clock, Date, DayReason, Instant, Parameter, Question, Reason,
 };
-use saetze::{CASES, DAYS, DUE, JSON, LABELS, MARGINS, SPANS, VERDICTS, VERDICTS_JSON};
+use saetze::{
+    CASES, CHANGE_DAYS, DAYS, DUE, JSON, LABELS, MARGINS, SPANS, VERDICTS, VERDICTS_JSON,
+};
 use std::ffi::{OsStr, OsString};
 use std::fs;
 use std::path::Path;
@@ -74,15 +76,17 @@ fn the_examples_of_the_help_print_what_it_says() {
         let help = printed(&["help", &name], 0);
         assert_eq!(help, printed(&[&name, "--help"], 0), "{name}");
         assert_eq!(help, printed(&["-h", &name], 0), "{name}");
-        let (before, example) = help.split_once("\n  $ ./fristen ").expect("an example");
-        let (call, expected) = example.split_once('\n').expect("its output");
+        let (before, examples) = help.split_once("\n  $ ./fristen ").expect("an example");
         if let Some((_, file)) = before.split_once("\n  $ cat ") {
             let (file, content) = file.split_once('\n').expect("its content");
             fs::write(folder.join(file), unindented(content)).expect("it is written");
         }
-        let output = program().current_dir(folder).args(words(call)).output().expect("it runs");
-        assert_eq!(String::from_utf8_lossy(&output.stdout), unindented(expected), "{call}");
-        assert_eq!((output.status.code(), output.stderr), (Some(0), vec![]), "{call}");
+        for example in examples.split("\n  $ ./fristen ") {
+            let (call, expected) = example.split_once('\n').expect("its output");
+            let output = program().current_dir(folder).args(words(call)).output().expect("it runs");
+            assert_eq!(String::from_utf8_lossy(&output.stdout), unindented(expected), "{call}");
+            assert_eq!((output.status.code(), output.stderr), (Some(0), vec![]), "{call}");
+        }
     }
 }
 
@@ -137,6 +141,61 @@ fn a_due_instant_has_the_originals_label() {
     }
     let json = printed(&words("next-werktag-at 2026-04-02T10:00:00+02:00 12:00 --json"), 0);
     assert!(!json.contains("label"), "{json}");
+}
+
+#[test]
+fn contrl_with_a_change_day() {
+    assert_prints(CHANGE_DAYS);
+}
+
+/// The option and the call's own name are one question; without the option it is version one.
+#[test]
+fn the_change_day_is_an_option_of_contrl() {
+    let received = "2026-03-31T12:00:00+02:00";
+    let asked = ["contrl", "Regelfall", received, "--stichtag", "2026-04-01"];
+    let own = ["mf_contrl_due_at_change", "Regelfall", received, "2026-04-01"];
+    let sentence = printed(&asked, 0);
+    assert_eq!(sentence, printed(&own, 0));
+    assert_eq!(sentence, printed(&["contrl_due_at", "Regelfall", received, asked[3], asked[4]], 0));
+    // 2026-04-01T22:00:00Z is 1,775,080,800 seconds, 0x69cd_9560.
+    let bytes = printed(&[&asked[..], &["--bytes"]].concat(), 0);
+    assert_eq!(bytes, format!("{}6095cd69{}\n", "00".repeat(8), "00".repeat(20)));
+    assert_eq!(bytes, printed(&[&own[..], &["--bytes"]].concat(), 0));
+    let version_one = printed(&asked[..3], 0);
+    assert!(!version_one.contains("Stichtag"), "{version_one}");
+    let json = printed(&[&asked[..3], &["--json"]].concat(), 0);
+    assert!(
+        json.starts_with("{\"call\":\"mf_contrl_due_at\",") && !json.contains("moved"),
+        "{json}"
+    );
+    let help = printed(&["help", "contrl"], 0);
+    assert!(help.starts_with("Aufruf: ./fristen contrl ANLASS EINGANG [--stichtag DATUM]\n"));
+    assert_eq!(help.matches("\n  $ ./fristen contrl ").count(), 2, "{help}");
+    assert!(help.contains(" --stichtag 2026-06-06\n"), "{help}");
+}
+
+/// The day beside the change day is no result; a due instant is one.
+#[test]
+fn what_leaves_the_calendar_with_a_change_day() {
+    let calendar = "Kalender vom 1. Januar 1996 bis zum 31. Dezember 2899.";
+    let before = format!("Der Tag vor dem Stichtag liegt nicht im {calendar}");
+    let after = format!("Der Tag nach dem Stichtag liegt nicht im {calendar}");
+    let result = format!("Ein Ergebnis verlässt den {calendar}");
+    let rows = [
+        ("contrl Regelfall 2026-06-05T12:00:00Z --stichtag 1996-01-01", &before),
+        ("contrl Regelfall 2026-06-05T12:00:00Z --stichtag 2899-12-31", &after),
+        ("contrl-due-at-change Regelfall @29348002799 2899-12-31", &after),
+        ("contrl Regelfall @29348002799 --stichtag 2899-12-30", &result),
+        ("contrl Regelfall @29348002799", &result),
+        ("add-werktage 2899-12-31 1", &result),
+        ("sub-werktage 1996-01-01 1", &result),
+    ];
+    for (line, sentence) in rows {
+        assert_eq!(printed(&words(line), 2), format!("Abgelehnt (8): {sentence}\n"), "{line}");
+        let json = printed(&words(&format!("{line} --json")), 2);
+        let end = format!("\"refusal\":{{\"number\":8,\"text\":\"{sentence}\"}}}}\n");
+        assert!(json.ends_with(&end), "{json}");
+    }
 }
 
 #[test]
@@ -233,10 +292,13 @@ fn refusals_with_their_number() {
         (3, "kalender 4294967296"),
         (3, "abmeldung ZQ7 --eeg ja 2026-01-08 2026-02-29"),
         (3, "ankuendigung 2026-01-12T00:00:00Z 1995-01-01"),
+        (3, "contrl Regelfall 2026-06-05T12:00:00Z --stichtag 2026-02-29"),
+        (3, "contrl-due-at-change GasAlocat 1995-01-01T00:00:00Z 2900-01-01"),
         (4, "berlin-date 1995-12-31T22:59:59Z"),
         (4, "berlin-date 0000-01-01T00:00:00Z"),
         (4, "berlin-date @1774972799.1000000000"),
         (4, "add-hours @-9223372036854775808 1"),
+        (4, "contrl Regelfall 1995-01-01T00:00:00Z --stichtag=1996-01-01"),
         (4, "check-at Korridor 1 2026-01-12T00:00:00Z 9999-12-31T00:00:00Z Gas"),
         (5, "berlin-at 2026-01-01 24:00"),
         (5, "next-werktag-at 2026-01-01T00:00:00Z 00:00:60"),
@@ -249,6 +311,8 @@ fn refusals_with_their_number() {
         (8, "sub-werktage 2026-04-02 4294967295"),
         (8, "sub-werktage 1996-01-01 4294967295"),
         (8, "add-hours 2899-12-31T22:00:00Z 1"),
+        (8, "contrl Regelfall 2899-12-31T17:00:00Z --stichtag 2026-06-06"),
+        (8, "contrl Regelfall 2026-06-05T12:00:00Z --stichtag 1996-01-01"),
         (8, "span LatestMonateBefore 4294967295 2026-01-01"),
     ];
     for (number, line) in refused {
@@ -334,6 +398,30 @@ const WRONG: &[(&str, &str)] = &[
     ("abmeldung-fuer Z33 --eeg", "erwartet ja, nein oder unbekannt nach --eeg"),
     ("abmeldung-fuer Z33 --eeg vielleicht", "--eeg: erwartet nein, ja oder unbekannt"),
     ("abmeldung-fuer Z33 --eeg ja --eeg ja", "erwartet --eeg nur einmal"),
+    ("contrl Regelfall @0 --stichtag", "erwartet ein Datum wie 2026-04-02 nach --stichtag"),
+    (
+        "contrl Regelfall @0 --stichtag morgen",
+        "--stichtag: erwartet ein Datum wie 2026-04-02, nicht",
+    ),
+    ("contrl Regelfall @0 --stichtag=", "--stichtag: erwartet ein Datum wie 2026-04-02, nicht „“"),
+    (
+        "contrl Regelfall @0 --stichtag 2026-06-06 --stichtag=2026-06-06",
+        "erwartet --stichtag nur einmal",
+    ),
+    ("contrl Regelfall @0 2026-06-06", "zu viel: „2026-06-06“"),
+    ("contrl Regelfall --stichtag 2026-06-06", "es fehlt: EINGANG"),
+    ("contrl Regelfall @0 --Stichtag 2026-06-06", "unbekannte Option „--Stichtag“"),
+    ("contrl-due-at-change Regelfall @0", "es fehlt: STICHTAG"),
+    ("contrl-due-at-change Regelfall @0 6.6.2026", "STICHTAG: erwartet ein Datum wie 2026-04-02"),
+    (
+        "contrl-due-at-change Regelfall @0 2026-06-06 --stichtag 2026-06-06",
+        "--stichtag gehört nicht zu diesem Befehl",
+    ),
+    ("tag 2026-01-01 --stichtag 2026-06-06", "--stichtag gehört nicht zu diesem Befehl"),
+    ("aperak-strom @0 --stichtag=2026-06-06", "--stichtag gehört nicht zu diesem Befehl"),
+    ("kalender 2026 --stichtag 2026-06-06", "--stichtag gehört nicht zu diesem Befehl"),
+    ("fragen - --stichtag 2026-06-06", "--stichtag gehört nicht zu diesem Befehl"),
+    ("portfolio - --stichtag 2026-06-06", "--stichtag gehört nicht zu diesem Befehl"),
     ("kalender abc", "JAHR: erwartet ein Jahr von 1996 bis 2899, nicht „abc“"),
     ("kalender -2026", "JAHR: erwartet ein Jahr von 1996 bis 2899, nicht „-2026“"),
     ("kalender 2026 --bytes", "--bytes gibt es zu diesem Befehl nicht"),
@@ -449,7 +537,10 @@ fn arguments(question: &Question) -> String {
             Parameter::Eeg => "--eeg ja".to_owned(),
             Parameter::Reason => "ZT0".to_owned(),
             // It stands before the instant here.
-            Parameter::Anlass => return format!("contrl StromUtilmdOderOrders {}", words[1]),
+            Parameter::Anlass => {
+                words.insert(1, "StromUtilmdOderOrders".to_owned());
+                continue;
+            }
         };
         words.push(word);
     }
@@ -566,9 +657,10 @@ impl Random {
 #[test]
 fn no_arguments_make_it_panic() {
     let mut vocabulary: Vec<String> = source_names().map(|(_, name)| name).collect();
-    let others = "tag contrl check check-at span frist abmeldung kalender help --json --bytes --roh \
-                  --help fragen portfolio --eeg --eeg=ja ja nein -- - -1 0 1 2 61 4294967295 4294967296 1995 \
-                  2026 2899 2900 \
+    let others =
+        "tag contrl check check-at span frist abmeldung kalender help --json --bytes --roh \
+                  --help fragen portfolio --eeg --eeg=ja ja nein --stichtag --stichtag=2026-06-06 \
+                  -- - -1 0 1 2 61 4294967295 4294967296 1995 2026 2899 2900 \
                   1996-01-01 2026-02-29 2026-03-29 2899-12-31 9999-99-99 02:30 24:00 12:00:00.5 \
                   2026-03-29T02:30:00+02:00 1996-01-01T00:00:00+01:00 2899-12-31T23:59:59+01:00 \
                   0000-01-01T00:00:00Z @0 @-9223372036854775808.4294967295 @29348002799.999999999 \
@@ -627,6 +719,8 @@ fn no_fitting_operands_make_it_panic() {
             format!("check LatestMonateUndWerktageBefore {n} {n} {date} {date2}"),
             format!("span WindowWerktageBefore {n} {n} {date}"),
             format!("ankuendigung {at} {date}"),
+            format!("contrl Regelfall {at} --stichtag {date}"),
+            format!("contrl-due-at-change GasAlocat {at2} {date2}"),
         ];
         let line = &lines[random.below(lines.len())];
         let output = run(&words(line));

@@ -60,6 +60,7 @@ fn answers(call: Call) -> Vec<Answer> {
         | Call::EndOfDayBerlin
         | Call::TagesbeginnUtc
         | Call::ContrlDueAt
+        | Call::ContrlDueAtChange
         | Call::AperakStromDueAt
         | Call::AperakStromAllgemeinDueAt
         | Call::AddHours

@@ -151,7 +151,7 @@ fn nothing_asked_is_nothing_answered() {
 
 #[test]
 fn lines_that_cannot_be_read_are_named_and_the_others_answered() {
-    let cases: [(&[u8], &str); 10] = [
+    let cases: [(&[u8], &str); 12] = [
         (b"gestern", "erwartet contrl, frist, check oder span, nicht „gestern“"),
         (b"tag 2026-01-01", "erwartet contrl, frist, check oder span, nicht „tag“"),
         (b"Span Korridor 1 2026-01-01", "erwartet contrl, frist, check oder span, nicht „Span“"),
@@ -166,6 +166,14 @@ fn lines_that_cannot_be_read_are_named_and_the_others_answered() {
             b"frist SameDay @0 --json",
             "Optionen gibt es in einer Zeile nicht: „--json“ (Aufbau: frist FORM [N] [UHRZEIT] \
              EINGANG)",
+        ),
+        (
+            b"contrl Regelfall @0 --stichtag 2026-06-06",
+            "Optionen gibt es in einer Zeile nicht: „--stichtag“ (Aufbau: contrl ANLASS EINGANG)",
+        ),
+        (
+            b"contrl-due-at-change Regelfall @0 2026-06-06",
+            "erwartet contrl, frist, check oder span, nicht „contrl-due-at-change“",
         ),
         (
             b"check Korridor -1 2026-01-01 2026-01-01",

@@ -206,6 +206,97 @@ pub const DUE: &[(&str, &str)] = &[
     ),
 ];
 
+/// A CONTRL with a change day: moved, and left where it is; by an end of the window, by a switch, and
+/// by the edges of the calendar.
+pub const CHANGE_DAYS: &[(&str, &str)] = &[
+    (
+        "--stichtag=2026-06-06 contrl Regelfall 2026-06-05T12:00:00+02:00",
+        "Eingang am Freitag, 5. Juni 2026, um 12:00 Uhr: Die CONTRL im Regelfall ist fällig am \
+         Sonntag, 7. Juni 2026, um 00:00 Uhr (contrl-delivery-window).\n\
+         Stichtag der Formatumstellung ist Samstag, der 6. Juni 2026; ihr Zeitraum geht von Freitag, \
+         5. Juni 2026, 18:00 Uhr, bis Sonntag, 7. Juni 2026, 00:00 Uhr.\n\
+         Ohne Umstellung wäre die CONTRL fällig am Freitag, 5. Juni 2026, um 18:00 Uhr; das liegt in \
+         diesem Zeitraum, also gilt sein Ende.",
+    ),
+    (
+        "contrl Regelfall --stichtag 2026-06-06 2026-06-05T11:59:59.999999999+02:00",
+        "Eingang am Freitag, 5. Juni 2026, um 11:59:59,999999999 Uhr: Die CONTRL im Regelfall ist \
+         fällig am Freitag, 5. Juni 2026, um 17:59:59,999999999 Uhr (contrl-delivery-window).\n\
+         Stichtag der Formatumstellung ist Samstag, der 6. Juni 2026; ihr Zeitraum geht von Freitag, \
+         5. Juni 2026, 18:00 Uhr, bis Sonntag, 7. Juni 2026, 00:00 Uhr.\n\
+         An dieser Fälligkeit ändert er nichts.",
+    ),
+    (
+        "contrl GasAlocat 2026-06-05T23:14:59.999999999+02:00 --stichtag 2026-06-06",
+        "Eingang am Freitag, 5. Juni 2026, um 23:14:59,999999999 Uhr: Die CONTRL auf ALOCAT Gas ist \
+         fällig am Sonntag, 7. Juni 2026, um 00:00 Uhr (contrl-delivery-window).\n\
+         Stichtag der Formatumstellung ist Samstag, der 6. Juni 2026; ihr Zeitraum geht von Freitag, \
+         5. Juni 2026, 18:00 Uhr, bis Sonntag, 7. Juni 2026, 00:00 Uhr.\n\
+         Ohne Umstellung wäre die CONTRL fällig mit Ablauf des Freitags, 5. Juni 2026; das liegt in \
+         diesem Zeitraum, also gilt sein Ende.",
+    ),
+    (
+        "contrl Regelfall 2026-06-06T18:00:00+02:00 --stichtag 2026-06-06",
+        "Eingang am Samstag, 6. Juni 2026, um 18:00 Uhr: Die CONTRL im Regelfall ist fällig am \
+         Sonntag, 7. Juni 2026, um 00:00 Uhr (contrl-delivery-window).\n\
+         Stichtag der Formatumstellung ist Samstag, der 6. Juni 2026; ihr Zeitraum geht von Freitag, \
+         5. Juni 2026, 18:00 Uhr, bis Sonntag, 7. Juni 2026, 00:00 Uhr.\n\
+         An dieser Fälligkeit ändert er nichts.",
+    ),
+    (
+        "contrl Regelfall 2026-03-31T12:00:00+02:00 --stichtag 2026-06-06",
+        "Eingang am Dienstag, 31. März 2026, um 12:00 Uhr: Die CONTRL im Regelfall ist fällig am \
+         Dienstag, 31. März 2026, um 18:00 Uhr (contrl-delivery-window).\n\
+         Stichtag der Formatumstellung ist Samstag, der 6. Juni 2026; ihr Zeitraum geht von Freitag, \
+         5. Juni 2026, 18:00 Uhr, bis Sonntag, 7. Juni 2026, 00:00 Uhr.\n\
+         An dieser Fälligkeit ändert er nichts.",
+    ),
+    (
+        "contrl Regelfall 2026-03-31T12:00:00+02:00 --stichtag 2026-04-01",
+        "Eingang am Dienstag, 31. März 2026, um 12:00 Uhr: Die CONTRL im Regelfall ist fällig am \
+         Donnerstag, 2. April 2026, um 00:00 Uhr (contrl-delivery-window).\n\
+         Stichtag der Formatumstellung ist Mittwoch, der 1. April 2026; ihr Zeitraum geht von \
+         Dienstag, 31. März 2026, 18:00 Uhr, bis Donnerstag, 2. April 2026, 00:00 Uhr.\n\
+         Ohne Umstellung wäre die CONTRL fällig am Dienstag, 31. März 2026, um 18:00 Uhr; das liegt \
+         in diesem Zeitraum, also gilt sein Ende.",
+    ),
+    (
+        "contrl StromUtilmdOderOrders 2026-10-24T20:30:00+02:00 --stichtag 2026-10-25",
+        "Eingang am Samstag, 24. Oktober 2026, um 20:30 Uhr: Die CONTRL auf UTILMD oder ORDERS Strom \
+         ist fällig am Montag, 26. Oktober 2026, um 00:00 Uhr (contrl-delivery-window).\n\
+         Stichtag der Formatumstellung ist Sonntag, der 25. Oktober 2026; ihr Zeitraum geht von \
+         Samstag, 24. Oktober 2026, 18:00 Uhr, bis Montag, 26. Oktober 2026, 00:00 Uhr.\n\
+         Ohne Umstellung wäre die CONTRL fällig am Sonntag, 25. Oktober 2026, um 02:30 Uhr Sommerzeit \
+         (MESZ); das liegt in diesem Zeitraum, also gilt sein Ende.",
+    ),
+    (
+        "contrl-due-at-change Regelfall 1996-01-01T12:00:00+01:00 1996-01-02",
+        "Eingang am Montag, 1. Januar 1996, um 12:00 Uhr: Die CONTRL im Regelfall ist fällig am \
+         Mittwoch, 3. Januar 1996, um 00:00 Uhr (contrl-delivery-window).\n\
+         Stichtag der Formatumstellung ist Dienstag, der 2. Januar 1996; ihr Zeitraum geht von \
+         Montag, 1. Januar 1996, 18:00 Uhr, bis Mittwoch, 3. Januar 1996, 00:00 Uhr.\n\
+         Ohne Umstellung wäre die CONTRL fällig am Montag, 1. Januar 1996, um 18:00 Uhr; das liegt in \
+         diesem Zeitraum, also gilt sein Ende.",
+    ),
+    (
+        "contrl-due-at-change Regelfall 1996-01-01T12:00:00+01:00 2899-12-30",
+        "Eingang am Montag, 1. Januar 1996, um 12:00 Uhr: Die CONTRL im Regelfall ist fällig am \
+         Montag, 1. Januar 1996, um 18:00 Uhr (contrl-delivery-window).\n\
+         Stichtag der Formatumstellung ist Mittwoch, der 30. Dezember 2899; ihr Zeitraum geht von \
+         Dienstag, 29. Dezember 2899, 18:00 Uhr, bis Donnerstag, 31. Dezember 2899, 00:00 Uhr.\n\
+         An dieser Fälligkeit ändert er nichts.",
+    ),
+    (
+        "contrl-due-at-change Regelfall 2899-12-30T12:00:00+01:00 2899-12-30",
+        "Eingang am Mittwoch, 30. Dezember 2899, um 12:00 Uhr: Die CONTRL im Regelfall ist fällig am \
+         Donnerstag, 31. Dezember 2899, um 00:00 Uhr (contrl-delivery-window).\n\
+         Stichtag der Formatumstellung ist Mittwoch, der 30. Dezember 2899; ihr Zeitraum geht von \
+         Dienstag, 29. Dezember 2899, 18:00 Uhr, bis Donnerstag, 31. Dezember 2899, 00:00 Uhr.\n\
+         Ohne Umstellung wäre die CONTRL fällig am Mittwoch, 30. Dezember 2899, um 18:00 Uhr; das \
+         liegt in diesem Zeitraum, also gilt sein Ende.",
+    ),
+];
+
 pub const SPANS: &[(&str, &str)] = &[
     (
         "check WindowWerktageBefore 5 2 2026-04-13 2026-04-24",
@@ -396,6 +487,48 @@ pub const JSON: &[(&str, &str)] = &[
             r#""2026-03-31T12:00:00+02:00"],"refusal":null,"instant":{"seconds":1775080800,"#,
             r#""nanos":0,"utc":"2026-04-01T22:00:00Z","berlin":"2026-04-02T00:00:00+02:00"},"#,
             r#""label":"contrl-delivery-window"}"#,
+        ),
+    ),
+    (
+        "contrl Regelfall 2026-06-05T12:00:00+02:00 --stichtag 2026-06-06 --json",
+        concat!(
+            r#"{"call":"mf_contrl_due_at_change","arguments":["Regelfall","#,
+            r#""2026-06-05T12:00:00+02:00","--stichtag","2026-06-06"],"refusal":null,"#,
+            r#""instant":{"seconds":1780783200,"nanos":0,"utc":"2026-06-06T22:00:00Z","#,
+            r#""berlin":"2026-06-07T00:00:00+02:00"},"label":"contrl-delivery-window","#,
+            r#""moved":true,"due_before_tolerance":{"seconds":1780675200,"nanos":0,"#,
+            r#""utc":"2026-06-05T16:00:00Z","berlin":"2026-06-05T18:00:00+02:00"},"#,
+            r#""window":{"from":{"seconds":1780675200,"nanos":0,"utc":"2026-06-05T16:00:00Z","#,
+            r#""berlin":"2026-06-05T18:00:00+02:00"},"to":{"seconds":1780783200,"nanos":0,"#,
+            r#""utc":"2026-06-06T22:00:00Z","berlin":"2026-06-07T00:00:00+02:00"}}}"#,
+        ),
+    ),
+    (
+        "contrl Regelfall 2026-06-06T16:00:00Z --stichtag=2026-06-06 --json",
+        concat!(
+            r#"{"call":"mf_contrl_due_at_change","arguments":["Regelfall","#,
+            r#""2026-06-06T16:00:00Z","--stichtag=2026-06-06"],"refusal":null,"#,
+            r#""instant":{"seconds":1780783200,"nanos":0,"utc":"2026-06-06T22:00:00Z","#,
+            r#""berlin":"2026-06-07T00:00:00+02:00"},"label":"contrl-delivery-window","#,
+            r#""moved":false,"due_before_tolerance":{"seconds":1780783200,"nanos":0,"#,
+            r#""utc":"2026-06-06T22:00:00Z","berlin":"2026-06-07T00:00:00+02:00"},"#,
+            r#""window":{"from":{"seconds":1780675200,"nanos":0,"utc":"2026-06-05T16:00:00Z","#,
+            r#""berlin":"2026-06-05T18:00:00+02:00"},"to":{"seconds":1780783200,"nanos":0,"#,
+            r#""utc":"2026-06-06T22:00:00Z","berlin":"2026-06-07T00:00:00+02:00"}}}"#,
+        ),
+    ),
+    (
+        "contrl-due-at-change GasAlocat 2026-03-28T16:14:59Z 2026-03-29 --json",
+        concat!(
+            r#"{"call":"mf_contrl_due_at_change","arguments":["GasAlocat","#,
+            r#""2026-03-28T16:14:59Z","2026-03-29"],"refusal":null,"#,
+            r#""instant":{"seconds":1774717199,"nanos":0,"utc":"2026-03-28T16:59:59Z","#,
+            r#""berlin":"2026-03-28T17:59:59+01:00"},"label":"contrl-delivery-window","#,
+            r#""moved":false,"due_before_tolerance":{"seconds":1774717199,"nanos":0,"#,
+            r#""utc":"2026-03-28T16:59:59Z","berlin":"2026-03-28T17:59:59+01:00"},"#,
+            r#""window":{"from":{"seconds":1774717200,"nanos":0,"utc":"2026-03-28T17:00:00Z","#,
+            r#""berlin":"2026-03-28T18:00:00+01:00"},"to":{"seconds":1774821600,"nanos":0,"#,
+            r#""utc":"2026-03-29T22:00:00Z","berlin":"2026-03-30T00:00:00+02:00"}}}"#,
         ),
     ),
     (

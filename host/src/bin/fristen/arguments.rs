@@ -18,6 +18,7 @@ pub struct Arguments {
     pub raw: bool,
     pub help: bool,
     pub eeg: Option<OsString>,
+    pub stichtag: Option<OsString>,
     /// What is no option, or stands behind `--`.
     pub words: Vec<OsString>,
     /// All but the first word and the form, as given.
@@ -29,24 +30,24 @@ impl Arguments {
         let mut read = Arguments::default();
         let mut left = arguments.into_iter();
         while let Some(argument) = left.next() {
-            match argument.to_str() {
-                Some("--") => {
+            match argument.to_str().map(parted) {
+                Some(("--", None)) => {
                     read.given.push(argument);
                     left.by_ref().for_each(|word| read.word(word));
                 }
-                Some("-h" | "--help") => read.help = true,
-                Some("--json") => read.form(Form::Json)?,
-                Some("--bytes") => read.form(Form::Bytes)?,
-                Some("--roh") => read.raw = true,
-                Some("--eeg") => {
-                    let mark = left.next();
+                Some(("-h" | "--help", None)) => read.help = true,
+                Some(("--json", None)) => read.form(Form::Json)?,
+                Some(("--bytes", None)) => read.form(Form::Bytes)?,
+                Some(("--roh", None)) => read.raw = true,
+                Some((option @ ("--eeg" | "--stichtag"), Some(value))) => {
+                    read.value(option, Some(value.into()))?;
                     read.given.push(argument);
-                    read.given.extend(mark.clone());
-                    read.eeg(mark)?;
                 }
-                Some(option) if option.starts_with("--eeg=") => {
-                    read.eeg(option.strip_prefix("--eeg=").map(OsString::from))?;
+                Some((option @ ("--eeg" | "--stichtag"), None)) => {
+                    let value = left.next();
+                    read.value(option, value.clone())?;
                     read.given.push(argument);
+                    read.given.extend(value);
                 }
                 _ if is_option(&argument) => {
                     return Err(Usage::new(format!("unbekannte Option {}", quoted(&argument))));
@@ -85,13 +86,27 @@ impl Arguments {
         Ok(())
     }
 
-    fn eeg(&mut self, mark: Option<OsString>) -> Result<(), Usage> {
-        let mark = mark.ok_or_else(|| Usage::new("erwartet ja, nein oder unbekannt nach --eeg"))?;
-        if self.eeg.is_some() {
-            return Err(Usage::new("erwartet --eeg nur einmal"));
+    /// What stands behind one of the two options that have something behind them.
+    fn value(&mut self, option: &str, value: Option<OsString>) -> Result<(), Usage> {
+        let (place, expected) = match option {
+            "--eeg" => (&mut self.eeg, "ja, nein oder unbekannt"),
+            _ => (&mut self.stichtag, "ein Datum wie 2026-04-02"),
+        };
+        let missing = || Usage::new(format!("erwartet {expected} nach {option}"));
+        let value = value.ok_or_else(missing)?;
+        if place.is_some() {
+            return Err(Usage::new(format!("erwartet {option} nur einmal")));
         }
-        self.eeg = Some(mark);
+        *place = Some(value);
         Ok(())
+    }
+}
+
+/// An option, and what stands behind its `=`.
+fn parted(argument: &str) -> (&str, Option<&str>) {
+    match argument.split_once('=') {
+        Some((option, value)) => (option, Some(value)),
+        None => (argument, None),
     }
 }
 

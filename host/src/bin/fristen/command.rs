@@ -90,13 +90,19 @@ impl Command {
 
     /// The name with what stands behind it.
     pub fn usage(&self) -> String {
-        let labels = self.operands.iter().map(|(_, label)| *label);
-        let file = match self.task {
-            Task::Fragen => Some("[DATEI] [--roh]"),
-            Task::Portfolio => Some("[DATEI]"),
-            Task::Ask(_) | Task::Kalender => None,
+        let left_out = match self.task {
+            Task::Fragen => " [DATEI] [--roh]",
+            Task::Portfolio => " [DATEI]",
+            Task::Ask(Call::ContrlDueAt) => " [--stichtag DATUM]",
+            Task::Ask(_) | Task::Kalender => "",
         };
-        [self.name].into_iter().chain(labels).chain(file).collect::<Vec<_>>().join(" ")
+        self.usage_in_line() + left_out
+    }
+
+    /// The same in a line of a file, where there are no options.
+    pub fn usage_in_line(&self) -> String {
+        let labels = self.operands.iter().map(|(_, label)| *label);
+        [self.name].into_iter().chain(labels).collect::<Vec<_>>().join(" ")
     }
 }
 

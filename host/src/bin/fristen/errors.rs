@@ -4,7 +4,12 @@ use mako_fristen_host::{Refusal, Unreadable};
 
 /// The refusal with its number.
 pub fn refused(refusal: Refusal) -> String {
-    format!("Abgelehnt ({}): {}", refusal.number(), refusal.beschreibung())
+    refused_as(refusal, refusal.beschreibung())
+}
+
+/// The same with a sentence of its own.
+pub fn refused_as(refusal: Refusal, sentence: &str) -> String {
+    format!("Abgelehnt ({}): {sentence}", refusal.number())
 }
 
 /// An answer that this program does not know, with its bytes.

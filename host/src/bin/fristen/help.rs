@@ -1,7 +1,7 @@
 //! The help of the program and of each subcommand.
 
 use crate::command::{Command, Task, GROUPS, PROGRAM};
-use crate::commands::{fragen, portfolio};
+use crate::commands::{fragen, fristen, portfolio};
 use crate::names::{FRISTEN, VORLAUF};
 use mako_fristen_host::{Call, DayReason, Parameter};
 
@@ -29,6 +29,7 @@ Optionen, an beliebiger Stelle
   --bytes     die 32 Bytes der Antwort, hexadezimal, bei portfolio vier zu jeder Zeile;
               nicht bei kalender
   --roh       nur bei fragen: Datensätze von 32 Bytes statt Zeilen
+  --stichtag  nur bei contrl: der Tag einer verlegten Formatumstellung
   --help, -h  Hilfe, auch zu einem Befehl
   --          danach folgen keine Optionen mehr
 
@@ -58,7 +59,7 @@ pub fn general() -> String {
     format!("{HEAD}{}\n{FOOT}", groups.concat())
 }
 
-/// The usage, the meaning and an example with its output.
+/// The usage, the meaning and an example with its output; of `contrl` another one, with its option.
 pub fn of(command: &Command) -> String {
     let also = match command.source_name() {
         Some(name) if name != command.name => format!("Auch: {PROGRAM} {name} ...\n"),
@@ -79,14 +80,21 @@ pub fn of(command: &Command) -> String {
         Task::Portfolio => format!("  $ cat portfolio.csv\n{}", block(portfolio::FILE)),
         Task::Ask(_) | Task::Kalender => String::new(),
     };
-    let output = block(command.output);
+    let mut examples = vec![example(command.example, command.output)];
+    if command.call() == Some(Call::ContrlDueAt) {
+        examples.push(example(fristen::MIT_STICHTAG, fristen::VERLEGT));
+    }
     format!(
         "Aufruf: {PROGRAM} {}\n{also}\n{}\n{shapes}{reasons}\n\
-         Beispiel\n{file}  $ {PROGRAM} {}\n{output}",
+         Beispiel\n{file}{}",
         command.usage(),
         command.meaning,
-        command.example
+        examples.join("\n")
     )
+}
+
+fn example(arguments: &str, output: &str) -> String {
+    format!("  $ {PROGRAM} {arguments}\n{}", block(output))
 }
 
 fn block(text: &str) -> String {

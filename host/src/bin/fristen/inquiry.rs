@@ -22,6 +22,12 @@ impl Inquiry {
         Inquiry { call, question, reason, frist: None, vorlauf: None }
     }
 
+    /// The same of a CONTRL, with a change day.
+    pub fn put_off_to(self, stichtag: Date) -> Inquiry {
+        let call = Call::ContrlDueAtChange;
+        Inquiry { call, question: Question { call, date: stichtag, ..self.question }, ..self }
+    }
+
     /// The answer of the call, read: neither a refusal nor bytes that the documents do not have.
     pub fn answer(&self) -> Result<Answer, Error> {
         Answer::of(self.call, |answer| self.put(answer))
@@ -50,6 +56,21 @@ impl Inquiry {
             Call::VorlaufSpan => Frage::Span { shape: self.vorlauf?, uebertragungstag },
             _ => return None,
         })
+    }
+
+    /// Why it is refused, as a sentence.
+    pub fn beschreibung(&self, refusal: Refusal) -> &'static str {
+        match (refusal, self.call, self.question.date) {
+            (Refusal::LeavesCalendar, Call::ContrlDueAtChange, Date::FIRST) => {
+                "Der Tag vor dem Stichtag liegt nicht im Kalender vom 1. Januar 1996 bis zum \
+                 31. Dezember 2899."
+            }
+            (Refusal::LeavesCalendar, Call::ContrlDueAtChange, Date::LAST) => {
+                "Der Tag nach dem Stichtag liegt nicht im Kalender vom 1. Januar 1996 bis zum \
+                 31. Dezember 2899."
+            }
+            _ => refusal.beschreibung(),
+        }
     }
 
     /// The Sparte, be it the first code or the second.

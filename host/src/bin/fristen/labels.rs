@@ -5,7 +5,7 @@ use mako_fristen_host::{
 /// The original's label of a due instant, where it has one that does not depend on the answer.
 pub fn of(call: Call) -> Option<&'static str> {
     match call {
-        Call::ContrlDueAt => Some(CONTRL_FRIST_LABEL),
+        Call::ContrlDueAt | Call::ContrlDueAtChange => Some(CONTRL_FRIST_LABEL),
         Call::AperakStromDueAt => Some(APERAK_STROM_WINDOW_LABEL),
         Call::AperakStromAllgemeinDueAt => Some(APERAK_STROM_ALLGEMEIN_LABEL),
         Call::IsWerktag

@@ -22,6 +22,7 @@ mod reply;
 mod report;
 mod run;
 mod sentences;
+mod umstellung;
 mod usage;
 
 use arguments::{is_option, Arguments, Form};

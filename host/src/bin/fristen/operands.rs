@@ -16,6 +16,12 @@ pub fn inquiry(command: &Command, call: Call, arguments: &Arguments) -> Result<I
     for (parameter, label) in command.operands {
         read(&mut inquiry, *parameter, label, &mut words)?;
     }
+    // With a change day the same command asks version two.
+    if call == Call::ContrlDueAt {
+        if let Some(stichtag) = words.stichtag()? {
+            inquiry = inquiry.put_off_to(stichtag);
+        }
+    }
     words.end()?;
     Ok(inquiry)
 }
@@ -112,16 +118,18 @@ fn frist(inquiry: &mut Inquiry, label: &str, words: &mut Words) -> Result<(), Us
     Ok(())
 }
 
-/// The words behind the subcommand's name, and the EEG mark.
+/// The words behind the subcommand's name, the EEG mark and the change day.
 struct Words<'a> {
     left: slice::Iter<'a, OsString>,
     eeg: Option<&'a OsStr>,
+    stichtag: Option<&'a OsStr>,
 }
 
 impl<'a> Words<'a> {
     fn new(arguments: &'a Arguments) -> Words<'a> {
         let words = arguments.words.get(1..).unwrap_or_default();
-        Words { left: words.iter(), eeg: arguments.eeg.as_deref() }
+        let (eeg, stichtag) = (arguments.eeg.as_deref(), arguments.stichtag.as_deref());
+        Words { left: words.iter(), eeg, stichtag }
     }
 
     fn next(&mut self, label: &str) -> Result<&'a OsStr, Usage> {
@@ -129,9 +137,10 @@ impl<'a> Words<'a> {
     }
 
     fn end(mut self) -> Result<(), Usage> {
-        match (self.left.next(), self.eeg) {
-            (Some(word), _) => Err(too_much(word)),
-            (_, Some(_)) => Err(Usage::new("--eeg gehört nicht zu diesem Befehl")),
+        match (self.left.next(), self.eeg, self.stichtag) {
+            (Some(word), ..) => Err(too_much(word)),
+            (_, Some(_), _) => Err(Usage::new("--eeg gehört nicht zu diesem Befehl")),
+            (.., Some(_)) => Err(Usage::new("--stichtag gehört nicht zu diesem Befehl")),
             _ => Ok(()),
         }
     }
@@ -185,6 +194,11 @@ impl<'a> Words<'a> {
         let expected =
             || format!("--eeg: erwartet {}, nicht {}", names::expected(&EEG), quoted(mark));
         eeg.map(Eeg::code).ok_or_else(|| Usage::new(expected()))
+    }
+
+    /// The change day, an option that may be left out.
+    fn stichtag(&mut self) -> Result<Option<Date>, Usage> {
+        self.stichtag.take().map(|word| date("--stichtag", word)).transpose()
     }
 }
 

@@ -33,7 +33,7 @@ impl Reply<'_> {
 
     fn refused(&self, inquiry: &Inquiry, refusal: Refusal) -> String {
         match self.form {
-            Form::Sentence => self.text(errors::refused(refusal)),
+            Form::Sentence => self.text(errors::refused_as(refusal, inquiry.beschreibung(refusal))),
             Form::Json => self.json(report::refused(inquiry, self.given, refusal)),
             Form::Bytes => self.text(format!("{:x}", Answer::refused(refusal))),
         }

@@ -4,8 +4,9 @@ use crate::inquiry::Inquiry;
 use crate::json::Json;
 use crate::labels;
 use crate::sentences::also;
+use crate::umstellung::Umstellung;
 use mako_fristen_host::{
-    AbmeldungVorlauf, Answer, BerlinTime, Clock, Content, Date, DayReason, Error, GasDue,
+    AbmeldungVorlauf, Answer, BerlinTime, Call, Clock, Content, Date, DayReason, Error, GasDue,
     GasProzess, Instant, Judgement, Parameter, Refusal, Span, VorlaufVerdict, WerktageBetween,
 };
 use std::ffi::OsString;
@@ -23,7 +24,7 @@ pub fn answered(inquiry: &Inquiry, given: &[OsString], answer: &Answer) -> Resul
 /// The call, its arguments as given, and the refusal.
 pub fn refused(inquiry: &Inquiry, given: &[OsString], refusal: Refusal) -> Json {
     let mut members = asked(inquiry, given);
-    members.push(("refusal", refusal_json(refusal)));
+    members.push(("refusal", refusal_json_as(refusal, inquiry.beschreibung(refusal))));
     Json::Object(members)
 }
 
@@ -42,7 +43,11 @@ pub fn arguments(given: &[OsString]) -> Json {
 }
 
 pub fn refusal_json(refusal: Refusal) -> Json {
-    let (number, text) = (Json::number(refusal.number()), Json::text(refusal.beschreibung()));
+    refusal_json_as(refusal, refusal.beschreibung())
+}
+
+fn refusal_json_as(refusal: Refusal, sentence: &str) -> Json {
+    let (number, text) = (Json::number(refusal.number()), Json::text(sentence));
     Json::Object(vec![("number", number), ("text", text)])
 }
 
@@ -63,7 +68,9 @@ fn content(inquiry: &Inquiry, answer: &Answer) -> Result<Members, Error> {
             vec![("count", Json::number(werktage)), ("days_tested", Json::number(days_tested))]
         }
         Content::Instant => {
-            joined([vec![("instant", instant(answer.read(call)?)?)], label(labels::of(call))])
+            let given = answer.read(call)?;
+            let filled = vec![("instant", instant(given)?)];
+            joined([filled, label(labels::of(call)), umstellung(inquiry, given)?])
         }
         Content::GasDue => {
             let GasDue { kind: process, due } = answer.read(call)?;
@@ -92,6 +99,20 @@ fn kind(answer: &Answer, name: &str) -> Members {
 
 fn label(label: Option<&str>) -> Members {
     label.map(|label| ("label", Json::text(label))).into_iter().collect()
+}
+
+/// With a change day: whether its window has moved the due instant, from where, and the window.
+fn umstellung(inquiry: &Inquiry, due: Instant) -> Result<Members, Error> {
+    if inquiry.call != Call::ContrlDueAtChange {
+        return Ok(vec![]);
+    }
+    let Umstellung { from, to, otherwise } = Umstellung::of(&inquiry.question)?;
+    let window = Json::Object(vec![("from", instant(from)?), ("to", instant(to)?)]);
+    Ok(vec![
+        ("moved", Json::Bool(due != otherwise)),
+        ("due_before_tolerance", instant(otherwise)?),
+        ("window", window),
+    ])
 }
 
 /// None has no shape. A `TooLate` has whether its date is acceptable, and which dates are.

@@ -31,6 +31,7 @@ pub fn of(inquiry: &Inquiry, answer: &Answer) -> Result<String, Error> {
         Call::BerlinDate => berlin::day(inquiry, answer.read(call)?),
         Call::TagDesBeginns => berlin::day_begun(inquiry, answer.read(call)?),
         Call::ContrlDueAt => fristen::contrl(inquiry, answer.read(call)?),
+        Call::ContrlDueAtChange => fristen::contrl_change(inquiry, answer.read(call)?),
         Call::AperakStromDueAt => fristen::strom(inquiry, answer.read(call)?, "UTILMD oder ORDERS"),
         Call::AperakStromAllgemeinDueAt => {
             fristen::strom(inquiry, answer.read(call)?, "eine andere Nachricht")

@@ -35,7 +35,7 @@ impl Usage {
     /// The same on one line, of a line of a file.
     pub fn of_line(&self, line: u64) -> String {
         let message = &self.message;
-        let form = self.command.map(|command| format!(" (Aufbau: {})", command.usage()));
+        let form = self.command.map(|command| format!(" (Aufbau: {})", command.usage_in_line()));
         format!("fristen: Zeile {line}: {message}{}\n", form.unwrap_or_default())
     }
 }

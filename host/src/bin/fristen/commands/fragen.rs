@@ -9,9 +9,9 @@ pub const COMMANDS: [Command; 1] = [Command {
     operands: &[],
     summary: "beantwortet die Fragen einer Datei oder der Standardeingabe, je Zeile eine",
     meaning: "\
-Je Zeile eine Frage, in den Worten von contrl, frist, check oder span, mit Leerzeichen
-oder Tabulatoren dazwischen. Leere Zeilen und Zeilen, die mit # beginnen, werden
-übergangen. Ohne DATEI oder mit - wird die Standardeingabe gelesen.
+Je Zeile eine Frage, in den Worten von contrl, frist, check oder span und ohne Optionen,
+mit Leerzeichen oder Tabulatoren dazwischen. Leere Zeilen und Zeilen, die mit # beginnen,
+werden übergangen. Ohne DATEI oder mit - wird die Standardeingabe gelesen.
 
 Je Frage eine Zeile mit der Antwort, auch wenn die Frage abgelehnt wird; davor steht die
 Nummer der Zeile, in der gefragt wurde, bei --json als line. Eine Zeile, die sich nicht

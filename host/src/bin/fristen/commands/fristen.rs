@@ -1,7 +1,19 @@
 use crate::command::{Command, Task};
 use mako_fristen_host::{Call, Parameter};
 
-pub const COMMANDS: [Command; 12] = [
+/// The example of `contrl` with a change day.
+pub const MIT_STICHTAG: &str = "contrl Regelfall 2026-06-05T12:00:00+02:00 --stichtag 2026-06-06";
+
+/// Its output.
+pub const VERLEGT: &str = "\
+Eingang am Freitag, 5. Juni 2026, um 12:00 Uhr: Die CONTRL im Regelfall ist fällig am Sonntag, \
+7. Juni 2026, um 00:00 Uhr (contrl-delivery-window).
+Stichtag der Formatumstellung ist Samstag, der 6. Juni 2026; ihr Zeitraum geht von Freitag, \
+5. Juni 2026, 18:00 Uhr, bis Sonntag, 7. Juni 2026, 00:00 Uhr.
+Ohne Umstellung wäre die CONTRL fällig am Freitag, 5. Juni 2026, um 18:00 Uhr; das liegt in diesem \
+Zeitraum, also gilt sein Ende.";
+
+pub const COMMANDS: [Command; 13] = [
     Command {
         name: "contrl",
         task: Task::Ask(Call::ContrlDueAt),
@@ -10,10 +22,28 @@ pub const COMMANDS: [Command; 12] = [
         meaning: "ANLASS ist Regelfall (6 Stunden), StromUtilmdOderOrders (15 Minuten, bei Eingang an\n\
                   einem Samstag 6 Stunden) oder GasAlocat (45 Minuten). Was vom 31. März oder\n\
                   30. September 18:00 Uhr an fällig wäre und vor dem 2. April oder 2. Oktober\n\
-                  00:00 Uhr, ist es dann (CONTRL AHB 1.0).",
+                  00:00 Uhr, ist es dann (CONTRL AHB 1.0).\n\
+                  --stichtag nennt den Tag einer verlegten Formatumstellung. Dann gibt es nur einen\n\
+                  Zeitraum: Was von 18:00 Uhr des Vortags an fällig wäre und vor 00:00 Uhr des\n\
+                  Folgetags, ist es dann. Dasselbe ohne Option: contrl-due-at-change.",
         example: "contrl Regelfall 2026-03-31T11:59:59+02:00",
         output: "Eingang am Dienstag, 31. März 2026, um 11:59:59 Uhr: Die CONTRL im Regelfall ist \
                  fällig am Dienstag, 31. März 2026, um 17:59:59 Uhr (contrl-delivery-window).",
+    },
+    Command {
+        name: "contrl-due-at-change",
+        task: Task::Ask(Call::ContrlDueAtChange),
+        operands: &[
+            (Parameter::Anlass, "ANLASS"),
+            (Parameter::Instant, "EINGANG"),
+            (Parameter::Date, "STICHTAG"),
+        ],
+        summary: "dasselbe mit dem Stichtag einer verlegten Formatumstellung",
+        meaning: "Die Antwort von contrl mit --stichtag. Den Zeitraum um den Stichtag hat „window“ in\n\
+                  --json; „from“ gehört dazu, „to“ nicht mehr. „moved“ sagt, ob er die Fälligkeit\n\
+                  verschiebt, „due_before_tolerance“, wann die CONTRL ohne ihn fällig wäre.",
+        example: "contrl-due-at-change Regelfall 2026-06-05T12:00:00+02:00 2026-06-06",
+        output: VERLEGT,
     },
     Command {
         name: "aperak-strom",

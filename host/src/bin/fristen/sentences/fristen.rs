@@ -1,6 +1,7 @@
-use crate::deutsch::{am, faellig, stunden, zeitpunkt};
+use crate::deutsch::{am, der, faellig, stunden, zeitpunkt};
 use crate::inquiry::Inquiry;
 use crate::labels;
+use crate::umstellung::Umstellung;
 use mako_fristen_host::{
     is_werktag, BerlinTime, Call, Clock, ContrlAnlass, Error, FristShape, GasDue, GasProzess,
     Instant, Refusal,
@@ -39,14 +40,37 @@ fn corner(shape: FristShape, received: BerlinTime, due: BerlinTime) -> Result<&'
 }
 
 pub fn contrl(inquiry: &Inquiry, due: Instant) -> Result<String, Error> {
+    let end = umstellung(BerlinTime::of(due)?);
+    Ok(contrl_due(inquiry, due)? + end)
+}
+
+/// The change day is read back, with its window and what that does to the due instant.
+pub fn contrl_change(inquiry: &Inquiry, due: Instant) -> Result<String, Error> {
+    let Umstellung { from, to, otherwise } = Umstellung::of(&inquiry.question)?;
+    let effect = match otherwise == due {
+        true => "An dieser Fälligkeit ändert er nichts.".to_owned(),
+        false => format!(
+            "Ohne Umstellung wäre die CONTRL fällig {}; das liegt in diesem Zeitraum, also gilt \
+             sein Ende.",
+            faellig(BerlinTime::of(otherwise)?)
+        ),
+    };
+    let (stichtag, due) = (der(inquiry.question.date), contrl_due(inquiry, due)?);
+    let (from, to) = (zeitpunkt(BerlinTime::of(from)?), zeitpunkt(BerlinTime::of(to)?));
+    Ok(format!(
+        "{due}\nStichtag der Formatumstellung ist {stichtag}; ihr Zeitraum geht von {from}, bis \
+         {to}.\n{effect}"
+    ))
+}
+
+fn contrl_due(inquiry: &Inquiry, due: Instant) -> Result<String, Error> {
     let anlass = ContrlAnlass::of_code(inquiry.question.code).ok_or(Refusal::UnknownCode)?;
     let message = match anlass {
         ContrlAnlass::Regelfall => "Die CONTRL im Regelfall",
         ContrlAnlass::StromUtilmdOderOrders => "Die CONTRL auf UTILMD oder ORDERS Strom",
         ContrlAnlass::GasAlocat => "Die CONTRL auf ALOCAT Gas",
     };
-    let end = umstellung(BerlinTime::of(due)?);
-    Ok(message_due(inquiry, message, due, labels::of(inquiry.call))? + end)
+    message_due(inquiry, message, due, labels::of(inquiry.call))
 }
 
 /// The midnight at which the tolerance of a Formatumstellung ends, moved there or not.
