@@ -84,20 +84,20 @@ pub fn contrl_due_at_answer(instant: Option<Moment>, code: u8) -> Result<Answer,
     due_answer(0, fristen::contrl_due_at(received, anlass))
 }
 
-/// When a CONTRL is due if the Formatumstellung is on a date of the caller's, its Stichtag: what is due from 18:00 of the
-/// day before and before 00:00 of the day after is due then. Stichtag 6 June 2026, Regelfall received on the 5th
-/// 11:59:59 Berlin: 17:59:59; received 12:00:00: 7 June 00:00. The Stichtag goes before the instant's limits; refusal 8
-/// also for the calendar's first day and its last.
+/// When a CONTRL is due if the Formatumstellung is on a date of the caller's, the change day: what is due from 18:00 of
+/// the day before and before 00:00 of the day after is due then. With 6 June 2026, Regelfall received on the 5th
+/// 11:59:59 Berlin is due 17:59:59; received 12:00:00, 7 June 00:00. The change day goes before the instant's limits;
+/// refusal 8 also for the calendar's first day and its last.
 #[tactic(auto, unfolding(crate::specs::Frist::contrl_due_at_change_answer))]
 pub fn contrl_due_at_change_answer(
     instant: Option<Moment>,
     code: u8,
-    stichtag: Date,
+    change_day: Date,
 ) -> Result<Answer, Refusal>
-    ensures { result ≡ contrl_due_at_change_answer instant code stichtag }
+    ensures { result ≡ contrl_due_at_change_answer instant code change_day }
 {
     let anlass = anlass_of(code)?;
-    let day = datum::index_of(stichtag).ok_or(Refusal::NoDate)?;
+    let day = datum::index_of(change_day).ok_or(Refusal::NoDate)?;
     let received = instant.ok_or(Refusal::InstantOutside)?;
     due_answer(0, fristen::contrl_due_at_change(received, anlass, day))
 }

@@ -63,7 +63,7 @@ unfolding contrl_due_at contrl_seconds instant_later in_limits formatumstellung_
     berlin_midnight berlin_at offset_at year_at last_sunday date_of date_in at start year_len days_in_month is_leap
 contrl_days = refl
 
--- Stichtag Saturday 6 June 2026, day 11114: received on the 5th 11:59:59 and 12:00:00, and on the 6th 17:59:59 and
+-- Change day Saturday 6 June 2026, day 11114: received on the 5th 11:59:59 and 12:00:00, and on the 6th 17:59:59 and
 -- 18:00:00, due on the 5th 17:59:59, and on the 7th 00:00 three times; 30 September 12:00:00, due 18:00:00
 pub change_window :
     contrl_due_at_change (m 1780653599) Regelfall 11114 ∷ contrl_due_at_change (m 1780653600) Regelfall 11114
@@ -76,7 +76,7 @@ unfolding contrl_due_at_change day_after contrl_seconds instant_later in_limits 
     berlin_midnight berlin_at offset_at year_at last_sunday date_of date_in at start year_len days_in_month is_leap
 change_window = refl
 
--- Stichtag Sunday 29 March 2026, day 11045, and 25 October, day 11255: the window has 29 hours and 31, from Saturday
+-- Change day Sunday 29 March 2026, day 11045, and 25 October, day 11255: the window has 29 hours and 31, from Saturday
 -- 18:00 to Monday 00:00; a second before each end and at it
 pub switch_sundays :
     contrl_due_at_change (m 1774695599) Regelfall 11045 ∷ contrl_due_at_change (m 1774695600) Regelfall 11045

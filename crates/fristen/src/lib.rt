@@ -137,24 +137,24 @@ pub fn contrl_due_at(received: Moment, anlass: ContrlAnlass) -> Result<Moment, N
     Ok(formatumstellung_toleranz(due))
 }
 
-/// When it is due if the Formatumstellung is on another day, its Stichtag: document 02, F-7. 'the window runs from 18:00
-/// of the day before to 00:00 of the day after, and no other window exists in that call'. Outside for the calendar's
-/// first day and its last, since there is no day before the one and none after the other.
+/// When it is due if the Formatumstellung is on another day, the change day of document 02, F-7: 'the window runs from
+/// 18:00 of the day before to 00:00 of the day after, and no other window exists in that call'. Outside for the
+/// calendar's first day and its last, since there is no day before the one and none after the other.
 ///
-/// Regelfall, Stichtag 1 July 2026, received 30 June 11:59:59 Berlin: 17:59:59. Received 12:00:00: 2 July 00:00.
+/// Regelfall, change day 1 July 2026, received 30 June 11:59:59 Berlin: 17:59:59. Received 12:00:00: 2 July 00:00.
 #[tactic(auto, unfolding(crate::specs::Fristen::contrl_due_at_change, zaehlung::specs::Walk::day_after))]
 pub fn contrl_due_at_change(
     received: Moment,
     anlass: ContrlAnlass,
-    stichtag: u32,
+    change_day: u32,
 ) -> Result<Moment, NoDue>
-    ensures { result ≡ contrl_due_at_change received anlass stichtag }
+    ensures { result ≡ contrl_due_at_change received anlass change_day }
 {
-    if stichtag == 0 || LAST <= stichtag {
+    if change_day == 0 || LAST <= change_day {
         return Err(NoDue::Outside);
     }
     let due = before_tolerance(received, anlass)?;
-    Ok(toleranz(due, stichtag - 1, stichtag + 1))
+    Ok(toleranz(due, change_day - 1, change_day + 1))
 }
 
 /// Whether an instant lies in the window from 18:00 of one day to the midnight that begins the other.

@@ -51,10 +51,10 @@ pub fn mf_contrl_due_at_change(
         (contrl_due_at_change_answer (read_instant seconds nanos) anlass (date_from year month day)) }
 {
     let instant = berlin::read_instant(seconds, nanos);
-    let stichtag = Date { year, month, day };
+    let change_day = Date { year, month, day };
     antwortsatz::reply_with(
         answer,
-        || antworten_frist::contrl_due_at_change_answer(instant, anlass, stichtag),
+        || antworten_frist::contrl_due_at_change_answer(instant, anlass, change_day),
     )
 }
 
