@@ -37,7 +37,8 @@ use Rattle.berlin.specs.declared.Moment.{Moment}
 unfoldable pub contrl_due_at_answer : Option Moment → ℕ → Result Answer Refusal
 contrl_due_at_answer k x = on_code anlaesse x (λ a. on_instant k (λ m. due_answer 0 (contrl_due_at m a)))
 
--- F-7: 'Checks: 3 for the change day, before 4; 8 also where the day before or after the change day leaves the calendar'
+-- F-7: 'Checks: 3 for the change day, before 4; 8 also where the day before or after the change day leaves the
+-- calendar'
 unfoldable pub contrl_due_at_change_answer : Option Moment → ℕ → Date → Result Answer Refusal
 contrl_due_at_change_answer k x t =
     on_code anlaesse x

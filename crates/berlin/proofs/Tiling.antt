@@ -1,5 +1,5 @@
--- When the Berlin clock comes to a time: no instant before then shows it or a later one, every instant from then on does.
--- So days tile the time line.
+-- When the Berlin clock comes to a time: no instant before then shows it or a later one, every instant from then on
+-- does. So days tile the time line.
 --   ComesTo l m    the Berlin clock comes to l at second m
 --   comes_to       that is so of the instant that shows l, if it is a time that is never absent or repeated
 --   midnight_begins   so a day begins at `berlin_midnight`

@@ -6,8 +6,8 @@
 --   repeated     it is repeated exactly from 02:00 to before 03:00 of the last Sunday of October
 --   tiling       'Consecutive days tile the timeline without gap or overlap' (lib.rs); end_of_day 'the last moment of
 --                `date`'
---   before_midnight  an instant is before a midnight exactly if the clock shows an earlier day; before_clock  and before
---                a full second that is never absent or repeated exactly if it shows an earlier time
+--   before_midnight  an instant is before a midnight exactly if the clock shows an earlier day
+--   before_clock     and before a full second that is never absent or repeated, exactly if it shows an earlier time
 --   switch_days  the clock changes on Sundays
 -- Assumes nothing.
 use Prim.Native.Nat.{ℕ, suc, ◌+◌, ◌-◌, ◌≤◌, ◌<◌}

@@ -35,7 +35,7 @@ use Rattle.datum.proofs.Dates.{valid_is, index_below, index_date}
 use Rattle.berlin.specs.declared.Moment.{Moment}
 use Rattle.berlin.specs.Berlin.{hours, day_start, moment_of, seconds_of, is_before, in_limits, berlin_clock}
 use Rattle.berlin.specs.Berlin.{berlin_date, berlin_at, on_resolved, berlin_midnight}
-use Rattle.berlin.specs.Inside.{Proper}
+use Rattle.berlin.specs.Inside.{Proper, ProperClock}
 use Rattle.berlin.proofs.SummerTime.{start_3, start_10}
 use Rattle.berlin.proofs.LocalTime.{clock_from, clock_to}
 use Rattle.berlin.proofs.Proper.{proper_clock, limits_hold, never_absent, midnight_earliest, day_le}
@@ -51,6 +51,9 @@ use Rattle.fristen.proofs.Rules.{october_2}
 abbrev pub Shown : ℕ → ℕ → Moment → Type 0
 Shown a b o = (day_start a + hours 18 ≤ berlin_clock (seconds_of o)) × (berlin_clock (seconds_of o) < day_start b)
 
+opens_proper : ProperClock window_opens
+opens_proper = proper_clock _ (omega arith) (omega arith)
+
 module _ (a b : ℕ) (h : a ≤ last) (k : b ≤ last) (o : Moment) where
   abbrev t : ℕ
   t = berlin_clock (seconds_of o)
@@ -60,9 +63,8 @@ module _ (a b : ℕ) (h : a ≤ last) (k : b ≤ last) (o : Moment) where
       (r : Option Moment) → berlin_at a window_opens ≡ r →
       on_resolved false r (λ v. not (is_before o v)) ≡ not (ltb t (day_start a + 64800))
   opened (Some v) e =
-      ap not (before_clock a window_opens o v h (proper_clock _ (omega arith) (omega arith)) refl (λ x y. omega arith) e)
-  opened None e =
-      absurd (never_absent a window_opens None h (proper_clock _ (omega arith) (omega arith)) (omega arith) (sym e) refl)
+      ap not (before_clock a window_opens o v h opens_proper refl (λ x y. omega arith) e)
+  opened None e = absurd (never_absent a window_opens None h opens_proper (omega arith) (sym e) refl)
 
   by_clock : in_window a b o ≡ (not (ltb t (day_start a + 64800)) && ltb t (day_start b))
   unfolding in_window
