@@ -34,10 +34,10 @@ pub fn mf_contrl_due_at(seconds: i64, nanos: u32, anlass: u8, answer: &mut [u8])
 }
 
 /// When a CONTRL is due if the Formatumstellung is on another day than 1 April or 1 October: "the window runs from
-/// 18:00 of the day before to 00:00 of the day after, and no other window exists in that call". What is due in it is due
-/// at its end: with 6 June 2026, a Regelfall received on the 5th 12:00:00 Berlin on the 7th 00:00, a second earlier on
-/// the 5th 17:59:59. The change day goes before the instant's limits: 3 before 4. "8 also where the day before or after
-/// the change day leaves the calendar."
+/// 18:00 of the day before to 00:00 of the day after, and no other window exists in that call". What is due in it is
+/// due at its end: with 6 June 2026, a Regelfall received on the 5th 12:00:00 Berlin on the 7th 00:00, a second
+/// earlier on the 5th 17:59:59. The change day goes before the instant's limits: 3 before 4. "8 also where the day
+/// before or after the change day leaves the calendar."
 pub fn mf_contrl_due_at_change(
     seconds: i64,
     nanos: u32,
