@@ -28,7 +28,8 @@ pub(super) fn contrl_due_at(question: &Question) -> Result<Answer, Refusal> {
     days::after(change_day)?;
     let at = before_the_tolerance(received, question.code);
     let original = mako_fristen::contrl_due_at(received, anlass(question.code));
-    assert_eq!(by_version_one(at), original, "received {received}, due {at} before the tolerance");
+    let found = by_version_one(at);
+    assert!(found == original, "by version one {found} is found, and the original has {original}");
     due(tolerated(at, change_day))
 }
 
