@@ -548,7 +548,9 @@ fn main() {
         "Anchors are 1 to 20 days later. The original has no span: its steps to the same ends."
     );
     println!("Its verdict has no margin: in the rows named so it takes the steps to that as well.");
-    println!("With a change day a CONTRL is a Regelfall; the original has both of its own.");
+    println!(
+        "The CONTRL with a change day is a Regelfall; the original has two windows of its own."
+    );
     println!("The day test: ours tells why a day is closed, the original only whether.");
     println!("Files have 2048 questions in all, as many of each operation, mixed: per question.");
     println!("A count over 900 years whose answer has 31 bytes is refused with 1.");
