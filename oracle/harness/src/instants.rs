@@ -73,17 +73,17 @@ pub static SWITCHES: LazyLock<Vec<Instant>> = LazyLock::new(|| {
     SWITCH_DAYS.iter().map(switch).collect()
 });
 
-/// The ends of the tolerance of every year: 31 March or 30 September 18:00 and 2 April or
-/// 2 October 00:00.
-pub static TOLERANCE_ENDS: LazyLock<Vec<Instant>> = LazyLock::new(|| {
+/// The ends of the tolerance of a change day: 18:00 of the day before and 00:00 of the day after.
+#[must_use]
+pub fn tolerance_ends(change_day: Date) -> [Instant; 2] {
     let six = Time::from_hms(18, 0, 0).expect("a clock time");
-    let of_year = |year| {
-        [
-            mako_fristen::berlin_at(date(year, Month::March, 31), six),
-            mako_fristen::berlin_midnight(date(year, Month::April, 2)),
-            mako_fristen::berlin_at(date(year, Month::September, 30), six),
-            mako_fristen::berlin_midnight(date(year, Month::October, 2)),
-        ]
-    };
-    years().flat_map(of_year).map(to_host).collect()
+    let opens = mako_fristen::berlin_at(change_day - Duration::DAY, six);
+    let closes = mako_fristen::berlin_midnight(change_day + Duration::DAY);
+    [opens, closes].map(to_host)
+}
+
+/// Those of every year, with 1 April and 1 October.
+pub static TOLERANCE_ENDS: LazyLock<Vec<Instant>> = LazyLock::new(|| {
+    let of_year = |year| [Month::April, Month::October].map(|month| date(year, month, 1));
+    years().flat_map(of_year).flat_map(tolerance_ends).collect()
 });

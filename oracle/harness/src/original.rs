@@ -1,6 +1,7 @@
 //! What the original answers to a question, in document 01's terms: the one place where an expected
 //! answer is made.
 
+mod change_day;
 mod margin;
 mod panics;
 mod portfolio;
@@ -177,6 +178,7 @@ fn answered(question: &Question, steps: Steps) -> Result<Answer, Refusal> {
         Call::VorlaufSpan => span::of_shape(question, steps),
         Call::AbmeldungFuer | Call::AbmeldungCheck => verdict::of_reason(question, steps),
         Call::EogAnkuendigungFristgerecht => verdict::of_announcement(question, steps),
+        Call::ContrlDueAtChange => change_day::contrl_due_at(question),
         _ => message_due(question),
     }
 }

@@ -3,6 +3,7 @@
 
 mod abmeldung;
 pub(crate) mod any;
+pub mod change_days;
 mod corners;
 pub mod files;
 mod instants;
@@ -77,6 +78,7 @@ pub fn rows(seed: u64, random: u64) -> Vec<Row> {
     rows.extend(instants::rows(seed, random));
     rows.extend(vorlauf::rows(seed, random));
     rows.extend(abmeldung::rows(seed, random));
+    rows.extend(change_days::rows(seed, random));
     rows.extend(Call::ALL.into_iter().flat_map(corners::rows));
     rows
 }

@@ -6,7 +6,7 @@ use harness::days::{self, DAYS};
 use harness::options::{self, DEFAULT_SEED};
 use harness::original::{self, werktage_before, ENDS};
 use harness::random::Random;
-use harness::rows::{self, margins, Row};
+use harness::rows::{self, change_days, margins, Row};
 use harness::run::hex;
 use mako_fristen_host::{Answer, Call, Date, Question};
 use std::collections::HashSet;
@@ -90,12 +90,13 @@ fn draw(
 }
 
 /// For the day test, the ends of each set of days alike. So every reason is there, holidays on a
-/// weekend, two holidays on one date, and both edges of the calendar.
+/// weekend, two holidays on one date, and both edges of the calendar. For a change day, those of note.
 fn always(call: Call) -> Vec<Question> {
     match call {
         Call::IsWerktag => {
             ENDS.iter().map(|&index| Question::on(call, days::date(index))).collect()
         }
+        Call::ContrlDueAtChange => change_days::of_note(),
         _ => Vec::new(),
     }
 }

@@ -224,7 +224,7 @@ fn lists_lie_where_numbers_may() {
 
 #[test]
 fn cases_are_of_every_call_place_and_length() {
-    let cases: Vec<Case> = (0..3100).map(|place| Case::at(1, place)).collect();
+    let cases: Vec<Case> = (0..3200).map(|place| Case::at(1, place)).collect();
     assert!(Call::ALL.iter().all(|&call| cases.iter().any(|case| case.question.call == call)));
     let rounds = || cases.iter().flat_map(|case| &case.rounds);
     assert!((0..71).all(|len| rounds().any(|round| round.content.len() == len)));

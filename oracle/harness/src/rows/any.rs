@@ -251,7 +251,7 @@ fn unknown_code(parameter: Parameter, random: &mut Random) -> u8 {
 }
 
 /// Numbers of a date, each by its limits or any.
-fn any_numbers(random: &mut Random) -> Date {
+pub(super) fn any_numbers(random: &mut Random) -> Date {
     let year = match random.below(4) {
         0 => random.number() as u16,
         1 => random.one_of(&[0, 1995, 1996, 2899, 2900, 9999, u16::MAX]),
@@ -371,7 +371,8 @@ mod tests {
         numbers.extend((call == Call::BerlinAt).then_some(6));
         numbers
             .extend((call == Call::TagDesBeginns || takes(Parameter::SecondInstant)).then_some(7));
-        numbers.extend((takes(Parameter::Count)).then_some(8));
+        let leaves = takes(Parameter::Count) || call == Call::ContrlDueAtChange;
+        numbers.extend(leaves.then_some(8));
         numbers
     }
 

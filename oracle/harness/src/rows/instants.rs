@@ -1,6 +1,6 @@
 //! The calls that take an instant: the days of instants, and due instants.
 
-use super::{both_ways, corners, far, kalender, uhr, vorlauf, Row};
+use super::{both_ways, change_days, corners, far, kalender, uhr, vorlauf, Row};
 use crate::days::{self, DAYS};
 use crate::instants::{self, moved, SWITCHES, TOLERANCE_ENDS};
 use crate::original;
@@ -178,7 +178,7 @@ fn spread(random: &mut Random, bound: i64) -> i64 {
     (random.number() >> 1) as i64 % bound
 }
 
-fn within(instant: Instant, bound: i64, random: &mut Random) -> Instant {
+pub(super) fn within(instant: Instant, bound: i64, random: &mut Random) -> Instant {
     let by = spread(random, bound);
     moved(instant, if random.below(2) == 0 { by } else { -by })
 }
@@ -188,6 +188,7 @@ pub(super) fn filled(call: Call, instant: Instant, random: &mut Random) -> Quest
     match call {
         Call::VorlaufCheckAt => return vorlauf::at_an_instant(instant, random),
         Call::EogAnkuendigungFristgerecht => return vorlauf::announced_at(instant, random),
+        Call::ContrlDueAtChange => return change_days::received_at(instant, random),
         _ => {}
     }
     let question = Question::at(call, instant);

@@ -215,7 +215,7 @@ fn by_the_first_werktag(call: Call, random: &mut Random) -> Question {
 }
 
 /// The index of the Berlin day; of any day if the instant lies outside.
-fn day_of(instant: Instant, random: &mut Random) -> u32 {
+pub(super) fn day_of(instant: Instant, random: &mut Random) -> u32 {
     match given(instant) {
         Ok(at) => days::index(mako_fristen::berlin_date(at)),
         Err(_) => kalender::any_index(random),

@@ -195,6 +195,7 @@ fn messages(mixed: &[(u32, u32)]) -> Vec<Case> {
         contrl(0, ContrlAnlass::Regelfall),
         contrl(1, ContrlAnlass::StromUtilmdOderOrders),
         contrl(2, ContrlAnlass::GasAlocat),
+        with_change_day(mixed),
         case(new(Call::AperakStromDueAt), "", mixed, |i| mako_fristen::aperak_strom_due_at(i.at)),
         case(new(Call::AperakStromAllgemeinDueAt), "", mixed, |i| {
             mako_fristen::aperak_strom_allgemein_due_at(i.at)
@@ -209,6 +210,17 @@ fn messages(mixed: &[(u32, u32)]) -> Vec<Case> {
             mako_fristen::aperak_gas_due_at(i.question.n, i.at)
         }),
     ]
+}
+
+/// The CONTRL with 1 April of the receipt's year as its change day. The original has 1 October as well.
+fn with_change_day(mixed: &[(u32, u32)]) -> Case {
+    let mut case = case(Question::new(Call::ContrlDueAtChange), "1 April", mixed, |i| {
+        mako_fristen::contrl_due_at(i.at, ContrlAnlass::Regelfall)
+    });
+    for input in &mut case.inputs {
+        input.question.date = Date { month: 4, day: 1, ..input.question.date };
+    }
+    case
 }
 
 fn after_an_instant(mixed: &[(u32, u32)]) -> Vec<Case> {
@@ -536,6 +548,9 @@ fn main() {
         "Anchors are 1 to 20 days later. The original has no span: its steps to the same ends."
     );
     println!("Its verdict has no margin: in the rows named so it takes the steps to that as well.");
+    println!(
+        "The CONTRL with a change day is a Regelfall; the original has two windows of its own."
+    );
     println!("The day test: ours tells why a day is closed, the original only whether.");
     println!("Files have 2048 questions in all, as many of each operation, mixed: per question.");
     println!("A count over 900 years whose answer has 31 bytes is refused with 1.");
