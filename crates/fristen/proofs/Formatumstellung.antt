@@ -25,12 +25,12 @@ use mathlib.Core.Path.{◌≡◌, refl, sym, ap, ◌∙◌}
 use native.Mathlib.Omega.{arith}
 use native.Mathlib.Decide.{dec_le, dec_lt}
 use lib.Dec.{ltb}
-use borrow.Author.Tests.{lt-ltb, le-ltb}
+use borrow.Author.Tests.{lt-ltb, le-ltb, le-leb}
 use Rattle.std.specs.Prelude.{Option, Some, None, Result, Ok, Err}
 use Rattle.std.proofs.lemmas.Grind.{common_steps}
 use Rattle.zaehlung.specs.Walk.{bit, last, day_after}
 use Rattle.zaehlung.specs.Blocks.{start}
-use Rattle.datum.specs.Calendar.{is_leap, days_in_month, month_start, date_of}
+use Rattle.datum.specs.Calendar.{is_leap, days_in_month, is_date, month_start, date_of}
 use Rattle.datum.proofs.Dates.{valid_is, index_below, index_date}
 use Rattle.berlin.specs.declared.Moment.{Moment}
 use Rattle.berlin.specs.Berlin.{hours, day_start, moment_of, seconds_of, is_before, in_limits, berlin_clock}
@@ -46,7 +46,6 @@ use Rattle.fristen.specs.declared.NoDue.TheVariants.{Outside}
 use Rattle.fristen.specs.Fristen.{window_opens, receipt_day, contrl_seconds, before_tolerance, instant_later}
 use Rattle.fristen.specs.Fristen.{day_on, in_window, toleranz, toleranz_in, formatumstellung_toleranz}
 use Rattle.fristen.specs.Fristen.{tolerated_due, contrl_due_at, contrl_due_at_change}
-use Rattle.fristen.proofs.Rules.{october_2}
 
 abbrev pub Shown : ℕ → ℕ → Moment → Type 0
 Shown a b o = (day_start a + hours 18 ≤ berlin_clock (seconds_of o)) × (berlin_clock (seconds_of o) < day_start b)
@@ -99,11 +98,20 @@ module _ (a b : ℕ) (h : a ≤ last) (k : b ≤ last) (o : Moment) where
   pub window_iff : (in_window a b o ≡ true) ↔ Shown a b o
   window_iff = (inside_shown, shown_inside)
 
+  -- so it lies in no window that ends by its Berlin day or begins after it
+  pub shut : Proper o → (b ≤ berlin_date o) ⊎ (berlin_date o < a) → in_window a b o ≡ false
+  shut p (inl q) = let c = clock_from (seconds_of o) p.from in not_shown (λ s. omega (arith, s.1))
+  shut p (inr q) = let c = clock_from (seconds_of o) p.from in not_shown (λ s. omega (arith, s.0))
+
 abbrev pub spring : ℕ → Moment → Bool
 spring y o = in_window (day_on y 3 31) (day_on y 4 2) o
 
 abbrev pub autumn : ℕ → Moment → Bool
 autumn y o = in_window (day_on y 9 30) (day_on y 10 2) o
+
+pub by_test : {P : Type 0} (b : Bool) → (b ≡ true → P) → (b ≡ false → P) → P
+by_test true f g = f refl
+by_test false f g = g refl
 
 -- the days before a month
 start_4 : (l : Bool) → month_start l 4 ≡ 90 + bit l
@@ -117,16 +125,20 @@ start_9 true = refl
 start_9 false = refl
 
 -- the days of both windows, side by side, spring's before autumn's
-record Days (y : ℕ) : Type 0 where
-  first : 1 ≤ day_on y 4 1
-  march : day_on y 4 1 ≡ suc (day_on y 3 31)
-  april : day_on y 4 2 ≡ suc (day_on y 4 1)
-  between : day_on y 4 2 ≤ day_on y 9 30
-  september : day_on y 10 1 ≡ suc (day_on y 9 30)
-  october : day_on y 10 2 ≡ suc (day_on y 10 1)
-  final : day_on y 10 2 ≤ last
+pub record Days (y : ℕ) : Type 0 where
+  pub first : 1 ≤ day_on y 4 1
+  pub march : day_on y 4 1 ≡ suc (day_on y 3 31)
+  pub april : day_on y 4 2 ≡ suc (day_on y 4 1)
+  pub between : day_on y 4 2 ≤ day_on y 9 30
+  pub september : day_on y 10 1 ≡ suc (day_on y 9 30)
+  pub october : day_on y 10 2 ≡ suc (day_on y 10 1)
+  pub final : day_on y 10 2 ≤ last
 
-days : (y : ℕ) → 1996 ≤ y → y ≤ 2899 → Days y
+october_2 : (y : ℕ) → 1996 ≤ y → y ≤ 2899 → is_date (record { year = y; month = 10; day = 2 }) ≡ true
+unfolding is_date days_in_month
+october_2 y h k = rw (le-leb 1996 y h, le-leb y 2899 k)
+
+pub days : (y : ℕ) → 1996 ≤ y → y ≤ 2899 → Days y
 days y h k =
     let c = start_3 (is_leap y) in
     let d = start_4 (is_leap y) in
@@ -169,6 +181,14 @@ module _ (y : ℕ) (h : 1996 ≤ y) (k : y ≤ 2899) (o : Moment) where
   pub by_none : spring y o ≡ false → autumn y o ≡ false → toleranz_in y o ≡ o
   unfolding toleranz_in
   by_none e f = rw (e, f)
+
+  pub spring_only : autumn y o ≡ false → toleranz_in y o ≡ toleranz (day_on y 3 31) (day_on y 4 2) o
+  spring_only f =
+      by_test (spring y o) (λ e. by_spring e ∙ rw e refl) (λ e. by_none e f ∙ rw e refl)
+
+  pub autumn_only : spring y o ≡ false → toleranz_in y o ≡ toleranz (day_on y 9 30) (day_on y 10 2) o
+  autumn_only e =
+      by_test (autumn y o) (λ f. by_autumn f ∙ rw f refl) (λ f. by_none e f ∙ rw f refl)
 
 module _ (m : Moment) (a : ContrlAnlass) (d : ℕ) where
   by_change :
@@ -213,10 +233,6 @@ module _ (m : Moment) (a : ContrlAnlass) (d : ℕ) where
   pub change_refused :
       (contrl_due_at_change m a d ≡ Err Outside) ↔ ((before_tolerance m a ≡ Err Outside) ⊎ ((d ≡ 0) ⊎ (last ≤ d)))
   change_refused = (refused_when, when_refused)
-
-by_test : {P : Type 0} (b : Bool) → (b ≡ true → P) → (b ≡ false → P) → P
-by_test true f g = f refl
-by_test false f g = g refl
 
 -- o is the due instant before the tolerance
 module _ (m : Moment) (p : Proper m) (a : ContrlAnlass) (o : Moment) (e : before_tolerance m a ≡ Ok o) where

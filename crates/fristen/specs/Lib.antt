@@ -1,2 +1,3 @@
 pub mod Fristen
 pub mod FristShape
+pub mod ByDate

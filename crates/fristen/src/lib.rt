@@ -8,12 +8,12 @@
 
 ghost use Rattle.std.specs.Prelude.{◌≡◌, ◌+◌, ◌*◌, ◌≤◌, ◌<◌};
 ghost use Rattle.zaehlung.specs.Walk.{last};
-ghost use Rattle.datum.specs.Calendar.{first_year, last_year};
 ghost use Rattle.werktag.specs.Werktag.{is_werktag};
 ghost use Rattle.berlin.specs.Berlin.{day_seconds};
 ghost use Rattle.fristen.specs.Fristen.{receipt_day, instant_later, clock_on, is_saturday, contrl_seconds};
 ghost use Rattle.fristen.specs.Fristen.{before_tolerance, contrl_due_at, contrl_due_at_change};
-ghost use Rattle.fristen.specs.Fristen.{in_window, toleranz, toleranz_in, formatumstellung_toleranz};
+ghost use Rattle.fristen.specs.Fristen.{in_window, toleranz, formatumstellung_toleranz};
+ghost use Rattle.fristen.specs.ByDate.{is_change_day, is_eve};
 ghost use Rattle.fristen.specs.Fristen.{aperak_strom_due_at, aperak_strom_allgemein_due_at};
 ghost use Rattle.fristen.specs.Fristen.{aperak_gas_folgeprozess_due_at, aperak_gas_initialprozess_due_at};
 ghost use Rattle.fristen.specs.Fristen.{is_initial, gas_prozess, aperak_gas_due_at, nth_werktag_on};
@@ -178,33 +178,35 @@ fn toleranz(due: Moment, von: u32, bis: u32) -> Moment
     due
 }
 
-/// The tolerance in a year.
-#[tactic(auto, using(crate::proofs::Rules::date_rules), unfolding(crate::specs::Fristen::toleranz_in))]
-fn toleranz_in(year: u16, due: Moment) -> Moment
-    requires { (first_year ≤ year) × (year ≤ last_year) }
-    ensures { result ≡ toleranz_in year due }
+/// Whether a date is a change day of version one: 1 April or 1 October.
+fn is_change_day(date: Date) -> bool
+    ensures { result ≡ is_change_day date }
 {
-    let on = |month: u8, day: u8| Date { year, month, day };
-    let spring = toleranz(
-        due,
-        datum::days_before(on(3, 31)),
-        datum::days_before(on(4, 2)),
-    );
-    toleranz(
-        spring,
-        datum::days_before(on(9, 30)),
-        datum::days_before(on(10, 2)),
-    )
+    date.day == 1 && (date.month == 4 || date.month == 10)
+}
+
+/// Whether it is the day before one.
+fn is_eve(date: Date) -> bool
+    ensures { result ≡ is_eve date }
+{
+    date.day == 31 && date.month == 3 || date.day == 30 && date.month == 9
 }
 
 /// 'Abweichungen von diesen Fristen sind von den Marktpartnern zu akzeptieren im Zeitraum der Formatumstellung': what
-/// is due in one is due at its end. Each lies in one year.
-#[tactic(auto, using(datum::proofs::Dates::index_date), unfolding(crate::specs::Fristen::formatumstellung_toleranz))]
+/// is due in one is due at its end. The date tells the one window in which an instant may lie.
+#[tactic(auto, using(crate::proofs::Rules::date_rules))]
 fn formatumstellung_toleranz(due: Moment) -> Moment
     ensures { result ≡ formatumstellung_toleranz due }
 {
-    let date = datum::date_of(berlin::berlin_date(due));
-    toleranz_in(date.year, due)
+    let day = berlin::berlin_date(due);
+    let date = datum::date_of(day);
+    if is_change_day(date) {
+        return toleranz(due, day - 1, day + 1);
+    }
+    if is_eve(date) {
+        return toleranz(due, day, day + 2);
+    }
+    due
 }
 
 /// APERAK AHB 1.1 Kap. 2.4.1: 'spätestens 45 Minuten nach Eingang der Übertragungsdatei'.
