@@ -2,9 +2,12 @@
 -- `contrl_due_at_change`, with the one of a change day d. o is the due instant before the tolerance, y its year.
 --   Shown a b o        at o the Berlin clock shows 18:00 of the day a or later, and no time of the day b yet
 --   window_iff         that is when o lies in the window from a to b
+--   shut               it does not where the window ends by its Berlin day or begins after that
 --   spring autumn      whether o lies in the window of 1 April, of 1 October
+--   Days days          the days of both, side by side
 --   apart              it lies in one at most
 --   by_spring by_autumn by_none    version one, in document 01's words
+--   spring_only autumn_only        outside of the one window it has the other alone
 --   change_refused     version two is refused exactly if the due instant is outside, or a day beside the change day
 --   moved stays        what is due in its window is due when that ends, and all else when it is
 --   on_change_day      so what is due on the change day is moved
@@ -109,7 +112,7 @@ spring y o = in_window (day_on y 3 31) (day_on y 4 2) o
 abbrev pub autumn : ℕ → Moment → Bool
 autumn y o = in_window (day_on y 9 30) (day_on y 10 2) o
 
-pub by_test : {P : Type 0} (b : Bool) → (b ≡ true → P) → (b ≡ false → P) → P
+by_test : {P : Type 0} (b : Bool) → (b ≡ true → P) → (b ≡ false → P) → P
 by_test true f g = f refl
 by_test false f g = g refl
 
@@ -126,7 +129,6 @@ start_9 false = refl
 
 -- the days of both windows, side by side, spring's before autumn's
 pub record Days (y : ℕ) : Type 0 where
-  pub first : 1 ≤ day_on y 4 1
   pub march : day_on y 4 1 ≡ suc (day_on y 3 31)
   pub april : day_on y 4 2 ≡ suc (day_on y 4 1)
   pub between : day_on y 4 2 ≤ day_on y 9 30
@@ -145,7 +147,6 @@ days y h k =
     let i = start_9 (is_leap y) in
     let j = start_10 (is_leap y) in
     record {
-      first = omega arith;
       march = omega arith;
       april = omega arith;
       between = omega arith;
@@ -189,6 +190,46 @@ module _ (y : ℕ) (h : 1996 ≤ y) (k : y ≤ 2899) (o : Moment) where
   pub autumn_only : spring y o ≡ false → toleranz_in y o ≡ toleranz (day_on y 9 30) (day_on y 10 2) o
   autumn_only e =
       by_test (autumn y o) (λ f. by_autumn f ∙ rw f refl) (λ f. by_none e f ∙ rw f refl)
+
+-- the two windows of version one, that of the change day d from b to c, and the other from v to w
+record TwoWindows (y : ℕ) (o : Moment) (d b c v w : ℕ) : Type 0 where
+  eve : d ≡ suc b
+  end : c ≡ suc d
+  end_inside : c ≤ last
+  from_inside : v ≤ last
+  to_inside : w ≤ last
+  both : in_window b c o ≡ true → in_window v w o ≡ true → ⊥
+  this : in_window v w o ≡ false → toleranz_in y o ≡ toleranz b c o
+  other : in_window v w o ≡ true → toleranz_in y o ≡ berlin_midnight w
+
+module _ (y : ℕ) (h : 1996 ≤ y) (k : y ≤ 2899) (o : Moment) where
+  of_april : TwoWindows y o (day_on y 4 1) (day_on y 3 31) (day_on y 4 2) (day_on y 9 30) (day_on y 10 2)
+  of_april =
+      let g = days y h k in
+      record {
+        eve = g.march;
+        end = g.april;
+        end_inside = omega (arith, g);
+        from_inside = omega (arith, g);
+        to_inside = g.final;
+        both = apart y h k o;
+        this = spring_only y h k o;
+        other = by_autumn y h k o;
+      }
+
+  of_october : TwoWindows y o (day_on y 10 1) (day_on y 9 30) (day_on y 10 2) (day_on y 3 31) (day_on y 4 2)
+  of_october =
+      let g = days y h k in
+      record {
+        eve = g.september;
+        end = g.october;
+        end_inside = g.final;
+        from_inside = omega (arith, g);
+        to_inside = omega (arith, g);
+        both = λ f s. apart y h k o s f;
+        this = autumn_only y h k o;
+        other = by_spring y h k o;
+      }
 
 module _ (m : Moment) (a : ContrlAnlass) (d : ℕ) where
   by_change :
@@ -283,24 +324,6 @@ module _ (m : Moment) (p : Proper m) (a : ContrlAnlass) (o : Moment) (e : before
   unfolding contrl_due_at formatumstellung_toleranz
   version_one = rw e refl
 
-  by_april : contrl_due_at_change m a (day_on y 4 1) ≡ Ok (toleranz (day_on y 3 31) (day_on y 4 2) o)
-  by_april =
-      let g = days y from to in
-      let v : day_on y 4 1 - 1 ≡ day_on y 3 31 = omega (arith, g) in
-      by_change m a (day_on y 4 1) g.first (omega (arith, g)) ∙ rw (e, v, sym g.april) refl
-
-  by_october : contrl_due_at_change m a (day_on y 10 1) ≡ Ok (toleranz (day_on y 9 30) (day_on y 10 2) o)
-  by_october =
-      let g = days y from to in
-      let v : day_on y 10 1 - 1 ≡ day_on y 9 30 = omega (arith, g) in
-      by_change m a (day_on y 10 1) (omega (arith, g)) (omega (arith, g)) ∙ rw (e, v, sym g.october) refl
-
-  pub stays_in_autumn : autumn y o ≡ true → contrl_due_at_change m a (day_on y 4 1) ≡ Ok o
-  stays_in_autumn q = by_april ∙ by_test (spring y o) (λ s. absurd (apart y from to o s q)) (λ s. rw s refl)
-
-  pub stays_in_spring : spring y o ≡ true → contrl_due_at_change m a (day_on y 10 1) ≡ Ok o
-  stays_in_spring q = by_october ∙ by_test (autumn y o) (λ s. absurd (apart y from to o q s)) (λ s. rw s refl)
-
   -- no instant of a window is its end
   not_the_end :
       (b c : ℕ) (r : Result Moment NoDue) → b ≤ last → c ≤ last → in_window b c o ≡ true → r ≡ Ok o →
@@ -311,38 +334,50 @@ module _ (m : Moment) (p : Proper m) (a : ContrlAnlass) (o : Moment) (e : before
       let z : o ≡ berlin_midnight c = cc in
       omega (arith, s.1, v.shown, ap (λ (x : Moment). berlin_clock (seconds_of x)) z)
 
+  module _ (d b c v w : ℕ) (g : TwoWindows y o d b c v w) where
+    by_window : contrl_due_at_change m a d ≡ Ok (toleranz b c o)
+    by_window =
+        let z : d - 1 ≡ b = omega (arith, g) in
+        by_change m a d (omega (arith, g)) (omega (arith, g)) ∙ rw (e, z, sym g.end) refl
+
+    stays_in_other : in_window v w o ≡ true → contrl_due_at_change m a d ≡ Ok o
+    stays_in_other f = by_window ∙ by_test (in_window b c o) (λ s. absurd (g.both s f)) (λ s. rw s refl)
+
+    agree : (contrl_due_at_change m a d ≡ contrl_due_at m a) ↔ (in_window v w o ≡ false)
+    agree = (
+      λ r. by_test (in_window v w o)
+          (λ f.
+          absurd (not_the_end v w (contrl_due_at m a) g.from_inside g.to_inside f (sym r ∙ stays_in_other f)
+          (version_one ∙ ap Ok (g.other f))))
+          (λ f. f),
+      λ f. by_window ∙ sym (version_one ∙ ap Ok (g.this f)),
+    )
+
+    agree_inside : in_window b c o ≡ true → contrl_due_at_change m a d ≡ contrl_due_at m a
+    agree_inside s = agree.1 (by_test (in_window v w o) (λ f. absurd (g.both s f)) (λ f. f))
+
   pub spring_agree : (contrl_due_at_change m a (day_on y 4 1) ≡ contrl_due_at m a) ↔ (autumn y o ≡ false)
-  spring_agree = (
-    λ r. by_test (autumn y o)
-        (λ q.
-        absurd (not_the_end (day_on y 9 30) (day_on y 10 2) (contrl_due_at m a) (omega (arith, days y from to))
-        (days y from to).final q (sym r ∙ stays_in_autumn q) (version_one ∙ ap Ok (by_autumn y from to o q))))
-        (λ q. q),
-    λ q. by_april ∙ by_test (spring y o)
-        (λ s. rw s (sym (version_one ∙ ap Ok (by_spring y from to o s))))
-        (λ s. rw s (sym (version_one ∙ ap Ok (by_none y from to o s q)))),
-  )
+  spring_agree = agree _ _ _ _ _ (of_april y from to o)
 
   pub autumn_agree : (contrl_due_at_change m a (day_on y 10 1) ≡ contrl_due_at m a) ↔ (spring y o ≡ false)
-  autumn_agree = (
-    λ r. by_test (spring y o)
-        (λ q.
-        absurd (not_the_end (day_on y 3 31) (day_on y 4 2) (contrl_due_at m a) (omega (arith, days y from to))
-        (omega (arith, days y from to)) q (sym r ∙ stays_in_spring q) (version_one ∙ ap Ok (by_spring y from to o q))))
-        (λ q. q),
-    λ q. by_october ∙ by_test (autumn y o)
-        (λ s. rw s (sym (version_one ∙ ap Ok (by_autumn y from to o s))))
-        (λ s. rw s (sym (version_one ∙ ap Ok (by_none y from to o q s)))),
-  )
+  autumn_agree = agree _ _ _ _ _ (of_october y from to o)
 
   pub inside_spring : spring y o ≡ true → contrl_due_at_change m a (day_on y 4 1) ≡ contrl_due_at m a
-  inside_spring q = spring_agree.1 (by_test (autumn y o) (λ s. absurd (apart y from to o q s)) (λ s. s))
+  inside_spring s = agree_inside _ _ _ _ _ (of_april y from to o) s
 
   pub inside_autumn : autumn y o ≡ true → contrl_due_at_change m a (day_on y 10 1) ≡ contrl_due_at m a
-  inside_autumn q = autumn_agree.1 (by_test (spring y o) (λ s. absurd (apart y from to o s q)) (λ s. s))
+  inside_autumn s = agree_inside _ _ _ _ _ (of_october y from to o) s
+
+  pub stays_in_autumn : autumn y o ≡ true → contrl_due_at_change m a (day_on y 4 1) ≡ Ok o
+  stays_in_autumn f = stays_in_other _ _ _ _ _ (of_april y from to o) f
+
+  pub stays_in_spring : spring y o ≡ true → contrl_due_at_change m a (day_on y 10 1) ≡ Ok o
+  stays_in_spring f = stays_in_other _ _ _ _ _ (of_october y from to o) f
 
   pub outside :
       spring y o ≡ false → autumn y o ≡ false →
       (contrl_due_at_change m a (day_on y 4 1) ≡ Ok o) × (contrl_due_at_change m a (day_on y 10 1) ≡ Ok o)
       × (contrl_due_at m a ≡ Ok o)
-  outside q r = (by_april ∙ rw q refl, by_october ∙ rw r refl, version_one ∙ ap Ok (by_none y from to o q r))
+  outside s f =
+      let v : contrl_due_at m a ≡ Ok o = version_one ∙ ap Ok (by_none y from to o s f) in
+      (spring_agree.1 f ∙ v, autumn_agree.1 s ∙ v, v)
