@@ -206,8 +206,8 @@ pub const DUE: &[(&str, &str)] = &[
     ),
 ];
 
-/// A CONTRL with a change day: moved, and left where it is; by an end of the window, by a switch, and
-/// by the edges of the calendar.
+/// A CONTRL with a change day: moved, and left where it is; by an end of the window, in a window that
+/// only version one has, by a switch, and by the edges of the calendar.
 pub const CHANGE_DAYS: &[(&str, &str)] = &[
     (
         "--stichtag=2026-06-06 contrl Regelfall 2026-06-05T12:00:00+02:00",
@@ -249,7 +249,36 @@ pub const CHANGE_DAYS: &[(&str, &str)] = &[
          Dienstag, 31. März 2026, um 18:00 Uhr (contrl-delivery-window).\n\
          Stichtag der Formatumstellung ist Samstag, der 6. Juni 2026; ihr Zeitraum geht von Freitag, \
          5. Juni 2026, 18:00 Uhr, bis Sonntag, 7. Juni 2026, 00:00 Uhr.\n\
-         An dieser Fälligkeit ändert er nichts.",
+         An dieser Fälligkeit ändert er nichts.\n\
+         Den Zeitraum bis Donnerstag, 2. April 2026, 00:00 Uhr, gibt es mit diesem Stichtag nicht.",
+    ),
+    (
+        "contrl GasAlocat 2026-10-01T23:14:59+02:00 --stichtag 2026-04-01",
+        "Eingang am Donnerstag, 1. Oktober 2026, um 23:14:59 Uhr: Die CONTRL auf ALOCAT Gas ist fällig \
+         am Donnerstag, 1. Oktober 2026, um 23:59:59 Uhr (contrl-delivery-window).\n\
+         Stichtag der Formatumstellung ist Mittwoch, der 1. April 2026; ihr Zeitraum geht von \
+         Dienstag, 31. März 2026, 18:00 Uhr, bis Donnerstag, 2. April 2026, 00:00 Uhr.\n\
+         An dieser Fälligkeit ändert er nichts.\n\
+         Den Zeitraum bis Freitag, 2. Oktober 2026, 00:00 Uhr, gibt es mit diesem Stichtag nicht.",
+    ),
+    (
+        "contrl GasAlocat 2026-04-01T12:00:00+02:00 --stichtag 2026-03-31",
+        "Eingang am Mittwoch, 1. April 2026, um 12:00 Uhr: Die CONTRL auf ALOCAT Gas ist fällig am \
+         Mittwoch, 1. April 2026, um 12:45 Uhr (contrl-delivery-window).\n\
+         Stichtag der Formatumstellung ist Dienstag, der 31. März 2026; ihr Zeitraum geht von Montag, \
+         30. März 2026, 18:00 Uhr, bis Mittwoch, 1. April 2026, 00:00 Uhr.\n\
+         An dieser Fälligkeit ändert er nichts.\n\
+         Den Zeitraum bis Donnerstag, 2. April 2026, 00:00 Uhr, gibt es mit diesem Stichtag nicht.",
+    ),
+    (
+        "contrl GasAlocat 2026-03-31T20:00:00+02:00 --stichtag 2026-03-31",
+        "Eingang am Dienstag, 31. März 2026, um 20:00 Uhr: Die CONTRL auf ALOCAT Gas ist fällig am \
+         Mittwoch, 1. April 2026, um 00:00 Uhr (contrl-delivery-window).\n\
+         Stichtag der Formatumstellung ist Dienstag, der 31. März 2026; ihr Zeitraum geht von Montag, \
+         30. März 2026, 18:00 Uhr, bis Mittwoch, 1. April 2026, 00:00 Uhr.\n\
+         Ohne Umstellung wäre die CONTRL fällig am Dienstag, 31. März 2026, um 20:45 Uhr; das liegt in \
+         diesem Zeitraum, also gilt sein Ende.\n\
+         Den Zeitraum bis Donnerstag, 2. April 2026, 00:00 Uhr, gibt es mit diesem Stichtag nicht.",
     ),
     (
         "contrl Regelfall 2026-03-31T12:00:00+02:00 --stichtag 2026-04-01",

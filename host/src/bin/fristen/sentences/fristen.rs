@@ -3,8 +3,8 @@ use crate::inquiry::Inquiry;
 use crate::labels;
 use crate::umstellung::Umstellung;
 use mako_fristen_host::{
-    is_werktag, BerlinTime, Call, Clock, ContrlAnlass, Error, FristShape, GasDue, GasProzess,
-    Instant, Refusal,
+    contrl_due_at, is_werktag, BerlinTime, Call, Clock, ContrlAnlass, Error, FristShape, GasDue,
+    GasProzess, Instant, Refusal,
 };
 
 pub fn hours(inquiry: &Inquiry, to: Instant) -> Result<String, Error> {
@@ -55,17 +55,31 @@ pub fn contrl_change(inquiry: &Inquiry, due: Instant) -> Result<String, Error> {
             faellig(BerlinTime::of(otherwise)?)
         ),
     };
+    let shut = shut(inquiry, due, otherwise)?;
     let (stichtag, due) = (der(inquiry.question.date), contrl_due(inquiry, due)?);
     let (from, to) = (zeitpunkt(BerlinTime::of(from)?), zeitpunkt(BerlinTime::of(to)?));
     Ok(format!(
         "{due}\nStichtag der Formatumstellung ist {stichtag}; ihr Zeitraum geht von {from}, bis \
-         {to}.\n{effect}"
+         {to}.\n{effect}{shut}"
     ))
 }
 
+/// Where version one has a window about 1 April or 1 October that this call does not have.
+fn shut(inquiry: &Inquiry, due: Instant, otherwise: Instant) -> Result<String, Error> {
+    let version_one = contrl_due_at(inquiry.question.instant, anlass(inquiry)?)?;
+    if version_one == due || version_one == otherwise {
+        return Ok(String::new());
+    }
+    let end = zeitpunkt(BerlinTime::of(version_one)?);
+    Ok(format!("\nDen Zeitraum bis {end}, gibt es mit diesem Stichtag nicht."))
+}
+
+fn anlass(inquiry: &Inquiry) -> Result<ContrlAnlass, Error> {
+    Ok(ContrlAnlass::of_code(inquiry.question.code).ok_or(Refusal::UnknownCode)?)
+}
+
 fn contrl_due(inquiry: &Inquiry, due: Instant) -> Result<String, Error> {
-    let anlass = ContrlAnlass::of_code(inquiry.question.code).ok_or(Refusal::UnknownCode)?;
-    let message = match anlass {
+    let message = match anlass(inquiry)? {
         ContrlAnlass::Regelfall => "Die CONTRL im Regelfall",
         ContrlAnlass::StromUtilmdOderOrders => "Die CONTRL auf UTILMD oder ORDERS Strom",
         ContrlAnlass::GasAlocat => "Die CONTRL auf ALOCAT Gas",
