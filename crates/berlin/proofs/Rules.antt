@@ -17,7 +17,7 @@ use Rattle.berlin.specs.declared.Clock.{Clock}
 use Rattle.berlin.specs.Berlin.{day_start, moment_of, seconds_of, first_second, last_second, in_limits, read_instant}
 use Rattle.berlin.specs.Berlin.{last_sunday, offset_at, berlin_at}
 use Rattle.berlin.specs.Inside.{guessed_year}
-use Rattle.berlin.proofs.SummerTime.{start_3, start_10, guessed, summer_in, winter_late}
+use Rattle.berlin.proofs.SummerTime.{starts, guessed, summer_in, winter_late}
 use Rattle.berlin.proofs.LocalTime.{early, gap, late, at_two, at_one, at_none, clock_to}
 
 -- read_instant: seconds before 1970, or from then on a natural number
@@ -81,7 +81,7 @@ module _ (y n : ℕ) (e : n ≡ days_before (record { year = y; month = 3; day =
   unfolding last_sunday
   october_is b p =
       let q : n + 214 ≡ days_before (record { year = y; month = 10; day = 31 }) =
-      omega (arith, start_3 (is_leap y), start_10 (is_leap y)) in
+      omega (arith, starts (is_leap y)) in
       rw q at p
 
 pub ruleset switch_rules = (guess_valid, march_is, october_is)

@@ -32,15 +32,14 @@ back_days i = omega arith
 back_sunday : (i b : ℕ) → b ≡ (i % 7 + 1) % 7 → b ≤ i → (i - b) % 7 ≡ 6
 back_sunday i b e h = omega arith
 
-pub start_3 : (l : Bool) → month_start l 3 ≡ 59 + bit l
+-- the days before the months in which the clock changes, and in which a Formatumstellung begins or ends
+pub starts :
+    (l : Bool) →
+    (month_start l 3 ≡ 59 + bit l) × (month_start l 4 ≡ 90 + bit l) × (month_start l 9 ≡ 243 + bit l)
+    × (month_start l 10 ≡ 273 + bit l)
 unfolding start days_in_month
-start_3 true = refl
-start_3 false = refl
-
-pub start_10 : (l : Bool) → month_start l 10 ≡ 273 + bit l
-unfolding start days_in_month
-start_10 true = refl
-start_10 false = refl
+starts true = (refl, refl, refl, refl)
+starts false = (refl, refl, refl, refl)
 
 last_is :
     (y m : ℕ) → (i : ℕ) → days_before (record { year = y; month = m; day = 31 }) ≡ i → 6 ≤ i →
@@ -64,8 +63,7 @@ sundays k =
     let l : Bool = is_leap (1996 + k) in
     let z : 1996 + k - 1996 ≡ k = omega arith in
     let e = ap year_start z in
-    let a = start_3 l in
-    let b = start_10 l in
+    let a = starts l in
     let y = year_len_at (1996 + k) k refl in
     let n = start_suc year_len k in
     let v = year_len_bounds k in

@@ -5,6 +5,7 @@
 --   shut               it does not where the window ends by its Berlin day or begins after that
 --   spring autumn      whether o lies in the window of 1 April, of 1 October
 --   Days days          the days of both, side by side
+--   on dates           their dates, which every year has
 --   apart              it lies in one at most
 --   by_spring by_autumn by_none    version one, in document 01's words
 --   spring_only autumn_only        outside of the one window it has the other alone
@@ -31,15 +32,16 @@ use lib.Dec.{ltb}
 use borrow.Author.Tests.{lt-ltb, le-ltb, le-leb}
 use Rattle.std.specs.Prelude.{Option, Some, None, Result, Ok, Err}
 use Rattle.std.proofs.lemmas.Grind.{common_steps}
-use Rattle.zaehlung.specs.Walk.{bit, last, day_after}
-use Rattle.zaehlung.specs.Blocks.{start}
-use Rattle.datum.specs.Calendar.{is_leap, days_in_month, is_date, month_start, date_of}
+use Rattle.zaehlung.specs.Walk.{last, day_after}
+use Rattle.zaehlung.proofs.Every.{split}
+use Rattle.datum.specs.declared.Date.{Date}
+use Rattle.datum.specs.Calendar.{is_leap, days_in_month, is_date, date_of}
 use Rattle.datum.proofs.Dates.{valid_is, index_below, index_date}
 use Rattle.berlin.specs.declared.Moment.{Moment}
 use Rattle.berlin.specs.Berlin.{hours, day_start, moment_of, seconds_of, is_before, in_limits, berlin_clock}
 use Rattle.berlin.specs.Berlin.{berlin_date, berlin_at, on_resolved, berlin_midnight}
 use Rattle.berlin.specs.Inside.{Proper, ProperClock}
-use Rattle.berlin.proofs.SummerTime.{start_3, start_10}
+use Rattle.berlin.proofs.SummerTime.{starts}
 use Rattle.berlin.proofs.LocalTime.{clock_from, clock_to}
 use Rattle.berlin.proofs.Proper.{proper_clock, limits_hold, never_absent, midnight_earliest, day_le}
 use Rattle.berlin.proofs.Zeit.{before_midnight, before_clock}
@@ -112,21 +114,6 @@ spring y o = in_window (day_on y 3 31) (day_on y 4 2) o
 abbrev pub autumn : ℕ → Moment → Bool
 autumn y o = in_window (day_on y 9 30) (day_on y 10 2) o
 
-by_test : {P : Type 0} (b : Bool) → (b ≡ true → P) → (b ≡ false → P) → P
-by_test true f g = f refl
-by_test false f g = g refl
-
--- the days before a month
-start_4 : (l : Bool) → month_start l 4 ≡ 90 + bit l
-unfolding start days_in_month
-start_4 true = refl
-start_4 false = refl
-
-start_9 : (l : Bool) → month_start l 9 ≡ 243 + bit l
-unfolding start days_in_month
-start_9 true = refl
-start_9 false = refl
-
 -- the days of both windows, side by side, spring's before autumn's
 pub record Days (y : ℕ) : Type 0 where
   pub march : day_on y 4 1 ≡ suc (day_on y 3 31)
@@ -136,23 +123,30 @@ pub record Days (y : ℕ) : Type 0 where
   pub october : day_on y 10 2 ≡ suc (day_on y 10 1)
   pub final : day_on y 10 2 ≤ last
 
-october_2 : (y : ℕ) → 1996 ≤ y → y ≤ 2899 → is_date (record { year = y; month = 10; day = 2 }) ≡ true
+abbrev pub on : ℕ → ℕ → ℕ → Date
+on y m n = record { year = y; month = m; day = n }
+
+-- dates of every year of the calendar
+pub dates :
+    (y : ℕ) → 1996 ≤ y → y ≤ 2899 →
+    (is_date (on y 3 31) ≡ true) × (is_date (on y 4 1) ≡ true) × (is_date (on y 9 30) ≡ true)
+    × (is_date (on y 10 1) ≡ true) × (is_date (on y 10 2) ≡ true)
 unfolding is_date days_in_month
-october_2 y h k = rw (le-leb 1996 y h, le-leb y 2899 k)
+dates y h k =
+    let a = le-leb 1996 y h in
+    let b = le-leb y 2899 k in
+    (rw (a, b), rw (a, b), rw (a, b), rw (a, b), rw (a, b))
 
 pub days : (y : ℕ) → 1996 ≤ y → y ≤ 2899 → Days y
 days y h k =
-    let c = start_3 (is_leap y) in
-    let d = start_4 (is_leap y) in
-    let i = start_9 (is_leap y) in
-    let j = start_10 (is_leap y) in
+    let s = starts (is_leap y) in
     record {
       march = omega arith;
       april = omega arith;
       between = omega arith;
       september = omega arith;
       october = omega arith;
-      final = index_below _ (valid_is _ (october_2 y h k));
+      final = index_below _ (valid_is _ (dates y h k).4);
     }
 
 module _ (y : ℕ) (h : 1996 ≤ y) (k : y ≤ 2899) (o : Moment) where
@@ -185,11 +179,11 @@ module _ (y : ℕ) (h : 1996 ≤ y) (k : y ≤ 2899) (o : Moment) where
 
   pub spring_only : autumn y o ≡ false → toleranz_in y o ≡ toleranz (day_on y 3 31) (day_on y 4 2) o
   spring_only f =
-      by_test (spring y o) (λ e. by_spring e ∙ rw e refl) (λ e. by_none e f ∙ rw e refl)
+      split (spring y o) (λ e. by_spring e ∙ rw e refl) (λ e. by_none e f ∙ rw e refl)
 
   pub autumn_only : spring y o ≡ false → toleranz_in y o ≡ toleranz (day_on y 9 30) (day_on y 10 2) o
   autumn_only e =
-      by_test (autumn y o) (λ f. by_autumn f ∙ rw f refl) (λ f. by_none e f ∙ rw f refl)
+      split (autumn y o) (λ f. by_autumn f ∙ rw f refl) (λ f. by_none e f ∙ rw f refl)
 
 -- the two windows of version one, that of the change day d from b to c, and the other from v to w
 record TwoWindows (y : ℕ) (o : Moment) (d b c v w : ℕ) : Type 0 where
@@ -341,11 +335,11 @@ module _ (m : Moment) (p : Proper m) (a : ContrlAnlass) (o : Moment) (e : before
         by_change m a d (omega (arith, g)) (omega (arith, g)) ∙ rw (e, z, sym g.end) refl
 
     stays_in_other : in_window v w o ≡ true → contrl_due_at_change m a d ≡ Ok o
-    stays_in_other f = by_window ∙ by_test (in_window b c o) (λ s. absurd (g.both s f)) (λ s. rw s refl)
+    stays_in_other f = by_window ∙ split (in_window b c o) (λ s. absurd (g.both s f)) (λ s. rw s refl)
 
     agree : (contrl_due_at_change m a d ≡ contrl_due_at m a) ↔ (in_window v w o ≡ false)
     agree = (
-      λ r. by_test (in_window v w o)
+      λ r. split (in_window v w o)
           (λ f.
           absurd (not_the_end v w (contrl_due_at m a) g.from_inside g.to_inside f (sym r ∙ stays_in_other f)
           (version_one ∙ ap Ok (g.other f))))
@@ -354,7 +348,7 @@ module _ (m : Moment) (p : Proper m) (a : ContrlAnlass) (o : Moment) (e : before
     )
 
     agree_inside : in_window b c o ≡ true → contrl_due_at_change m a d ≡ contrl_due_at m a
-    agree_inside s = agree.1 (by_test (in_window v w o) (λ f. absurd (g.both s f)) (λ f. f))
+    agree_inside s = agree.1 (split (in_window v w o) (λ f. absurd (g.both s f)) (λ f. f))
 
   pub spring_agree : (contrl_due_at_change m a (day_on y 4 1) ≡ contrl_due_at m a) ↔ (autumn y o ≡ false)
   spring_agree = agree _ _ _ _ _ (of_april y from to o)

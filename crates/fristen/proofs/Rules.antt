@@ -12,8 +12,7 @@ use native.Mathlib.Decide.{dec_le, dec_lt}
 use Rattle.std.proofs.lemmas.Grind.{common_steps}
 use Rattle.zaehlung.specs.Walk.{last}
 use Rattle.datum.specs.declared.Date.{Date}
-use borrow.Author.Tests.{le-leb}
-use Rattle.datum.specs.Calendar.{days_in_month, is_date, date_of}
+use Rattle.datum.specs.Calendar.{is_date, date_of}
 use Rattle.datum.proofs.Dates.{valid_is, date_index, index_date}
 use Rattle.berlin.specs.declared.Moment.{Moment}
 use Rattle.berlin.specs.Berlin.{berlin_date}
@@ -21,24 +20,8 @@ use Rattle.berlin.specs.Inside.{Proper}
 use Rattle.berlin.proofs.Proper.{day_le}
 use Rattle.fristen.specs.Fristen.{day_on, toleranz, formatumstellung_toleranz}
 use Rattle.fristen.specs.ByDate.{is_change_day, is_eve}
-use Rattle.fristen.proofs.Formatumstellung.{shut, spring, autumn, Days, days, by_none, spring_only, autumn_only}
-
-module _ (y : ℕ) (h : 1996 ≤ y) (k : y ≤ 2899) where
-  march_31 : is_date (record { year = y; month = 3; day = 31 }) ≡ true
-  unfolding is_date days_in_month
-  march_31 = rw (le-leb 1996 y h, le-leb y 2899 k)
-
-  april_1 : is_date (record { year = y; month = 4; day = 1 }) ≡ true
-  unfolding is_date days_in_month
-  april_1 = rw (le-leb 1996 y h, le-leb y 2899 k)
-
-  september_30 : is_date (record { year = y; month = 9; day = 30 }) ≡ true
-  unfolding is_date days_in_month
-  september_30 = rw (le-leb 1996 y h, le-leb y 2899 k)
-
-  october_1 : is_date (record { year = y; month = 10; day = 1 }) ≡ true
-  unfolding is_date days_in_month
-  october_1 = rw (le-leb 1996 y h, le-leb y 2899 k)
+use Rattle.fristen.proofs.Formatumstellung.{shut, spring, autumn, Days, days, on, dates, by_none}
+use Rattle.fristen.proofs.Formatumstellung.{spring_only, autumn_only}
 
 change_parts : (d : Date) → is_change_day d ≡ true → (d.day ≡ 1) × ((d.month ≡ 4) ⊎ (d.month ≡ 10))
 change_parts d e = grind (arith, common_steps)
@@ -80,16 +63,13 @@ module _ (i : ℕ) (h : i ≤ last) where
   pub eve_inside : is_eve (d i) ≡ true → i + 2 ≤ last
   eve_inside e = ⊎_elim (λ q. omega (arith, g)) (λ q. omega (arith, g)) (eve e)
 
-  abbrev on : ℕ → ℕ → Date
-  on m n = record { year = y i; month = m; day = n }
-
-  dated : (m n : ℕ) → is_date (on m n) ≡ true → day_on (y i) m n ≡ i → d i ≡ on m n
+  dated : (m n : ℕ) → is_date (on (y i) m n) ≡ true → day_on (y i) m n ≡ i → d i ≡ on (y i) m n
   dated m n t q = sym (ap date_of q) ∙ date_index _ (valid_is _ t)
 
   -- off both days of a window, the second of which is the first of the month k
   off :
-      (m n k : ℕ) → is_date (on m n) ≡ true → is_eve (on m n) ≡ true → is_date (on k 1) ≡ true →
-      is_change_day (on k 1) ≡ true → day_on (y i) k 1 ≡ suc (day_on (y i) m n) → is_change_day (d i) ≡ false →
+      (m n k : ℕ) → is_date (on (y i) m n) ≡ true → is_eve (on (y i) m n) ≡ true → is_date (on (y i) k 1) ≡ true →
+      is_change_day (on (y i) k 1) ≡ true → day_on (y i) k 1 ≡ suc (day_on (y i) m n) → is_change_day (d i) ≡ false →
       is_eve (d i) ≡ false → (suc (day_on (y i) k 1) ≤ i) ⊎ (i < day_on (y i) m n)
   off m n k t u v w q e f =
       elim (dec_lt i (day_on (y i) m n)) [
@@ -159,8 +139,9 @@ module _ (o : Moment) (p : Proper o) where
       let g = g at inside in
       let h = from at inside in
       let k = to at inside in
+      let t = dates (y at) h k in
       by_none (y at) h k o
-      (spring_off (off at inside 3 31 4 (march_31 (y at) h k) refl (april_1 (y at) h k) refl g.march e f))
-      (autumn_off (off at inside 9 30 10 (september_30 (y at) h k) refl (october_1 (y at) h k) refl g.september e f))
+      (spring_off (off at inside 3 31 4 t.0 refl t.1 refl g.march e f))
+      (autumn_off (off at inside 9 30 10 t.2 refl t.3 refl g.september e f))
 
 pub ruleset date_rules = (change_inside, eve_inside, on_the_day, on_the_eve, elsewhere)
