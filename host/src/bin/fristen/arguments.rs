@@ -8,7 +8,22 @@ pub enum Form {
     Sentence,
     Json,
     Bytes,
+    /// The bare value.
+    Short,
 }
+
+/// All of them.
+pub const OPTIONS: [&str; 9] = [
+    "--json",
+    "--kurz",
+    "--bytes",
+    "--status",
+    "--eeg",
+    "--stichtag",
+    "--roh",
+    "--help",
+    "--version",
+];
 
 /// The arguments, options apart from the others.
 #[derive(Debug, Default)]
@@ -17,6 +32,9 @@ pub struct Arguments {
     /// Records in and out, instead of any form.
     pub raw: bool,
     pub help: bool,
+    pub version: bool,
+    /// Whether a verdict is to be an exit status too.
+    pub status: bool,
     pub eeg: Option<OsString>,
     pub stichtag: Option<OsString>,
     /// What is no option, or stands behind `--`.
@@ -36,8 +54,11 @@ impl Arguments {
                     left.by_ref().for_each(|word| read.word(word));
                 }
                 Some(("-h" | "--help", None)) => read.help = true,
+                Some(("--version", None)) => read.version = true,
                 Some(("--json", None)) => read.form(Form::Json)?,
                 Some(("--bytes", None)) => read.form(Form::Bytes)?,
+                Some(("--kurz", None)) => read.form(Form::Short)?,
+                Some(("--status", None)) => read.status = true,
                 Some(("--roh", None)) => read.raw = true,
                 Some((option @ ("--eeg" | "--stichtag"), Some(value))) => {
                     read.value(option, Some(value.into()))?;
@@ -50,7 +71,7 @@ impl Arguments {
                     read.given.extend(value);
                 }
                 _ if is_option(&argument) => {
-                    return Err(Usage::new(format!("unbekannte Option {}", quoted(&argument))));
+                    return Err(Usage::unknown("unbekannte Option", &argument, OPTIONS));
                 }
                 _ => read.word(argument),
             }
@@ -80,7 +101,7 @@ impl Arguments {
 
     fn form(&mut self, form: Form) -> Result<(), Usage> {
         if self.form != Form::Sentence && self.form != form {
-            return Err(Usage::new("erwartet --json oder --bytes, nicht beide"));
+            return Err(Usage::new("erwartet nur eines von --json, --bytes und --kurz"));
         }
         self.form = form;
         Ok(())
@@ -90,7 +111,7 @@ impl Arguments {
     fn value(&mut self, option: &str, value: Option<OsString>) -> Result<(), Usage> {
         let (place, expected) = match option {
             "--eeg" => (&mut self.eeg, "ja, nein oder unbekannt"),
-            _ => (&mut self.stichtag, "ein Datum wie 2026-04-02"),
+            _ => (&mut self.stichtag, "ein Datum wie 2026-04-02 oder 2.4.2026"),
         };
         let missing = || Usage::new(format!("erwartet {expected} nach {option}"));
         let value = value.ok_or_else(missing)?;

@@ -1,10 +1,8 @@
 //! The table of subcommands. A new one is a row of a file in `commands/`.
 
 use crate::commands::{abmeldung, berlin, fragen, fristen, kalender, portfolio, vorlauf};
+use crate::words::normal;
 use mako_fristen_host::{Call, Parameter};
-
-/// How the program is called.
-pub const PROGRAM: &str = "./fristen";
 
 /// What a subcommand does.
 #[derive(Clone, Copy, Debug, PartialEq, Eq)]
@@ -13,6 +11,8 @@ pub enum Task {
     Ask(Call),
     /// Prints a year's calendar, which is made of many calls.
     Kalender,
+    /// Says which transmission days an anchor allows, by two calls at the most.
+    BisWann,
     /// Answers the questions of a file.
     Fragen,
     /// Counts for the pairs of dates of a file.
@@ -23,17 +23,38 @@ pub enum Task {
 #[derive(Debug, PartialEq, Eq)]
 pub struct Command {
     pub name: &'static str,
+    /// Where the name is the source's.
+    pub german: Option<&'static str>,
     pub task: Task,
     /// What stands behind the name, in this order, each with its name in the usage line. A shape
     /// stands for its counts and its clock time too.
     pub operands: &'static [(Parameter, &'static str)],
+    /// What else may stand there, as the usage line has it.
+    pub options: &'static [&'static str],
     /// For the list of all.
     pub summary: &'static str,
     /// For its own help.
     pub meaning: &'static str,
-    /// The arguments of a call, and what it prints.
-    pub example: &'static str,
+    pub examples: &'static [Example],
+}
+
+/// The arguments of a call, and what it prints.
+#[derive(Debug, PartialEq, Eq)]
+pub struct Example {
+    pub call: &'static str,
     pub output: &'static str,
+    /// The name of the file that it takes, and what is in it.
+    pub file: Option<(&'static str, &'static str)>,
+}
+
+impl Example {
+    pub const fn new(call: &'static str, output: &'static str) -> Example {
+        Example { call, output, file: None }
+    }
+
+    pub const fn with_file(self, name: &'static str, content: &'static str) -> Example {
+        Example { file: Some((name, content)), ..self }
+    }
 }
 
 /// The subcommands under the headings of the help.
@@ -63,23 +84,33 @@ pub fn questions() -> impl Iterator<Item = (&'static Command, Call)> {
 }
 
 impl Command {
-    /// By its name or the source's, with hyphens or underscores, or the host call's.
+    /// By any of its names, with hyphens or underscores, in any letter case.
     pub fn find(name: &str) -> Option<&'static Command> {
         all().find(|command| command.is_named(name))
     }
 
+    /// The one whose sentences and labels are those of the call.
+    pub fn of(call: Call) -> Option<&'static Command> {
+        all().find(|command| command.call() == Some(call))
+    }
+
     pub fn is_named(&self, name: &str) -> bool {
-        let hyphened = name.replace('_', "-");
-        self.name == hyphened
-            || self.source_name().is_some_and(|source_name| source_name == hyphened)
-            || self.call().is_some_and(|call| call.name() == name)
+        let name = normal(name);
+        self.names().any(|known| known == name)
+            || self.call().is_some_and(|call| normal(call.name()) == name)
+    }
+
+    /// Its names but the host call's.
+    pub fn names(&self) -> impl Iterator<Item = String> {
+        let source_name = self.source_name().filter(|name| name != self.name);
+        [self.name].into_iter().chain(self.german).map(str::to_owned).chain(source_name)
     }
 
     /// The call that it asks, if it is one.
     pub fn call(&self) -> Option<Call> {
         match self.task {
             Task::Ask(call) => Some(call),
-            Task::Kalender | Task::Fragen | Task::Portfolio => None,
+            Task::Kalender | Task::BisWann | Task::Fragen | Task::Portfolio => None,
         }
     }
 
@@ -88,15 +119,15 @@ impl Command {
         Some(self.call()?.name().trim_start_matches("mf_").replace('_', "-"))
     }
 
+    /// The name of a parameter in the usage line.
+    pub fn label(&self, parameter: Parameter) -> Option<&'static str> {
+        self.operands.iter().find(|(operand, _)| *operand == parameter).map(|(_, label)| *label)
+    }
+
     /// The name with what stands behind it.
     pub fn usage(&self) -> String {
-        let left_out = match self.task {
-            Task::Fragen => " [DATEI] [--roh]",
-            Task::Portfolio => " [DATEI]",
-            Task::Ask(Call::ContrlDueAt) => " [--stichtag DATUM]",
-            Task::Ask(_) | Task::Kalender => "",
-        };
-        self.usage_in_line() + left_out
+        let options = self.options.iter().map(|option| format!(" {option}"));
+        [self.usage_in_line()].into_iter().chain(options).collect()
     }
 
     /// The same in a line of a file, where there are no options.
@@ -117,20 +148,24 @@ mod tests {
         }
         let others = all().filter(|command| command.call().is_none());
         let names: Vec<_> = others.map(|command| command.name).collect();
-        assert_eq!(names, ["kalender", "fragen", "portfolio"]);
+        assert_eq!(names, ["kalender", "bis-wann", "fragen", "portfolio"]);
     }
 
     #[test]
     fn a_command_is_found_by_each_name_and_no_name_is_used_twice() {
         for command in all() {
-            let names = [Some(command.name.to_owned()), command.source_name()];
-            for name in names.into_iter().flatten() {
+            for name in command.names() {
                 assert_eq!(Command::find(&name), Some(command), "{name}");
                 assert_eq!(Command::find(&name.replace('-', "_")), Some(command), "{name}");
+                assert_eq!(Command::find(&name.to_uppercase()), Some(command), "{name}");
+                assert_eq!(name, normal(&name), "{name}");
             }
             let host_name = command.call().map_or(command.name, Call::name);
             assert_eq!(Command::find(host_name), Some(command), "{host_name}");
-            assert!(command.example.starts_with(&format!("{} ", command.name)));
+            for example in command.examples {
+                assert!(example.call.starts_with(&format!("{} ", command.name)));
+            }
+            assert!(!command.examples.is_empty(), "{}", command.name);
         }
     }
 

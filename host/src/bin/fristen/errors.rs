@@ -1,5 +1,6 @@
 //! Why there is nothing to read out, in German.
 
+use crate::program;
 use mako_fristen_host::{Refusal, Unreadable};
 
 /// The refusal with its number.
@@ -15,8 +16,9 @@ pub fn refused_as(refusal: Refusal, sentence: &str) -> String {
 /// An answer that this program does not know, with its bytes.
 pub fn unreadable(Unreadable { call, number, answer }: &Unreadable) -> String {
     format!(
-        "fristen: Die Antwort von {} ist nicht lesbar (Nummer {number}, Bytes {answer:x}).\n\
+        "{}: Die Antwort von {} ist nicht lesbar (Nummer {number}, Bytes {answer:x}).\n\
          Programm und Bibliothek sind nicht vom selben Stand.",
+        program::name(),
         call.name()
     )
 }

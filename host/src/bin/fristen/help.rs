@@ -1,36 +1,44 @@
 //! The help of the program and of each subcommand.
 
-use crate::command::{Command, Task, GROUPS, PROGRAM};
-use crate::commands::{fragen, fristen, portfolio};
-use crate::names::{FRISTEN, VORLAUF};
+use crate::command::{Command, Example, GROUPS};
+use crate::names::{Frist, Named, Vorlauf, FRISTEN, VORLAUF};
+use crate::program;
 use mako_fristen_host::{Call, DayReason, Parameter};
 
-const HEAD: &str = "\
-Werktage und Fristen der Marktkommunikation
+/// The program's name in the texts of the tables.
+pub const IN_TEXTS: &str = "./fristen";
 
-Aufruf: ./fristen BEFEHL ANGABEN [--json | --bytes]
-";
+pub const HEAD: &str = "Werktage und Fristen der Marktkommunikation";
+
+pub const CALLED: &str = "BEFEHL ANGABEN [--json | --kurz | --bytes] [--status]";
 
 const FOOT: &str = "\
 Jeder Befehl auch unter dem Namen der Quelle und dem des Host-Aufrufs, mit Binde- oder
-Unterstrichen: contrl-due-at, contrl_due_at, mf_contrl_due_at ...
+Unterstrichen, in beliebiger Groß- und Kleinschreibung: contrl-due-at, mf_contrl_due_at ...
 
 Angaben
-  DATUM       wie 2026-04-02, vom 1. Januar 1996 bis zum 31. Dezember 2899
-  UHRZEIT     in Berlin, wie 13:00, 13:00:00 oder 13:00:00.5
-  ZEITPUNKT   wie 2026-03-31T11:59:59+02:00 oder 2026-03-31T09:59:59Z,
-              oder @SEKUNDEN.NANOSEKUNDEN seit 1970
+  DATUM       wie 2026-04-02, 02.04.2026 oder 2.4.2026, auch heute, morgen oder gestern;
+              vom 1. Januar 1996 bis zum 31. Dezember 2899
+  UHRZEIT     in Berlin, wie 13:00, 13:00:00 oder 13:00:00,5
+  ZEITPUNKT   wie 2026-03-31 11:59 oder 31.3.2026 11:59:59 in Berlin, auch heute 11:59
+              oder jetzt; mit Abstand zu UTC wie 2026-03-31T11:59:59+02:00 oder
+              2026-03-31T09:59:59Z; oder @SEKUNDEN seit 1970, auch @1774951199,5.
+              Zeigt die Uhr in Berlin eine Zeit zweimal, so gilt die frühere
   N, PID      eine Zahl von 0 bis 4294967295
   Namen       FORM, ANLASS, SPARTE und was nach --eeg steht: in beliebiger Groß- und
-              Kleinschreibung; bei BEFEHL und GRUND kommt es auf sie an
+              Kleinschreibung; nur beim GRUND kommt es auf sie an
 
 Optionen, an beliebiger Stelle
   --json      eine Zeile JSON
+  --kurz      nur der Wert, wie 2026-04-07; eine Ablehnung steht in der Fehlerausgabe
   --bytes     die 32 Bytes der Antwort, hexadezimal, bei portfolio vier zu jeder Zeile;
-              nicht bei kalender
+              nicht bei kalender und bis-wann
+  --status    Urteile und Ja oder Nein auch als Status: 0 ja oder gewahrt, 1 nein, zu spät
+              oder zu früh, 3 weder noch oder kein Urteil
   --roh       nur bei fragen: Datensätze von 32 Bytes statt Zeilen
   --stichtag  nur bei contrl: der Tag einer verlegten Formatumstellung
   --help, -h  Hilfe, auch zu einem Befehl
+  --version   die Version des Programms
   --          danach folgen keine Optionen mehr
 
 Ende mit 0: Antwort. 2: abgelehnt. 64: falscher Aufruf, auch in einer Zeile von fragen
@@ -49,52 +57,52 @@ Ein abgelehnter Aufruf ist keine Antwort, auch wenn sein zweites Byte 0 ist. Das
 hat die Nummer der Ablehnung, in --json „refusal“, und der Aufruf endet mit 2.
 ";
 
+/// What the example of a shape stands before, in place of the other operands.
+const EXAMPLE_DAYS: &[(Parameter, &str)] = &[
+    (Parameter::Date, "2026-04-02"),
+    (Parameter::SecondDate, "2026-04-13"),
+    (Parameter::Instant, "2026-04-02T10:00"),
+    (Parameter::SecondInstant, "2026-04-13T00:00"),
+    (Parameter::SecondSparte, "Strom"),
+];
+
 /// The list of all subcommands.
 pub fn general() -> String {
-    let row = |command: &Command| format!("  {}\n      {}\n", command.usage(), command.summary);
+    let row = |command: &Command| {
+        let german = command.german.map_or(String::new(), |name| format!(", auch {name}"));
+        format!("  {}{german}\n      {}\n", command.usage(), command.summary)
+    };
     let groups = GROUPS.map(|(heading, commands)| {
         let rows: Vec<String> = commands.iter().map(row).collect();
         format!("\n{heading}\n{}", rows.concat())
     });
-    format!("{HEAD}{}\n{FOOT}", groups.concat())
+    let called = program::called();
+    format!("{HEAD}\n\nAufruf: {called} {CALLED}\n{}\n{FOOT}", groups.concat())
 }
 
-/// The usage, the meaning and an example with its output; of `contrl` another one, with its option.
+/// The usage, the other names, the meaning, the shapes and the examples with their output.
 pub fn of(command: &Command) -> String {
-    let also = match command.source_name() {
-        Some(name) if name != command.name => format!("Auch: {PROGRAM} {name} ...\n"),
-        _ => String::new(),
-    };
-    let takes = |parameter| command.operands.iter().any(|(operand, _)| *operand == parameter);
-    let shapes = match (takes(Parameter::VorlaufShape), takes(Parameter::Shape)) {
-        (true, _) => format!("\nFORM\n{}", vorlauf_shapes()),
-        (_, true) => format!("\nFORM\n{}", frist_shapes()),
-        _ => String::new(),
+    let (called, usage) = (program::called(), command.usage());
+    let others: Vec<String> = command.names().skip(1).collect();
+    let also = match others.is_empty() {
+        false => format!("Auch: {}\n", others.join(", ")),
+        true => String::new(),
     };
     let reasons = match command.call() {
         Some(Call::IsWerktag) => format!("\n{NUMBERS}\n{}\n{REFUSED}", reasons()),
         _ => String::new(),
     };
-    let file = match command.task {
-        Task::Fragen => format!("  $ cat fragen.txt\n{}", block(fragen::FILE)),
-        Task::Portfolio => format!("  $ cat portfolio.csv\n{}", block(portfolio::FILE)),
-        Task::Ask(_) | Task::Kalender => String::new(),
-    };
-    let mut examples = vec![example(command.example, command.output)];
-    if command.call() == Some(Call::ContrlDueAt) {
-        examples.push(example(fristen::MIT_STICHTAG, fristen::VERLEGT));
-    }
-    format!(
-        "Aufruf: {PROGRAM} {}\n{also}\n{}\n{shapes}{reasons}\n\
-         Beispiel\n{file}{}",
-        command.usage(),
-        command.meaning,
-        examples.join("\n")
-    )
+    let heading = if command.examples.len() == 1 { "Beispiel" } else { "Beispiele" };
+    let examples: Vec<String> = command.examples.iter().map(example).collect();
+    let (shapes, examples) = (shapes(command), examples.join("\n"));
+    let meaning = command.meaning.replace(IN_TEXTS, called);
+    format!("Aufruf: {called} {usage}\n{also}\n{meaning}\n{shapes}{reasons}\n{heading}\n{examples}")
 }
 
-fn example(arguments: &str, output: &str) -> String {
-    format!("  $ {PROGRAM} {arguments}\n{}", block(output))
+fn example(Example { call, output, file }: &Example) -> String {
+    let file =
+        file.map_or(String::new(), |(name, content)| format!("  $ cat {name}\n{}", block(content)));
+    format!("{file}  $ {} {call}\n{}", program::called(), block(output))
 }
 
 fn block(text: &str) -> String {
@@ -108,18 +116,63 @@ fn indented(line: &str) -> String {
     format!("  {line}\n")
 }
 
-fn vorlauf_shapes() -> String {
-    let shape = |name: &str, counts: &[&str]| format!("{name} {}", counts.join(" "));
-    VORLAUF.iter().map(|(name, row)| indented(shape(name, row.counts).trim_end())).collect()
+/// Each shape that the subcommand takes: its names, what it says, and a call.
+fn shapes(command: &Command) -> String {
+    let rows = shape_rows(command);
+    if rows.is_empty() {
+        return String::new();
+    }
+    let row = |Shape { names, counts, meaning, call }: Shape| {
+        let names = names.join(", auch ");
+        let counts: String = counts.iter().map(|count| format!(" {count}")).collect();
+        format!("  {names}{counts}\n      {meaning}\n      $ {} {call}\n", program::called())
+    };
+    format!("\nFORM\n{}", rows.into_iter().map(row).collect::<String>())
 }
 
-fn frist_shapes() -> String {
-    let shape = |(name, row): &(&str, crate::names::Frist)| {
-        let count = if row.count { " N" } else { "" };
-        let clock = if row.clock { " UHRZEIT" } else { "" };
-        indented(&format!("{name}{count}{clock}"))
-    };
-    FRISTEN.iter().map(shape).collect()
+/// A shape as a help shows it.
+#[derive(Debug)]
+pub struct Shape {
+    pub names: Vec<&'static str>,
+    pub counts: Vec<&'static str>,
+    pub meaning: &'static str,
+    /// An example: the arguments of a call of the subcommand.
+    pub call: String,
+}
+
+/// The shapes that a subcommand takes.
+pub fn shape_rows(command: &Command) -> Vec<Shape> {
+    let takes = |parameter| command.operands.iter().any(|(operand, _)| *operand == parameter);
+    if takes(Parameter::VorlaufShape) {
+        return VORLAUF.iter().map(|row| vorlauf(command, row)).collect();
+    }
+    if takes(Parameter::Shape) {
+        return FRISTEN.iter().map(|row| frist(command, row)).collect();
+    }
+    Vec::new()
+}
+
+fn vorlauf(command: &Command, row: &Named<Vorlauf>) -> Shape {
+    let Vorlauf { counts, meaning, example, .. } = row.value;
+    Shape {
+        names: row.names().collect(),
+        counts: counts.to_vec(),
+        meaning,
+        call: call(command, example),
+    }
+}
+
+fn frist(command: &Command, row: &Named<Frist>) -> Shape {
+    let Frist { count, clock, meaning, example, .. } = row.value;
+    let counts = count.then_some("N").into_iter().chain(clock.then_some("UHRZEIT")).collect();
+    Shape { names: row.names().collect(), counts, meaning, call: call(command, example) }
+}
+
+/// The subcommand with the shape, and a value for each operand behind it.
+fn call(command: &Command, shape: &str) -> String {
+    let value = |parameter| EXAMPLE_DAYS.iter().find(|(known, _)| *known == parameter);
+    let values = command.operands.iter().filter_map(|(operand, _)| Some(value(*operand)?.1));
+    [command.name, shape].into_iter().chain(values).collect::<Vec<_>>().join(" ")
 }
 
 fn reasons() -> String {

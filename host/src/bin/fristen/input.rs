@@ -1,4 +1,5 @@
 use crate::outcome::{Outcome, Status};
+use crate::program;
 use crate::usage::quoted_bytes;
 use std::ffi::OsStr;
 use std::fs::File;
@@ -35,7 +36,11 @@ impl Input {
         let typed = io::stdin().is_terminal();
         if typed && io::stderr().is_terminal() {
             // That it waits must not be missed; whether this can be written is no matter.
-            let _ = writeln!(io::stderr(), "fristen: liest von der Tastatur, Ende mit Strg+D ...");
+            let _ = writeln!(
+                io::stderr(),
+                "{}: liest von der Tastatur, Ende mit Strg+D ...",
+                program::name()
+            );
         }
         let (name, bytes) = ("Die Standardeingabe".to_owned(), Box::new(io::stdin().lock()));
         Input { name, bytes, len: None, typed }
@@ -60,6 +65,6 @@ fn unread(name: &str, error: &io::Error) -> Outcome {
         io::ErrorKind::IsADirectory => "Das ist ein Verzeichnis.".to_owned(),
         _ => error.to_string(),
     };
-    let text = format!("fristen: {name} lässt sich nicht lesen. {why}\n");
+    let text = format!("{}: {name} lässt sich nicht lesen. {why}\n", program::name());
     Outcome::complaint(text, Status::NoInput)
 }

@@ -1,3 +1,5 @@
+use crate::command::Command;
+use crate::culprit;
 use mako_fristen_host::{
     berlin_date, ffi, tag_des_beginns, AbmeldungVorlauf, Answer, Call, ContrlAnlass, Date, Eeg,
     Error, Frage, FristShape, Parameter, Question, Refusal, Span, Sparte, VorlaufShape,
@@ -14,12 +16,33 @@ pub struct Inquiry {
     pub reason: Vec<u8>,
     pub frist: Option<FristShape>,
     pub vorlauf: Option<VorlaufShape>,
+    /// Why what was given is no question: Berlin's clock does not show the time of an instant.
+    pub refused: Option<Refused>,
+    /// What whoever asked should know, beside the answer.
+    pub notes: Vec<String>,
+    /// The names of the instants whose time Berlin's clock shows twice.
+    pub twice: Vec<&'static str>,
+}
+
+/// A refusal with its sentence.
+#[derive(Clone, Debug, PartialEq, Eq)]
+pub struct Refused {
+    pub refusal: Refusal,
+    pub sentence: String,
 }
 
 impl Inquiry {
     pub fn new(call: Call) -> Inquiry {
-        let (question, reason) = (Question::new(call), Vec::new());
-        Inquiry { call, question, reason, frist: None, vorlauf: None }
+        Inquiry {
+            call,
+            question: Question::new(call),
+            reason: Vec::new(),
+            frist: None,
+            vorlauf: None,
+            refused: None,
+            notes: Vec::new(),
+            twice: Vec::new(),
+        }
     }
 
     /// The same of a CONTRL, with a change day.
@@ -30,6 +53,9 @@ impl Inquiry {
 
     /// The answer of the call, read: neither a refusal nor bytes that the documents do not have.
     pub fn answer(&self) -> Result<Answer, Error> {
+        if let Some(refused) = &self.refused {
+            return Err(refused.refusal.into());
+        }
         Answer::of(self.call, |answer| self.put(answer))
     }
 
@@ -59,18 +85,16 @@ impl Inquiry {
     }
 
     /// Why it is refused, as a sentence.
-    pub fn beschreibung(&self, refusal: Refusal) -> &'static str {
-        match (refusal, self.call, self.question.date) {
-            (Refusal::LeavesCalendar, Call::ContrlDueAtChange, Date::FIRST) => {
-                "Der Tag vor dem Stichtag liegt nicht im Kalender vom 1. Januar 1996 bis zum \
-                 31. Dezember 2899."
-            }
-            (Refusal::LeavesCalendar, Call::ContrlDueAtChange, Date::LAST) => {
-                "Der Tag nach dem Stichtag liegt nicht im Kalender vom 1. Januar 1996 bis zum \
-                 31. Dezember 2899."
-            }
-            _ => refusal.beschreibung(),
+    pub fn beschreibung(&self, refusal: Refusal) -> String {
+        match &self.refused {
+            Some(refused) => refused.sentence.clone(),
+            None => culprit::of(self, refusal),
         }
+    }
+
+    /// What the usage calls a parameter.
+    pub fn label(&self, parameter: Parameter) -> &'static str {
+        Command::of(self.call).and_then(|command| command.label(parameter)).unwrap_or_default()
     }
 
     /// The Sparte, be it the first code or the second.

@@ -1,12 +1,15 @@
 //! The host calls on the command line, answered in German. `./fristen --help` has all of it.
 
 mod arguments;
+mod bis_wann;
 mod command;
 mod commands;
+mod culprit;
 mod deutsch;
 mod errors;
 mod fragen;
 mod help;
+mod hints;
 mod input;
 mod inquiry;
 mod json;
@@ -17,15 +20,21 @@ mod names;
 mod operands;
 mod outcome;
 mod portfolio;
+mod program;
 mod progress;
+mod reading;
 mod reply;
 mod report;
 mod run;
 mod sentences;
+mod skipped;
+mod uebertragung;
 mod umstellung;
 mod usage;
+mod words;
 
 use arguments::{is_option, Arguments, Form};
+use bis_wann::BisWann;
 use command::{Command, Task};
 use input::Input;
 use kalenderblatt::{Mark, Year};
@@ -36,7 +45,7 @@ use std::env;
 use std::ffi::{OsStr, OsString};
 use std::io::{self, IsTerminal};
 use std::process::ExitCode;
-use usage::{quoted, Usage};
+use usage::Usage;
 
 fn main() -> ExitCode {
     let arguments: Vec<OsString> = env::args_os().skip(1).collect();
@@ -56,7 +65,10 @@ fn run(arguments: Vec<OsString>) -> Result<Outcome, Usage> {
     let arguments = Arguments::read(arguments).map_err(of_likely)?;
     let mut words = arguments.words.iter();
     let name = words.next();
-    if name.is_some_and(|name| name == "help") {
+    if arguments.version {
+        return Ok(Outcome::answer(program::version()));
+    }
+    if name.is_some_and(|name| name.eq_ignore_ascii_case("help") || name == "hilfe") {
         let about = words.next();
         return match words.next() {
             Some(word) => Err(operands::too_much(word)),
@@ -73,7 +85,9 @@ fn run(arguments: Vec<OsString>) -> Result<Outcome, Usage> {
 fn find(name: Option<&OsString>) -> Result<&'static Command, Usage> {
     let name = name.ok_or_else(|| Usage::new("es fehlt: BEFEHL"))?;
     let command = name.to_str().and_then(Command::find);
-    command.ok_or_else(|| Usage::new(format!("unbekannter Befehl {}", quoted(name))))
+    let known: Vec<String> = command::all().flat_map(Command::names).collect();
+    let known = known.iter().map(String::as_str);
+    command.ok_or_else(|| Usage::unknown("unbekannter Befehl", name, known))
 }
 
 fn helped(name: Option<&OsString>) -> Result<Outcome, Usage> {
@@ -88,7 +102,8 @@ fn answered(command: &Command, arguments: &Arguments) -> Result<Outcome, Usage> 
         Task::Fragen => fragen(arguments),
         _ if arguments.raw => Err(Usage::new("--roh gibt es zu diesem Befehl nicht")),
         Task::Ask(call) => called(command, call, arguments),
-        Task::Kalender => kalender(command, arguments),
+        Task::Kalender => kalender(arguments),
+        Task::BisWann => bis_wann(command, arguments),
         Task::Portfolio => portfolio(arguments),
     }
 }
@@ -96,7 +111,7 @@ fn answered(command: &Command, arguments: &Arguments) -> Result<Outcome, Usage> 
 fn fragen(arguments: &Arguments) -> Result<Outcome, Usage> {
     let (file, form) = (operands::file(arguments)?, arguments.form);
     if arguments.raw && form != Form::Sentence {
-        return Err(Usage::new("erwartet --roh ohne --json und --bytes"));
+        return Err(Usage::new("erwartet --roh ohne --json, --kurz und --bytes"));
     }
     Ok(match arguments.raw {
         true => opened(file, fragen::records),
@@ -124,17 +139,24 @@ fn called(command: &Command, call: Call, arguments: &Arguments) -> Result<Outcom
     Ok(reply.outcome(&inquiry, answer))
 }
 
-fn kalender(command: &Command, arguments: &Arguments) -> Result<Outcome, Usage> {
-    let year = operands::year(command, arguments)?;
+fn bis_wann(command: &Command, arguments: &Arguments) -> Result<Outcome, Usage> {
+    let asked = operands::shape_and_anchor(command, arguments)?;
+    let answer = check_archive().map_err(Error::from).and_then(|()| BisWann::of(asked));
+    Ok(Outcome::of(answer.map(|answer| answer.text()), errors::refused))
+}
+
+fn kalender(arguments: &Arguments) -> Result<Outcome, Usage> {
+    let years = operands::words(arguments)?;
+    let year: u32 = years.first().and_then(|year| year.to_str()?.parse().ok()).unwrap_or(2026);
     let colour = io::stdout().is_terminal() && env::var_os("NO_COLOR").is_none();
     let mark = if colour { Mark::Colour } else { Mark::Star };
     let year = check_archive().map_err(Error::from).and_then(|()| Year::of(year));
     let given = &arguments.given;
     match arguments.form {
-        Form::Sentence => Ok(Outcome::of(year.map(|year| year.text(mark)), errors::refused)),
         Form::Json => Ok(Outcome::of(year.map(|year| year.json(given)), |refusal| {
             kalenderblatt::refused_json(given, refusal)
         })),
         Form::Bytes => Err(Usage::new("--bytes gibt es zu diesem Befehl nicht")),
+        _ => Ok(Outcome::of(year.map(|year| year.text(mark)), errors::refused)),
     }
 }

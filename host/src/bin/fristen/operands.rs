@@ -2,10 +2,12 @@
 
 use crate::arguments::Arguments;
 use crate::command::Command;
-use crate::inquiry::Inquiry;
-use crate::names::{self, ANLAESSE, EEG, FRISTEN, SPARTEN, VORLAUF};
-use crate::usage::{quoted, Usage};
-use mako_fristen_host::{Call, Clock, Date, Eeg, Instant, InstantError, Parameter};
+use crate::inquiry::{Inquiry, Refused};
+use crate::names::{self, Named, ANLAESSE, EEG, FRISTEN, SPARTEN, VORLAUF};
+use crate::reading::{self, is_number, Moment, NoMoment};
+use crate::usage::{perhaps, quoted, Usage};
+use crate::{culprit, hints};
+use mako_fristen_host::{Call, Clock, Date, Eeg, Instant, Parameter, VorlaufShape};
 use std::ffi::{OsStr, OsString};
 use std::slice;
 
@@ -23,18 +25,29 @@ pub fn inquiry(command: &Command, call: Call, arguments: &Arguments) -> Result<I
         }
     }
     words.end()?;
+    inquiry.notes.extend(hints::of(&inquiry));
     Ok(inquiry)
 }
 
-/// The number of a year.
-pub fn year(command: &Command, arguments: &Arguments) -> Result<u32, Usage> {
+/// The shape and the anchor of `bis-wann`.
+pub fn shape_and_anchor(
+    command: &Command,
+    arguments: &Arguments,
+) -> Result<(VorlaufShape, Date), Usage> {
     let mut words = Words::new(arguments);
-    let mut year = 0;
-    for (_, label) in command.operands {
-        year = words.year(label)?;
-    }
+    let label = |parameter| command.label(parameter).unwrap_or_default();
+    let shape = words.vorlauf(label(Parameter::VorlaufShape))?;
+    let anchor = words.date(label(Parameter::SecondDate))?;
     words.end()?;
-    Ok(year)
+    Ok((shape, anchor))
+}
+
+/// The words behind the name, without options.
+pub fn words(arguments: &Arguments) -> Result<&[OsString], Usage> {
+    let words = Words::new(arguments);
+    let left = words.left.as_slice();
+    Words { left: [].iter(), ..words }.end()?;
+    Ok(left)
 }
 
 /// The file of a subcommand that takes one; none for the standard input.
@@ -47,7 +60,8 @@ pub fn file(arguments: &Arguments) -> Result<Option<&OsStr>, Usage> {
 
 /// A date at the place of this label.
 pub fn date(label: &str, word: &OsStr) -> Result<Date, Usage> {
-    read_as(label, word, |word| word.parse().map_err(|_| "ein Datum wie 2026-04-02".to_owned()))
+    let date = |word: &str| reading::date(word, reading::now());
+    read_as(label, word, |word| date(word).ok_or_else(|| reading::DATE.to_owned()))
 }
 
 pub fn missing(label: &str) -> Usage {
@@ -72,39 +86,53 @@ fn read_as<T>(
 fn read(
     inquiry: &mut Inquiry,
     parameter: Parameter,
-    label: &str,
+    label: &'static str,
     words: &mut Words,
 ) -> Result<(), Usage> {
-    let question = &mut inquiry.question;
     match parameter {
-        Parameter::Date => question.date = words.date(label)?,
-        Parameter::SecondDate => question.date2 = words.date(label)?,
-        Parameter::Count | Parameter::Pid => question.n = words.count(label)?,
-        Parameter::SecondCount => question.n2 = words.count(label)?,
-        Parameter::Instant => question.instant = words.instant(label)?,
-        Parameter::SecondInstant => question.instant2 = words.instant(label)?,
-        Parameter::Clock => question.clock = words.clock(label)?,
-        Parameter::Anlass => question.code = words.name(label, &ANLAESSE)?.code(),
-        Parameter::Sparte => question.code = words.name(label, &SPARTEN)?.code(),
-        Parameter::SecondSparte => question.code2 = words.name(label, &SPARTEN)?.code(),
+        Parameter::Date => inquiry.question.date = words.date(label)?,
+        Parameter::SecondDate => inquiry.question.date2 = words.date(label)?,
+        Parameter::Count | Parameter::Pid => inquiry.question.n = words.count(label)?,
+        Parameter::SecondCount => inquiry.question.n2 = words.count(label)?,
+        Parameter::Instant => inquiry.question.instant = instant(inquiry, label, words)?,
+        Parameter::SecondInstant => inquiry.question.instant2 = instant(inquiry, label, words)?,
+        Parameter::Clock => inquiry.question.clock = words.clock(label)?,
+        Parameter::Anlass => inquiry.question.code = words.name(label, &ANLAESSE)?.code(),
+        Parameter::Sparte => inquiry.question.code = words.name(label, &SPARTEN)?.code(),
+        Parameter::SecondSparte => inquiry.question.code2 = words.name(label, &SPARTEN)?.code(),
         Parameter::Shape => frist(inquiry, label, words)?,
         Parameter::VorlaufShape => vorlauf(inquiry, label, words)?,
-        Parameter::Eeg => question.code = words.eeg(label)?,
+        Parameter::Eeg => inquiry.question.code = words.eeg(label)?,
         Parameter::Reason => inquiry.reason = words.next(label)?.as_encoded_bytes().to_vec(),
     }
     Ok(())
 }
 
 fn vorlauf(inquiry: &mut Inquiry, label: &str, words: &mut Words) -> Result<(), Usage> {
-    let row = words.name(label, &VORLAUF)?;
-    let mut counts = [0; 2];
-    for (count, label) in counts.iter_mut().zip(row.counts) {
-        *count = words.count(label)?;
-    }
-    let shape = (row.shape)(counts[0], counts[1]);
+    let shape = words.vorlauf(label)?;
     inquiry.question = inquiry.question.with_shape(shape);
     inquiry.vorlauf = Some(shape);
     Ok(())
+}
+
+/// An instant, with what is to be said of it. One that Berlin's clock does not show makes the
+/// question one that is refused.
+fn instant(
+    inquiry: &mut Inquiry,
+    label: &'static str,
+    words: &mut Words,
+) -> Result<Instant, Usage> {
+    match words.moment(label)? {
+        Ok(Moment { instant, note, twice }) => {
+            inquiry.notes.extend(note.map(|note| format!("{label}: {note}")));
+            inquiry.twice.extend(twice.then_some(label));
+            Ok(instant)
+        }
+        Err(refused) => {
+            inquiry.refused.get_or_insert(refused);
+            Ok(Instant::default())
+        }
+    }
 }
 
 fn frist(inquiry: &mut Inquiry, label: &str, words: &mut Words) -> Result<(), Usage> {
@@ -159,13 +187,38 @@ impl<'a> Words<'a> {
     }
 
     fn clock(&mut self, label: &str) -> Result<Clock, Usage> {
-        self.read(label, |word| {
-            word.parse().map_err(|_| "eine Uhrzeit wie 13:00, 13:00:00 oder 13:00:00.5".to_owned())
+        self.read(label, |word| reading::clock(word).ok_or_else(|| reading::CLOCK.to_owned()))
+    }
+
+    /// One word, or a date and its clock time in two; or the refusal of a time that Berlin's clock
+    /// does not show.
+    fn moment(&mut self, label: &str) -> Result<Result<Moment, Refused>, Usage> {
+        let now = reading::now();
+        let mut word = self.next(label)?.to_owned();
+        let is_date = word.to_str().is_some_and(|word| reading::date(word, now).is_some());
+        let time =
+            self.left.clone().next().filter(|time| time.to_str().is_some_and(reading::is_time));
+        if let Some(time) = time.filter(|_| is_date) {
+            word.push(" ");
+            word.push(time);
+            self.left.next();
+        }
+        read_as(label, &word, |word| match reading::moment(word, now) {
+            Ok(moment) => Ok(Ok(moment)),
+            Err(NoMoment::Refused(refusal, date, at)) => {
+                Ok(Err(Refused { refusal, sentence: culprit::of_berlin(label, refusal, date, at) }))
+            }
+            Err(NoMoment::Expected(expected)) => Err(expected),
         })
     }
 
-    fn instant(&mut self, label: &str) -> Result<Instant, Usage> {
-        self.read(label, |word| word.parse().map_err(|error| of_instant(error).to_owned()))
+    fn vorlauf(&mut self, label: &str) -> Result<VorlaufShape, Usage> {
+        let row = self.name(label, &VORLAUF)?;
+        let mut counts = [0; 2];
+        for (count, label) in counts.iter_mut().zip(row.counts) {
+            *count = self.count(label)?;
+        }
+        Ok((row.shape)(counts[0], counts[1]))
     }
 
     fn count(&mut self, label: &str) -> Result<u32, Usage> {
@@ -175,16 +228,12 @@ impl<'a> Words<'a> {
         })
     }
 
-    /// A number too large is a year that the calendar refuses.
-    fn year(&mut self, label: &str) -> Result<u32, Usage> {
-        self.read(label, |word| match is_number(word) {
-            true => Ok(word.parse().unwrap_or(u32::MAX)),
-            false => Err("ein Jahr von 1996 bis 2899".to_owned()),
-        })
-    }
-
-    fn name<T: Copy>(&mut self, label: &str, table: &[(&str, T)]) -> Result<T, Usage> {
-        self.read(label, |word| names::find(table, word).ok_or_else(|| names::expected(table)))
+    fn name<T: Copy>(&mut self, label: &str, table: &[Named<T>]) -> Result<T, Usage> {
+        let word = self.next(label)?;
+        let found = read_as(label, word, |word| {
+            names::find(table, word).ok_or_else(|| names::expected(table))
+        });
+        found.map_err(|usage| usage.and(&perhaps(word, table.iter().flat_map(Named::names))))
     }
 
     /// The mark's code. An option: it is asked for here, and stands anywhere.
@@ -199,21 +248,5 @@ impl<'a> Words<'a> {
     /// The change day, an option that may be left out.
     fn stichtag(&mut self) -> Result<Option<Date>, Usage> {
         self.stichtag.take().map(|word| date("--stichtag", word)).transpose()
-    }
-}
-
-fn is_number(word: &str) -> bool {
-    !word.is_empty() && word.bytes().all(|byte| byte.is_ascii_digit())
-}
-
-fn of_instant(error: InstantError) -> &'static str {
-    match error {
-        InstantError::Form => {
-            "einen Zeitpunkt wie 2026-03-31T11:59:59+02:00 (mit Z oder Abstand zu UTC, höchstens \
-             neun Stellen hinter der Sekunde) oder @Sekunden.Nanosekunden"
-        }
-        InstantError::Date => "einen Tag, den es gibt",
-        InstantError::Clock => "eine Stunde bis 23, eine Minute und eine Sekunde bis 59",
-        InstantError::Offset => "einen Abstand zu UTC bis 23:59",
     }
 }

@@ -1,4 +1,4 @@
-use crate::errors;
+use crate::{errors, program};
 use mako_fristen_host::{Error, Refusal, Unreadable};
 use std::fmt::Display;
 use std::io::{self, Write};
@@ -10,7 +10,11 @@ use std::process::ExitCode;
 #[repr(u8)]
 pub enum Status {
     Answered = 0,
+    /// No, too late or too early, where that is asked for as a status.
+    No = 1,
     Refused = 2,
+    /// Neither yes nor no, or no verdict.
+    Neither = 3,
     Usage = 64,
     NoInput = 66,
     Unreadable = 70,
@@ -24,13 +28,14 @@ pub struct Outcome {
     status: Status,
     /// Whether the text goes to the standard error.
     complaint: bool,
+    /// What goes there before it.
+    notes: Vec<String>,
 }
 
 impl Outcome {
     /// What is said, as a line or more; of a refusal what `refused` says.
     pub fn of<T: Display>(said: Result<T, Error>, refused: impl FnOnce(Refusal) -> T) -> Outcome {
-        let line =
-            |text: T, status| Outcome { text: format!("{text}\n"), status, complaint: false };
+        let line = |text: T, status| Outcome { status, ..Outcome::answer(format!("{text}\n")) };
         match said {
             Ok(text) => line(text, Status::Answered),
             Err(Error::Refused(refusal)) => line(refused(refusal), Status::Refused),
@@ -40,7 +45,7 @@ impl Outcome {
 
     /// `text` ends with its line.
     pub fn answer(text: String) -> Outcome {
-        Outcome { text, status: Status::Answered, complaint: false }
+        Outcome { text, status: Status::Answered, complaint: false, notes: Vec::new() }
     }
 
     /// Everything is said already.
@@ -50,7 +55,7 @@ impl Outcome {
 
     /// `text` ends with its line.
     pub fn complaint(text: String, status: Status) -> Outcome {
-        Outcome { text, status, complaint: true }
+        Outcome { status, complaint: true, ..Outcome::answer(text) }
     }
 
     /// `text` ends with its line.
@@ -68,8 +73,22 @@ impl Outcome {
         if error.kind() == io::ErrorKind::BrokenPipe {
             return Outcome::silent(status);
         }
-        let text = "fristen: Die Ausgabe ließ sich nicht schreiben.\n";
-        Outcome::complaint(text.to_owned(), Status::OutputFailed)
+        let text = format!("{}: Die Ausgabe ließ sich nicht schreiben.\n", program::name());
+        Outcome::complaint(text, Status::OutputFailed)
+    }
+
+    /// With notes for whoever asked.
+    pub fn noted(self, notes: Vec<String>) -> Outcome {
+        Outcome { notes, ..self }
+    }
+
+    /// With this status instead.
+    pub fn ending(self, status: Status) -> Outcome {
+        Outcome { status, ..self }
+    }
+
+    pub fn status(&self) -> Status {
+        self.status
     }
 
     /// The text of an answer or a refusal, and which of them it is.
@@ -79,6 +98,13 @@ impl Outcome {
 
     /// An answer and a refusal to the standard output, a complaint to the standard error.
     pub fn print(&self) -> ExitCode {
+        for note in &self.notes {
+            // A note that cannot be written changes no answer.
+            let _ = write(
+                &mut io::stderr().lock(),
+                &format!("{}: Hinweis: {note}.\n", program::name()),
+            );
+        }
         let written = match self.complaint {
             false => write(&mut io::stdout().lock(), &self.text),
             true => write(&mut io::stderr().lock(), &self.text),

@@ -3,11 +3,13 @@
 mod line;
 
 use crate::arguments::Form;
+use crate::culprit::date_why;
 use crate::errors;
 use crate::input::Input;
 use crate::json::Json;
 use crate::lines::Line;
 use crate::outcome::{Outcome, Status};
+use crate::program;
 use crate::report::refusal_json;
 use crate::run::Run;
 use crate::usage::Usage;
@@ -73,7 +75,7 @@ impl Place {
         match self.form {
             Form::Json => self.json(Some(pair), Json::Null, Json::number(count), None),
             Form::Bytes => entry(count),
-            Form::Sentence => format!("{count}\n"),
+            Form::Sentence | Form::Short => format!("{count}\n"),
         }
     }
 
@@ -115,9 +117,10 @@ impl Place {
     /// Which date it is, and why it has no count.
     fn complaint(self, (from, to): Pair, refusal: Refusal) -> String {
         let given = LABELS.into_iter().zip([from, to]);
-        let outside = given.filter(|(_, date)| !date.is_in_calendar());
-        let outside: Vec<_> = outside.map(|(label, date)| format!("{label} {date}")).collect();
-        let (line, outside) = (self.line, outside.join(", "));
-        format!("fristen: Zeile {line}: {outside}: {}\n", errors::refused(refusal))
+        let why = |(label, date)| Some(format!("{label} {}", date_why(date)?));
+        let outside: Vec<_> = given.filter_map(why).collect();
+        let sentence = format!("{}.", outside.join("; "));
+        let refused = errors::refused_as(refusal, &sentence);
+        format!("{}: Zeile {}: {refused}\n", program::name(), self.line)
     }
 }

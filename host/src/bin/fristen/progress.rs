@@ -1,3 +1,4 @@
+use crate::program;
 use std::io::{self, IsTerminal, Write};
 use std::time::{Duration, Instant};
 
@@ -34,7 +35,7 @@ impl Progress {
         }
         let percent = of.and_then(|of| done.saturating_mul(100).checked_div(of));
         let share = percent.map_or(String::new(), |percent| format!(" ({percent} %)"));
-        put(&format!("{CLEAR}fristen: {answered} {}{share} ...", self.what));
+        put(&format!("{CLEAR}{}: {answered} {}{share} ...", program::name(), self.what));
         self.due = Instant::now() + PAUSE;
         self.shown = true;
     }

@@ -20,22 +20,24 @@ pub struct Reply<'a> {
 impl Reply<'_> {
     pub fn outcome(&self, inquiry: &Inquiry, answer: Result<Answer, Error>) -> Outcome {
         let said = answer.and_then(|answer| self.answered(inquiry, &answer));
-        Outcome::of(said, |refusal| self.refused(inquiry, refusal))
+        Outcome::of(said, |refusal| self.refused(inquiry, refusal)).noted(inquiry.notes.clone())
     }
 
     fn answered(&self, inquiry: &Inquiry, answer: &Answer) -> Result<String, Error> {
         Ok(match self.form {
             Form::Sentence => self.text(sentences::of(inquiry, answer)?),
             Form::Json => self.json(report::answered(inquiry, self.given, answer)?),
-            Form::Bytes => self.text(format!("{answer:x}")),
+            Form::Bytes | Form::Short => self.text(format!("{answer:x}")),
         })
     }
 
     fn refused(&self, inquiry: &Inquiry, refusal: Refusal) -> String {
         match self.form {
-            Form::Sentence => self.text(errors::refused_as(refusal, inquiry.beschreibung(refusal))),
+            Form::Sentence => {
+                self.text(errors::refused_as(refusal, &inquiry.beschreibung(refusal)))
+            }
             Form::Json => self.json(report::refused(inquiry, self.given, refusal)),
-            Form::Bytes => self.text(format!("{:x}", Answer::refused(refusal))),
+            Form::Bytes | Form::Short => self.text(format!("{:x}", Answer::refused(refusal))),
         }
     }
 

@@ -24,7 +24,7 @@ pub fn answered(inquiry: &Inquiry, given: &[OsString], answer: &Answer) -> Resul
 /// The call, its arguments as given, and the refusal.
 pub fn refused(inquiry: &Inquiry, given: &[OsString], refusal: Refusal) -> Json {
     let mut members = asked(inquiry, given);
-    members.push(("refusal", refusal_json_as(refusal, inquiry.beschreibung(refusal))));
+    members.push(("refusal", refusal_json_as(refusal, &inquiry.beschreibung(refusal))));
     Json::Object(members)
 }
 

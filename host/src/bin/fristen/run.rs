@@ -1,7 +1,7 @@
-use crate::command::PROGRAM;
 use crate::input::Input;
 use crate::lines::{Line, Lines};
 use crate::outcome::{Outcome, Status};
+use crate::program;
 use crate::progress::Progress;
 use std::io::{self, BufWriter, StdoutLock, Write};
 
@@ -100,8 +100,9 @@ impl Run {
             1 => "1 Zeile ließ".to_owned(),
             n => format!("{n} Zeilen ließen"),
         };
-        let help = format!("Mehr: {PROGRAM} {} --help", self.name);
-        let text = format!("fristen: {lines} sich nicht lesen. {help}\n");
+        let (program, called) = (program::name(), program::called());
+        let help = format!("Mehr: {called} {} --help", self.name);
+        let text = format!("{program}: {lines} sich nicht lesen. {help}\n");
         Outcome::complaint(text, self.status)
     }
 }

@@ -1,4 +1,6 @@
-use crate::command::{Command, GROUPS, PROGRAM};
+use crate::command::{Command, GROUPS};
+use crate::program;
+use crate::words::meant;
 use std::ffi::OsStr;
 
 /// A call that the program cannot make sense of.
@@ -13,21 +15,35 @@ impl Usage {
         Usage { message: message.into(), command: None }
     }
 
+    /// A word that is none of those known, with the one that may have been meant.
+    pub fn unknown<'a>(
+        what: &str,
+        word: &OsStr,
+        known: impl IntoIterator<Item = &'a str>,
+    ) -> Usage {
+        Usage::new(format!("{what} {}{}", quoted(word), perhaps(word, known)))
+    }
+
+    /// With this behind its message.
+    pub fn and(self, text: &str) -> Usage {
+        Usage { message: self.message + text, ..self }
+    }
+
     pub fn of(self, command: &'static Command) -> Usage {
         Usage { command: Some(command), ..self }
     }
 
     /// What was expected, and how the subcommand is called.
     pub fn text(&self) -> String {
-        let message = &self.message;
+        let (message, name, program) = (&self.message, program::name(), program::called());
         match self.command {
             Some(command) => format!(
-                "fristen: {message}\nAufruf: {PROGRAM} {}\nMehr: {PROGRAM} {} --help\n",
+                "{name}: {message}\nAufruf: {program} {}\nMehr: {program} {} --help\n",
                 command.usage(),
                 command.name
             ),
             None => {
-                format!("fristen: {message}\nBefehle:\n{}Mehr: {PROGRAM} --help\n", commands())
+                format!("{name}: {message}\nBefehle:\n{}Mehr: {program} --help\n", commands())
             }
         }
     }
@@ -36,12 +52,20 @@ impl Usage {
     pub fn of_line(&self, line: u64) -> String {
         let message = &self.message;
         let form = self.command.map(|command| format!(" (Aufbau: {})", command.usage_in_line()));
-        format!("fristen: Zeile {line}: {message}{}\n", form.unwrap_or_default())
+        format!("{}: Zeile {line}: {message}{}\n", program::name(), form.unwrap_or_default())
     }
 }
 
 /// How much of a text a complaint quotes.
 const MOST_QUOTED: usize = 80;
+
+/// As it stands behind a complaint: the known word that is nearest, if one is near.
+pub fn perhaps<'a>(word: &OsStr, known: impl IntoIterator<Item = &'a str>) -> String {
+    match meant(&word.to_string_lossy(), known) {
+        Some(meant) => format!(". Meinten Sie {meant}?"),
+        None => String::new(),
+    }
+}
 
 /// The names of all, a line for each heading.
 fn commands() -> String {

@@ -1,4 +1,4 @@
-use crate::command::{Command, Task};
+use crate::command::{Command, Example, Task};
 use mako_fristen_host::{Call, Parameter};
 
 const GRUND: (Parameter, &str) = (Parameter::Reason, "GRUND");
@@ -7,19 +7,20 @@ const EEG: (Parameter, &str) = (Parameter::Eeg, "--eeg ja|nein|unbekannt");
 pub const COMMANDS: [Command; 3] = [
     Command {
         name: "abmeldung-fuer",
+        german: None,
         task: Task::Ask(Call::AbmeldungFuer),
         operands: &[GRUND, EEG],
+        options: &[],
         summary: "welche Vorlauffrist eine Abmeldung durch den Netzbetreiber hat",
         meaning: "GRUND ist der Transaktionsgrund; nur ZQ7, genau so geschrieben, ist die\n\
                   Deaktivierung. --eeg sagt, ob es eine EEG-Marktlokation oder eine Tranche einer\n\
                   solchen ist.",
-        example: "abmeldung-fuer ZQ7 --eeg unbekannt",
-        output:
-            "Grund „ZQ7“: Die Frist ist die des Prüfschritts 120: „Liegt das Eingangsdatum der \
-                 Abmeldung nach dem 5. WT des Monats, in dem die Zuordnungsermächtigung endet?“",
+        examples: &[Example::new("abmeldung-fuer ZQ7 --eeg unbekannt", "Grund „ZQ7“: Die Frist ist die des Prüfschritts 120: „Liegt das Eingangsdatum der \
+                 Abmeldung nach dem 5. WT des Monats, in dem die Zuordnungsermächtigung endet?“")],
     },
     Command {
         name: "abmeldung",
+        german: None,
         task: Task::Ask(Call::AbmeldungCheck),
         operands: &[
             GRUND,
@@ -27,30 +28,31 @@ pub const COMMANDS: [Command; 3] = [
             (Parameter::Date, "ÜBERTRAGUNGSTAG"),
             (Parameter::SecondDate, "ZUORDNUNGSENDE"),
         ],
+        options: &[],
         summary: "ob eine Abmeldung durch den Netzbetreiber rechtzeitig kam",
         meaning:
             "Das Urteil nach der Vorlauffrist, die abmeldung-fuer nennt, mit den Tagen, die noch\n\
                   Luft sind oder zu spät; „margin“ in --json wie bei check. Hat der Fall keine, so gibt\n\
                   es kein Urteil und „margin“ ist null; das heißt nicht, dass die Frist gewahrt ist.",
-        example: "abmeldung ZT0 --eeg nein 2026-01-08 2026-01-12",
-        output: "Grund „ZT0“, keine EEG-Marktlokation: Spätester Übertragungstag ist der Tag vor \
+        examples: &[Example::new("abmeldung ZT0 --eeg nein 2026-01-08 2026-01-12", "Grund „ZT0“, keine EEG-Marktlokation: Spätester Übertragungstag ist der Tag vor \
                  dem letzten Werktag vor dem Zuordnungsende.\n\
                  Frist gewahrt, kein Tag Luft: Übertragungstag Donnerstag, 8. Januar 2026, \
-                 Zuordnungsende Montag, 12. Januar 2026.",
+                 Zuordnungsende Montag, 12. Januar 2026.")],
     },
     Command {
         name: "ankuendigung",
+        german: None,
         task: Task::Ask(Call::EogAnkuendigungFristgerecht),
         operands: &[(Parameter::Instant, "EINGANG"), (Parameter::Date, "ZUORDNUNGSBEGINN")],
+        options: &[],
         summary: "ob die Ankündigung der Zuordnung des E/G von 00:00 bis 13:00 Uhr des letzten \
                   Werktags davor kam",
         meaning:
             "Fristgerecht von 00:00 bis 13:00 Uhr des letzten Werktags vor dem Zuordnungsbeginn\n\
                   (GPKE Teil 2 Kap. 2.3.2.2 Nr. 1). Vom Zuordnungsbeginn an weder noch.",
-        example: "ankuendigung 2026-01-09T13:00:00+01:00 2026-01-12",
-        output: "Fristgerecht: Eingang am Freitag, 9. Januar 2026, um 13:00 Uhr, Zuordnungsbeginn \
+        examples: &[Example::new("ankuendigung 2026-01-09T13:00:00+01:00 2026-01-12", "Fristgerecht: Eingang am Freitag, 9. Januar 2026, um 13:00 Uhr, Zuordnungsbeginn \
                  Montag, 12. Januar 2026.\n\
                  Frühester Übertragungszeitpunkt ist 00:00 Uhr und spätester 13:00 Uhr des letzten \
-                 Werktags vor dem Zuordnungsbeginn: Freitag, 9. Januar 2026.",
+                 Werktags vor dem Zuordnungsbeginn: Freitag, 9. Januar 2026.")],
     },
 ];

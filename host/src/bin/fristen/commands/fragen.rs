@@ -1,12 +1,14 @@
-use crate::command::{Command, Task};
+use crate::command::{Command, Example, Task};
 
 /// The file of the example.
-pub const FILE: &str = include_str!("fragen.txt");
+const FILE: &str = include_str!("fragen.txt");
 
 pub const COMMANDS: [Command; 1] = [Command {
     name: "fragen",
+    german: None,
     task: Task::Fragen,
     operands: &[],
+    options: &["[DATEI]", "[--roh]"],
     summary: "beantwortet die Fragen einer Datei oder der Standardeingabe, je Zeile eine",
     meaning: "\
 Je Zeile eine Frage, in den Worten von contrl, frist, check oder span und ohne Optionen,
@@ -21,10 +23,13 @@ Ende mit 64, wenn es eine solche Zeile gab, sonst mit 2, wenn eine Frage abgeleh
 Mit --roh sind Fragen und Antworten Datensätze von je 32 Bytes, wie mf_questions sie hat,
 aber beliebig viele. Ist ihre Länge kein Vielfaches von 32, so wird abgelehnt (9) und
 nichts ausgegeben.",
-    example: "fragen fragen.txt",
-    output: "\
+    examples: &[Example::new(
+        "fragen fragen.txt",
+        "\
 2: Eingang am Samstag, 10. Januar 2026, um 12:00 Uhr: Die CONTRL auf ALOCAT Gas ist fällig am \
 Samstag, 10. Januar 2026, um 12:45 Uhr (contrl-delivery-window).
 3: Frist gewahrt, kein Tag Luft: Übertragungstag Freitag, 9. Januar 2026, Termin Montag, \
 12. Januar 2026. Spätester Übertragungstag ist der 1. Werktag vor dem Termin.",
+    )
+    .with_file("fragen.txt", FILE)],
 }];

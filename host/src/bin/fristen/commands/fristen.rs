@@ -1,11 +1,8 @@
-use crate::command::{Command, Task};
+use crate::command::{Command, Example, Task};
 use mako_fristen_host::{Call, Parameter};
 
-/// The example of `contrl` with a change day.
-pub const MIT_STICHTAG: &str = "contrl Regelfall 2026-06-05T12:00:00+02:00 --stichtag 2026-06-06";
-
-/// Its output.
-pub const VERLEGT: &str = "\
+/// The output of both examples with a change day.
+const VERLEGT: &str = "\
 Eingang am Freitag, 5. Juni 2026, um 12:00 Uhr: Die CONTRL im Regelfall ist fällig am Sonntag, \
 7. Juni 2026, um 00:00 Uhr (contrl-delivery-window).
 Stichtag der Formatumstellung ist Samstag, der 6. Juni 2026; ihr Zeitraum geht von Freitag, \
@@ -16,8 +13,10 @@ Zeitraum, also gilt sein Ende.";
 pub const COMMANDS: [Command; 13] = [
     Command {
         name: "contrl",
+        german: None,
         task: Task::Ask(Call::ContrlDueAt),
         operands: &[(Parameter::Anlass, "ANLASS"), (Parameter::Instant, "EINGANG")],
+        options: &["[--stichtag DATUM]"],
         summary: "wann die CONTRL fällig ist",
         meaning: "ANLASS ist Regelfall (6 Stunden), StromUtilmdOderOrders (15 Minuten, bei Eingang an\n\
                   einem Samstag 6 Stunden) oder GasAlocat (45 Minuten). Was vom 31. März oder\n\
@@ -26,150 +25,161 @@ pub const COMMANDS: [Command; 13] = [
                   --stichtag nennt den Tag einer verlegten Formatumstellung. Dann gibt es nur einen\n\
                   Zeitraum: Was von 18:00 Uhr des Vortags an fällig wäre und vor 00:00 Uhr des\n\
                   Folgetags, ist es dann. Dasselbe ohne Option: contrl-due-at-change.",
-        example: "contrl Regelfall 2026-03-31T11:59:59+02:00",
-        output: "Eingang am Dienstag, 31. März 2026, um 11:59:59 Uhr: Die CONTRL im Regelfall ist \
-                 fällig am Dienstag, 31. März 2026, um 17:59:59 Uhr (contrl-delivery-window).",
+        examples: &[Example::new("contrl Regelfall 2026-03-31T11:59:59+02:00", "Eingang am Dienstag, 31. März 2026, um 11:59:59 Uhr: Die CONTRL im Regelfall ist \
+                 fällig am Dienstag, 31. März 2026, um 17:59:59 Uhr (contrl-delivery-window)."), Example::new("contrl Regelfall 2026-06-05T12:00:00+02:00 --stichtag 2026-06-06", VERLEGT)],
     },
     Command {
         name: "contrl-due-at-change",
+        german: Some("contrl-mit-stichtag"),
         task: Task::Ask(Call::ContrlDueAtChange),
         operands: &[
             (Parameter::Anlass, "ANLASS"),
             (Parameter::Instant, "EINGANG"),
             (Parameter::Date, "STICHTAG"),
         ],
+        options: &[],
         summary: "dasselbe mit dem Stichtag einer verlegten Formatumstellung",
         meaning: "Die Antwort von contrl mit --stichtag. Den Zeitraum um den Stichtag hat „window“ in\n\
                   --json; „from“ gehört dazu, „to“ nicht mehr. „moved“ sagt, ob er die Fälligkeit\n\
                   verschiebt, „due_before_tolerance“, wann die CONTRL ohne ihn fällig wäre.",
-        example: "contrl-due-at-change Regelfall 2026-06-05T12:00:00+02:00 2026-06-06",
-        output: VERLEGT,
+        examples: &[Example::new("contrl-due-at-change Regelfall 2026-06-05T12:00:00+02:00 2026-06-06", VERLEGT)],
     },
     Command {
         name: "aperak-strom",
+        german: None,
         task: Task::Ask(Call::AperakStromDueAt),
         operands: &[(Parameter::Instant, "EINGANG")],
+        options: &[],
         summary: "wann die APERAK auf UTILMD oder ORDERS Strom fällig ist",
         meaning: "45 Minuten nach Eingang, auch an Sonn- und Feiertagen; bei Eingang an einem Samstag\n\
                   am Sonntag um 12:00 Uhr.",
-        example: "aperak-strom 2026-01-10T10:00:00+01:00",
-        output: "Eingang am Samstag, 10. Januar 2026, um 10:00 Uhr: Die APERAK auf UTILMD oder \
+        examples: &[Example::new("aperak-strom 2026-01-10T10:00:00+01:00", "Eingang am Samstag, 10. Januar 2026, um 10:00 Uhr: Die APERAK auf UTILMD oder \
                  ORDERS Strom ist fällig am Sonntag, 11. Januar 2026, um 12:00 Uhr \
-                 (aperak-strom-45min-window).",
+                 (aperak-strom-45min-window).")],
     },
     Command {
         name: "aperak-strom-allgemein",
+        german: None,
         task: Task::Ask(Call::AperakStromAllgemeinDueAt),
         operands: &[(Parameter::Instant, "EINGANG")],
+        options: &[],
         summary: "wann die APERAK auf eine andere Nachricht Strom fällig ist",
         meaning: "Um 12:00 Uhr des ersten Werktags nach dem Eingangstag.",
-        example: "aperak-strom-allgemein 2026-04-02T10:00:00+02:00",
-        output: "Eingang am Donnerstag, 2. April 2026, um 10:00 Uhr: Die APERAK auf eine andere \
+        examples: &[Example::new("aperak-strom-allgemein 2026-04-02T10:00:00+02:00", "Eingang am Donnerstag, 2. April 2026, um 10:00 Uhr: Die APERAK auf eine andere \
                  Nachricht Strom ist fällig am Dienstag, 7. April 2026, um 12:00 Uhr \
-                 (aperak-strom-naechster-wt-1200).",
+                 (aperak-strom-naechster-wt-1200).")],
     },
     Command {
         name: "aperak-gas-folgeprozess",
+        german: None,
         task: Task::Ask(Call::AperakGasFolgeprozessDueAt),
         operands: &[(Parameter::Instant, "EINGANG")],
+        options: &[],
         summary: "wann die APERAK im Folgeprozess Gas fällig ist",
         meaning: "Um 12:00 Uhr des ersten Werktags nach dem Eingangstag.",
-        example: "aperak-gas-folgeprozess 2026-04-02T10:00:00+02:00",
-        output: "Eingang am Donnerstag, 2. April 2026, um 10:00 Uhr: Die APERAK im Folgeprozess Gas \
+        examples: &[Example::new("aperak-gas-folgeprozess 2026-04-02T10:00:00+02:00", "Eingang am Donnerstag, 2. April 2026, um 10:00 Uhr: Die APERAK im Folgeprozess Gas \
                  ist fällig am Dienstag, 7. April 2026, um 12:00 Uhr \
-                 (aperak-gas-folgeprozess-naechster-wt-1200).",
+                 (aperak-gas-folgeprozess-naechster-wt-1200).")],
     },
     Command {
         name: "aperak-gas-initialprozess",
+        german: None,
         task: Task::Ask(Call::AperakGasInitialprozessDueAt),
         operands: &[(Parameter::Instant, "EINGANG")],
+        options: &[],
         summary: "wann die APERAK im Initialprozess Gas fällig ist",
         meaning: "Mit Ablauf des dritten Werktags nach dem Eingangstag.",
-        example: "aperak-gas-initialprozess 2026-04-02T10:00:00+02:00",
-        output: "Eingang am Donnerstag, 2. April 2026, um 10:00 Uhr: Die APERAK im Initialprozess \
+        examples: &[Example::new("aperak-gas-initialprozess 2026-04-02T10:00:00+02:00", "Eingang am Donnerstag, 2. April 2026, um 10:00 Uhr: Die APERAK im Initialprozess \
                  Gas ist fällig mit Ablauf des Donnerstags, 9. April 2026 \
-                 (aperak-gas-initialprozess-3-werktage).",
+                 (aperak-gas-initialprozess-3-werktage).")],
     },
     Command {
         name: "aperak-gas",
+        german: None,
         task: Task::Ask(Call::AperakGasDueAt),
         operands: &[(Parameter::Pid, "PID"), (Parameter::Instant, "EINGANG")],
+        options: &[],
         summary: "wann die APERAK auf eine Nachricht Gas fällig ist",
         meaning: "44001, 44016, 44039 und 44042 sind Initialprozesse, jede andere Zahl ist ein\n\
                   Folgeprozess.",
-        example: "aperak-gas 44001 2026-04-02T10:00:00+02:00",
-        output: "Eingang am Donnerstag, 2. April 2026, um 10:00 Uhr: Die APERAK auf \
+        examples: &[Example::new("aperak-gas 44001 2026-04-02T10:00:00+02:00", "Eingang am Donnerstag, 2. April 2026, um 10:00 Uhr: Die APERAK auf \
                  Prüfidentifikator 44001 (Initialprozess Gas) ist fällig mit Ablauf des \
-                 Donnerstags, 9. April 2026 (aperak-gas-initialprozess-3-werktage).",
+                 Donnerstags, 9. April 2026 (aperak-gas-initialprozess-3-werktage).")],
     },
     Command {
         name: "add-hours",
+        german: Some("stunden-nach"),
         task: Task::Ask(Call::AddHours),
         operands: &[(Parameter::Instant, "ZEITPUNKT"), (Parameter::Count, "N")],
+        options: &[],
         summary: "der Zeitpunkt N Stunden später",
         meaning: "N Stunden später, an jedem Tag. Beim Wechsel der Uhren geht die Berliner Uhr eine\n\
                   Stunde anders.",
-        example: "add-hours 2026-03-29T01:30:00+01:00 1",
-        output: "1 Stunde nach Sonntag, 29. März 2026, 01:30 Uhr, ist es Sonntag, 29. März 2026, \
-                 03:30 Uhr.",
+        examples: &[Example::new("add-hours 2026-03-29T01:30:00+01:00 1", "1 Stunde nach Sonntag, 29. März 2026, 01:30 Uhr, ist es Sonntag, 29. März 2026, \
+                 03:30 Uhr.")],
     },
     Command {
         name: "deadline-at-werktage",
+        german: Some("ende-des-werktags"),
         task: Task::Ask(Call::DeadlineAtWerktage),
         operands: &[(Parameter::Instant, "EINGANG"), (Parameter::Count, "N")],
+        options: &[],
         summary: "das Ende des N-ten Werktags nach dem Eingangstag",
         meaning: "Das Ende des N-ten Werktags nach dem Eingangstag; mit 0 das Ende des Eingangstags.",
-        example: "deadline-at-werktage 2026-04-02T10:00:00+02:00 1",
-        output: "Eingang am Donnerstag, 2. April 2026, um 10:00 Uhr: Die Frist bis zum Ablauf des \
-                 1. Werktags nach Eingang endet mit Ablauf des Dienstags, 7. April 2026.",
+        examples: &[Example::new("deadline-at-werktage 2026-04-02T10:00:00+02:00 1", "Eingang am Donnerstag, 2. April 2026, um 10:00 Uhr: Die Frist bis zum Ablauf des \
+                 1. Werktags nach Eingang endet mit Ablauf des Dienstags, 7. April 2026.")],
     },
     Command {
         name: "end-of-werktag-after",
+        german: Some("ablauf-des-werktags"),
         task: Task::Ask(Call::EndOfWerktagAfter),
         operands: &[(Parameter::Instant, "EINGANG"), (Parameter::Count, "N")],
+        options: &[],
         summary: "dasselbe wie deadline-at-werktage, unter dem anderen Namen der Quelle",
         meaning: "Das Ende des N-ten Werktags nach dem Eingangstag; mit 0 das Ende des Eingangstags.",
-        example: "end-of-werktag-after 2026-04-02T10:00:00+02:00 3",
-        output: "Eingang am Donnerstag, 2. April 2026, um 10:00 Uhr: Die Frist bis zum Ablauf des \
-                 3. Werktags nach Eingang endet mit Ablauf des Donnerstags, 9. April 2026.",
+        examples: &[Example::new("end-of-werktag-after 2026-04-02T10:00:00+02:00 3", "Eingang am Donnerstag, 2. April 2026, um 10:00 Uhr: Die Frist bis zum Ablauf des \
+                 3. Werktags nach Eingang endet mit Ablauf des Donnerstags, 9. April 2026.")],
     },
     Command {
         name: "next-werktag-at",
+        german: Some("naechster-werktag-um"),
         task: Task::Ask(Call::NextWerktagAt),
         operands: &[(Parameter::Instant, "EINGANG"), (Parameter::Clock, "UHRZEIT")],
+        options: &[],
         summary: "die Uhrzeit am ersten Werktag nach dem Eingangstag",
         meaning: "Die Uhrzeit am ersten Werktag nach dem Eingangstag.",
-        example: "next-werktag-at 2026-04-02T10:00:00+02:00 11:00",
-        output: "Eingang am Donnerstag, 2. April 2026, um 10:00 Uhr: Die Frist bis 11:00 Uhr des \
+        examples: &[Example::new("next-werktag-at 2026-04-02T10:00:00+02:00 11:00", "Eingang am Donnerstag, 2. April 2026, um 10:00 Uhr: Die Frist bis 11:00 Uhr des \
                  1. Werktags nach dem Übertragungstag endet am Dienstag, 7. April 2026, um \
-                 11:00 Uhr.",
+                 11:00 Uhr.")],
     },
     Command {
         name: "nth-werktag-at",
+        german: Some("werktag-um"),
         task: Task::Ask(Call::NthWerktagAt),
         operands: &[
             (Parameter::Instant, "EINGANG"),
             (Parameter::Count, "N"),
             (Parameter::Clock, "UHRZEIT"),
         ],
+        options: &[],
         summary: "die Uhrzeit am N-ten Werktag nach dem Eingangstag",
         meaning: "Die Uhrzeit am N-ten Werktag nach dem Eingangstag; 0 zählt wie 1.",
-        example: "nth-werktag-at 2026-04-02T10:00:00+02:00 2 06:00",
-        output: "Eingang am Donnerstag, 2. April 2026, um 10:00 Uhr: Die Frist bis 06:00 Uhr des \
+        examples: &[Example::new("nth-werktag-at 2026-04-02T10:00:00+02:00 2 06:00", "Eingang am Donnerstag, 2. April 2026, um 10:00 Uhr: Die Frist bis 06:00 Uhr des \
                  2. Werktags nach dem Übertragungstag endet am Mittwoch, 8. April 2026, um \
-                 06:00 Uhr.",
+                 06:00 Uhr.")],
     },
     Command {
         name: "frist",
+        german: None,
         task: Task::Ask(Call::FristDueAt),
         operands: &[(Parameter::Shape, "FORM [N] [UHRZEIT]"), (Parameter::Instant, "EINGANG")],
+        options: &[],
         summary: "wann eine Antwort fällig ist",
         meaning: "WerktagAt ist die Uhrzeit am N-ten Werktag nach dem Eingangstag, EndOfWerktag sein\n\
                   Ende. SameDayAt ist die Uhrzeit am Eingangstag, wenn er ein Werktag ist und sie\n\
                   noch bevorsteht, sonst am nächsten Werktag. SameDay ist das Ende des Eingangstags.",
-        example: "frist SameDayAt 12:00 2026-01-09T12:00:00+01:00",
-        output: "Eingang am Freitag, 9. Januar 2026, um 12:00 Uhr: Die Frist bis 12:00 Uhr am \
+        examples: &[Example::new("frist SameDayAt 12:00 2026-01-09T12:00:00+01:00", "Eingang am Freitag, 9. Januar 2026, um 12:00 Uhr: Die Frist bis 12:00 Uhr am \
                  Übertragungstag endet am Montag, 12. Januar 2026, um 12:00 Uhr. Die \
-                 Uhrzeit war bei Eingang erreicht: es gilt der nächste Werktag.",
+                 Uhrzeit war bei Eingang erreicht: es gilt der nächste Werktag.")],
     },
 ];

@@ -1,11 +1,13 @@
-use crate::command::{Command, Task};
+use crate::command::{Command, Example, Task};
 use mako_fristen_host::{Call, Parameter};
 
 pub const COMMANDS: [Command; 8] = [
     Command {
         name: "tag",
+        german: None,
         task: Task::Ask(Call::IsWerktag),
         operands: &[(Parameter::Date, "DATUM")],
+        options: &[],
         summary: "ob der Tag ein Werktag ist, und warum nicht",
         meaning:
             "Keine Werktage sind die Samstage, die Sonntage und die Feiertage der Liste, die in\n\
@@ -13,79 +15,83 @@ pub const COMMANDS: [Command; 8] = [
                   Samstag und Sonntag gehen einem Feiertag vor, der dann hinter „auch“ steht (in\n\
                   --json „also“). Von zwei Feiertagen an einem Tag wird der mit der kleineren Nummer\n\
                   genannt. An welchen Tagen sie in einem Jahr liegen, zeigt kalender.",
-        example: "tag 2026-11-18",
-        output: "Mittwoch, der 18. November 2026, ist kein Werktag: Buß- und Bettag.",
+        examples: &[Example::new("tag 2026-11-18", "Mittwoch, der 18. November 2026, ist kein Werktag: Buß- und Bettag.")],
     },
     Command {
         name: "next-werktag",
+        german: Some("naechster-werktag"),
         task: Task::Ask(Call::NextWerktag),
         operands: &[(Parameter::Date, "DATUM")],
+        options: &[],
         summary: "der erste Werktag ab dem Tag, diesen eingeschlossen",
         meaning: "Der erste Werktag ab dem Tag. Ist er selbst ein Werktag, so ist er es.",
-        example: "next-werktag 2026-04-04",
-        output: "Der erste Werktag ab Samstag, dem 4. April 2026, ist Dienstag, der 7. April 2026.",
+        examples: &[Example::new("next-werktag 2026-04-04", "Der erste Werktag ab Samstag, dem 4. April 2026, ist Dienstag, der 7. April 2026.")],
     },
     Command {
         name: "add-werktage",
+        german: Some("werktage-nach"),
         task: Task::Ask(Call::AddWerktage),
         operands: &[(Parameter::Date, "DATUM"), (Parameter::Count, "N")],
+        options: &[],
         summary: "der N-te Werktag nach dem Tag",
         meaning:
             "Der N-te Werktag nach dem Tag, der selbst nicht mitzählt. Mit 0 der Tag selbst,\n\
                   ob Werktag oder nicht.",
-        example: "add-werktage 2026-04-02 1",
-        output:
-            "Der 1. Werktag nach Donnerstag, dem 2. April 2026, ist Dienstag, der 7. April 2026.",
+        examples: &[Example::new("add-werktage 2026-04-02 1", "Der 1. Werktag nach Donnerstag, dem 2. April 2026, ist Dienstag, der 7. April 2026.")],
     },
     Command {
         name: "sub-werktage",
+        german: Some("werktage-vor"),
         task: Task::Ask(Call::SubWerktage),
         operands: &[(Parameter::Date, "DATUM"), (Parameter::Count, "N")],
+        options: &[],
         summary: "der N-te Werktag vor dem Tag",
         meaning: "Der N-te Werktag vor dem Tag, der selbst nicht mitzählt. Mit 0 der Tag selbst,\n\
                   ob Werktag oder nicht.",
-        example: "sub-werktage 2026-04-07 1",
-        output:
-            "Der 1. Werktag vor Dienstag, dem 7. April 2026, ist Donnerstag, der 2. April 2026.",
+        examples: &[Example::new("sub-werktage 2026-04-07 1", "Der 1. Werktag vor Dienstag, dem 7. April 2026, ist Donnerstag, der 2. April 2026.")],
     },
     Command {
         name: "werktage-between",
+        german: Some("werktage-zwischen"),
         task: Task::Ask(Call::WerktageBetween),
         operands: &[(Parameter::Date, "VON"), (Parameter::SecondDate, "BIS")],
+        options: &[],
         summary: "wie viele Werktage nach dem ersten Tag bis zum zweiten einschließlich liegen",
         meaning:
             "Die Werktage nach dem ersten Tag bis zum zweiten, diesen eingeschlossen. 0, wenn\n\
                   der zweite nicht später ist.\n\
                   „days_tested“ in --json: die geprüften Tage, für beide vom 1. Januar bis zum Tag selbst;\n\
                   in --bytes das 25. bis 28. Byte, das niederwertigste zuerst.",
-        example: "werktage-between 2026-04-02 2026-04-07",
-        output:
-            "Nach Donnerstag, dem 2. April 2026, bis einschließlich Dienstag, den 7. April 2026, \
-                 liegt 1 Werktag.",
+        examples: &[Example::new("werktage-between 2026-04-02 2026-04-07", "Nach Donnerstag, dem 2. April 2026, bis einschließlich Dienstag, den 7. April 2026, \
+                 liegt 1 Werktag.")],
     },
     Command {
         name: "add-months",
+        german: Some("monate-nach"),
         task: Task::Ask(Call::AddMonths),
         operands: &[(Parameter::Date, "DATUM"), (Parameter::Count, "N")],
+        options: &[],
         summary: "der Tag N Monate später",
         meaning: "N Monate später. Fehlt der Tag im Zielmonat, so gilt dessen letzter (§ 188 BGB).",
-        example: "add-months 2026-01-31 1",
-        output: "Samstag, der 28. Februar 2026, liegt 1 Monat nach Samstag, dem 31. Januar 2026. \
-                 Einen 31. hat der Februar 2026 nicht; es gilt sein letzter Tag (§ 188 BGB).",
+        examples: &[Example::new("add-months 2026-01-31 1", "Samstag, der 28. Februar 2026, liegt 1 Monat nach Samstag, dem 31. Januar 2026. \
+                 Einen 31. hat der Februar 2026 nicht; es gilt sein letzter Tag (§ 188 BGB).")],
     },
     Command {
         name: "subtract-months",
+        german: Some("monate-vor"),
         task: Task::Ask(Call::SubtractMonths),
         operands: &[(Parameter::Date, "DATUM"), (Parameter::Count, "N")],
+        options: &[],
         summary: "der Tag N Monate früher",
         meaning: "N Monate früher. Fehlt der Tag im Zielmonat, so gilt dessen letzter (§ 188 BGB).",
-        example: "subtract-months 2026-03-15 2",
-        output: "Donnerstag, der 15. Januar 2026, liegt 2 Monate vor Sonntag, dem 15. März 2026.",
+        examples: &[Example::new("subtract-months 2026-03-15 2", "Donnerstag, der 15. Januar 2026, liegt 2 Monate vor Sonntag, dem 15. März 2026.")],
     },
     Command {
         name: "kalender",
+        german: None,
         task: Task::Kalender,
-        operands: &[(Parameter::Count, "JAHR")],
+        operands: &[],
+        options: &["[JAHR|MONAT]..."],
         summary: "die zwölf Monate eines Jahres mit allen Feiertagen",
         meaning: "Das Jahr auf einem Blatt. Tage, die keine Werktage sind, sind im Terminal rot,\n\
                   Feiertage darunter hinterlegt; sonst steht ein Stern dahinter. Ohne Farbe auch,\n\
@@ -93,7 +99,6 @@ pub const COMMANDS: [Command; 8] = [
                   nennt. --bytes gibt es hier nicht. In --json hat jeder Feiertag seine Nummer\n\
                   (number) und die, die tag für das Datum nennt (reason): an einem Samstag 1, an\n\
                   einem Sonntag 2.",
-        example: "kalender 2026",
-        output: include_str!("kalender-2026.txt"),
+        examples: &[Example::new("kalender 2026", include_str!("kalender-2026.txt"))],
     },
 ];

@@ -1,12 +1,14 @@
-use crate::command::{Command, Task};
+use crate::command::{Command, Example, Task};
 
 /// The file of the example.
-pub const FILE: &str = include_str!("portfolio.csv");
+const FILE: &str = include_str!("portfolio.csv");
 
 pub const COMMANDS: [Command; 1] = [Command {
     name: "portfolio",
+    german: None,
     task: Task::Portfolio,
     operands: &[],
+    options: &["[DATEI]"],
     summary: "zählt die Werktage von jeder Zeile einer Datei oder der Standardeingabe, VON und BIS",
     meaning: "\
 Je Zeile zwei Tage wie 2026-04-02, VON und BIS, und dazwischen ein Komma, ein Semikolon,
@@ -30,6 +32,7 @@ Mit --json zu jeder Zeile eine Zeile JSON mit ihrer Nummer (line) und der Zahl (
 Wo es keine gibt, steht null, und in refusal oder error, warum. Mit --bytes die vier
 Bytes, die mf_portfolio an den Platz des Paares schreibt, hexadezimal; ffffffff, wenn ein
 Tag außerhalb des Kalenders liegt.",
-    example: "portfolio portfolio.csv",
-    output: "\n2457\n1",
+    examples: &[
+        Example::new("portfolio portfolio.csv", "\n2457\n1").with_file("portfolio.csv", FILE)
+    ],
 }];

@@ -30,8 +30,8 @@ fn asked(text: &str) -> Result<Asked, Usage> {
 
 fn find(name: &str) -> Result<(&'static Command, Call), Usage> {
     questions().find(|(command, _)| command.is_named(name)).ok_or_else(|| {
-        let all: Vec<_> = questions().map(|(command, call)| (command.name, call)).collect();
-        let expected = names::expected(&all);
+        let all: Vec<_> = questions().map(|(command, _)| command.name).collect();
+        let expected = names::one_of(&all);
         Usage::new(format!("erwartet {expected}, nicht {}", quoted(OsStr::new(name))))
     })
 }

@@ -1,0 +1,198 @@
+//! Which part of a question a call refuses, and why, in German.
+
+use crate::deutsch::{dem, monat, monate, stunden, tag, zeitpunkt};
+use crate::inquiry::Inquiry;
+use mako_fristen_host::{
+    berlin_date, BerlinTime, Call, Clock, Date, Instant, Parameter, Refusal, Sparte,
+};
+
+const FIRST: &str = "1. Januar 1996";
+const LAST: &str = "31. Dezember 2899";
+
+/// One sentence.
+pub fn of(inquiry: &Inquiry, refusal: Refusal) -> String {
+    let question = &inquiry.question;
+    let found = match refusal {
+        Refusal::NoDate => no_date(inquiry),
+        Refusal::InstantOutside => outside(inquiry),
+        Refusal::NoClock => clock(question.clock).map(|why| format!("{why}.")),
+        Refusal::LocalTimeAbsent => absent_in(inquiry),
+        Refusal::NoBeginning => no_beginning(inquiry),
+        Refusal::LeavesCalendar => leaves(inquiry),
+        _ => None,
+    };
+    found.unwrap_or_else(|| refusal.beschreibung().to_owned())
+}
+
+/// The dates that are none, each by its name if there are two.
+fn no_date(inquiry: &Inquiry) -> Option<String> {
+    let dates =
+        [(Parameter::Date, inquiry.question.date), (Parameter::SecondDate, inquiry.question.date2)];
+    let given = dates.into_iter().filter(|(parameter, _)| inquiry.call.takes(*parameter));
+    let two = given.clone().count() == 2;
+    let label =
+        |parameter| if two { inquiry.label(parameter).to_owned() + " " } else { String::new() };
+    let wrong = given.filter_map(|(parameter, date)| Some(label(parameter) + &date_why(date)?));
+    sentence(wrong.collect())
+}
+
+/// `2026-02-30: der Februar 2026 hat 28 Tage`; none for a date that the calls take.
+pub fn date_why(date: Date) -> Option<String> {
+    Some(format!("{date}: {}", why_no_date(date)?))
+}
+
+fn why_no_date(date: Date) -> Option<String> {
+    let Date { year, month, day } = date;
+    if !(1..=12).contains(&month) {
+        return Some(format!("einen {month}. Monat gibt es nicht"));
+    }
+    if date.day_number().is_none() {
+        let last = (28..=31).rev().find(|day| Date::new(year, month, *day).weekday().is_some())?;
+        let name = monat(month);
+        return Some(match day {
+            0 => format!("einen 0. {name} gibt es nicht"),
+            _ => format!("der {name} {year} hat {last} Tage"),
+        });
+    }
+    if date < Date::FIRST {
+        return Some(format!("der Kalender beginnt am {FIRST}"));
+    }
+    (date > Date::LAST).then(|| format!("der Kalender endet am {LAST}"))
+}
+
+/// A clause for each, and a full stop.
+fn sentence(clauses: Vec<String>) -> Option<String> {
+    (!clauses.is_empty()).then(|| format!("{}.", clauses.join("; ")))
+}
+
+/// The instants outside, each by its name if there are two.
+fn outside(inquiry: &Inquiry) -> Option<String> {
+    let question = &inquiry.question;
+    let instants =
+        [(Parameter::Instant, question.instant), (Parameter::SecondInstant, question.instant2)];
+    let given = instants.into_iter().filter(|(parameter, _)| inquiry.call.takes(*parameter));
+    let two = given.clone().count() == 2;
+    let label =
+        |parameter| if two { inquiry.label(parameter).to_owned() + " " } else { String::new() };
+    let wrong =
+        given.filter_map(|(parameter, instant)| Some(label(parameter) + &instant_why(instant)?));
+    sentence(wrong.collect())
+}
+
+fn instant_why(instant: Instant) -> Option<String> {
+    let shown = match instant.utc() {
+        Some((date, clock)) if date.year <= 9999 => format!("{date} {} UTC", clock.uhr()),
+        _ => instant.to_string(),
+    };
+    if instant.nanos > Instant::LAST.nanos {
+        return Some(format!(
+            "{instant}: eine Sekunde hat 1000000000 Nanosekunden, von 0 an gezählt"
+        ));
+    }
+    if instant < Instant::FIRST {
+        return Some(format!("{shown}: der Kalender beginnt am {FIRST} um 00:00 Uhr in Berlin"));
+    }
+    (instant > Instant::LAST)
+        .then(|| format!("{shown}: der Kalender endet mit dem {LAST} in Berlin"))
+}
+
+/// Why a clock shows no such time.
+fn clock(Clock { hour, minute, second, nanos }: Clock) -> Option<String> {
+    let shown = format!("{hour:02}:{minute:02}:{second:02}");
+    let why = match (hour, minute, second, nanos) {
+        (24, 0, 0, 0) => "die letzte Stunde ist 23; 24:00 Uhr ist 00:00 Uhr des nächsten Tages",
+        (24.., ..) => "die letzte Stunde ist 23",
+        (_, 60.., ..) => "die letzte Minute ist 59",
+        (_, _, 60.., _) => "die letzte Sekunde ist 59",
+        (.., 1_000_000_000..) => "eine Sekunde hat 1000000000 Nanosekunden",
+        _ => return None,
+    };
+    Some(format!("{shown}: {why}"))
+}
+
+/// Of `berlin_at` its date, of `SameDayAt` the day of the receipt.
+fn absent_in(inquiry: &Inquiry) -> Option<String> {
+    let question = &inquiry.question;
+    let date = match inquiry.call.takes(Parameter::Instant) {
+        true => berlin_date(question.instant).ok()?,
+        false => question.date,
+    };
+    Some(absent(date, question.clock))
+}
+
+fn absent(date: Date, clock: Clock) -> String {
+    format!(
+        "Am {} gibt es {} in Berlin nicht: um 02:00 Uhr wird die Uhr auf 03:00 Uhr vorgestellt.",
+        tag(date),
+        clock.uhr()
+    )
+}
+
+/// Of an instant that was given by Berlin's clock, under its name.
+pub fn of_berlin(label: &str, refusal: Refusal, date: Date, at: Clock) -> String {
+    let found = match refusal {
+        Refusal::NoDate => date_why(date),
+        Refusal::NoClock => clock(at),
+        Refusal::LocalTimeAbsent => return absent(date, at),
+        _ => None,
+    };
+    match found {
+        Some(why) => format!("{label} {why}."),
+        None => refusal.beschreibung().to_owned(),
+    }
+}
+
+fn no_beginning(inquiry: &Inquiry) -> Option<String> {
+    let (question, sparte) = (&inquiry.question, inquiry.sparte().ok()?);
+    let instant = match inquiry.call.takes(Parameter::SecondInstant) {
+        true => question.instant2,
+        false => question.instant,
+    };
+    let begins = match sparte {
+        Sparte::Strom => "00:00",
+        Sparte::Gas => "06:00",
+    };
+    let shown = zeitpunkt(BerlinTime::of(instant).ok()?);
+    Some(format!("{shown}: in der Sparte {sparte} beginnt ein Tag um {begins} Uhr in Berlin."))
+}
+
+/// The result that leaves the calendar.
+fn leaves(inquiry: &Inquiry) -> Option<String> {
+    let (n, date) = (inquiry.question.n, inquiry.question.date);
+    let behind = format!("liegt hinter dem {LAST}, dem letzten Tag des Kalenders.");
+    let before = format!("liegt vor dem {FIRST}, dem ersten Tag des Kalenders.");
+    Some(match inquiry.call {
+        Call::NextWerktag => format!("Der erste Werktag ab {} {behind}", dem(date)),
+        Call::AddWerktage => format!("Der {n}. Werktag nach {}, {behind}", dem(date)),
+        Call::SubWerktage => format!("Der {n}. Werktag vor {}, {before}", dem(date)),
+        Call::AddMonths => format!("Der Tag {} nach {}, {behind}", monate(n), dem(date)),
+        Call::SubtractMonths => format!("Der Tag {} vor {}, {before}", monate(n), dem(date)),
+        Call::AddHours => format!("Der Zeitpunkt {} danach {behind}", stunden(n)),
+        Call::ContrlDueAtChange if date == Date::FIRST => {
+            format!("Der Tag vor dem Stichtag {before}")
+        }
+        Call::ContrlDueAtChange if date == Date::LAST => {
+            format!("Der Tag nach dem Stichtag {behind}")
+        }
+        call if call.takes(Parameter::Instant) && !call.takes(Parameter::VorlaufShape) => {
+            match call {
+                Call::EogAnkuendigungFristgerecht => {
+                    format!("Der letzte Werktag vor {}, {before}", dem(date))
+                }
+                _ => format!("Das Ende der Frist {behind}"),
+            }
+        }
+        Call::VorlaufSpan => {
+            format!("Die Spanne der zulässigen Termine reicht über den Kalender ({FIRST} bis {LAST}) hinaus.")
+        }
+        _ if inquiry.call.takes(Parameter::VorlaufShape)
+            || inquiry.call == Call::AbmeldungCheck =>
+        {
+            format!(
+                "Der späteste Übertragungstag oder ein anderer Tag, den das Urteil braucht, liegt \
+                 nicht im Kalender vom {FIRST} bis zum {LAST}."
+            )
+        }
+        _ => return None,
+    })
+}

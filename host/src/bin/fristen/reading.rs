@@ -1,0 +1,197 @@
+//! Dates, clock times and instants as people write them.
+
+use crate::deutsch::zeitpunkt;
+use crate::words::normal;
+use mako_fristen_host::{
+    berlin_at, berlin_date, BerlinTime, Clock, Date, Error, Instant, InstantError, Refusal,
+};
+use std::time::SystemTime;
+
+pub const DATE: &str = "ein Datum wie 2026-04-02 oder 2.4.2026";
+pub const CLOCK: &str = "eine Uhrzeit wie 13:00, 13:00:00 oder 13:00:00,5";
+const INSTANT: &str =
+    "einen Zeitpunkt wie „2026-03-31 11:59“ in Berlin, 2026-03-31T11:59:59+02:00 \
+                       oder @SEKUNDEN seit 1970";
+
+/// The largest offset is some hours short of a day.
+const HOUR: i64 = 3600;
+
+pub fn now() -> Instant {
+    Instant::from(SystemTime::now())
+}
+
+/// `2026-04-02`, `02.04.2026`, `2.4.2026`, or the word for a day beside the one that Berlin has now.
+pub fn date(word: &str, now: Instant) -> Option<Date> {
+    let days = match &normal(word)[..] {
+        "heute" => 0,
+        "morgen" => 1,
+        "gestern" => -1,
+        _ => return word.parse().ok().or_else(|| german_date(word)),
+    };
+    berlin_date(now).ok()?.plus_days(days)
+}
+
+fn german_date(word: &str) -> Option<Date> {
+    let mut parts = word.split('.');
+    let mut part = |least, most| {
+        parts.next().filter(|part| is_number(part) && (least..=most).contains(&part.len()))
+    };
+    let (day, month, year) = (part(1, 2)?, part(1, 2)?, part(4, 4)?);
+    parts.next().is_none().then_some(())?;
+    Some(Date::new(year.parse().ok()?, month.parse().ok()?, day.parse().ok()?))
+}
+
+/// A clock time with one digit of an hour or two, and a comma or a point before its fraction.
+pub fn clock(word: &str) -> Option<Clock> {
+    let (hour, _) = word.split_once(':')?;
+    let padded = if hour.len() == 1 { "0" } else { "" };
+    format!("{padded}{}", word.replacen(',', ".", 1)).parse().ok()
+}
+
+/// An instant that was read, and what whoever wrote it should know of it.
+#[derive(Debug, PartialEq, Eq)]
+pub struct Moment {
+    pub instant: Instant,
+    /// That the offset is not Berlin's.
+    pub note: Option<String>,
+    /// That Berlin's clock shows this time twice, if it is one of Berlin's.
+    pub twice: bool,
+}
+
+/// Why a word is no instant.
+#[derive(Debug, PartialEq, Eq)]
+pub enum NoMoment {
+    /// It is not written as one: this was expected.
+    Expected(String),
+    /// `berlin_at` refuses the date and the clock time.
+    Refused(Refusal, Date, Clock),
+}
+
+/// `jetzt`; `@` and seconds; or a date and a clock time, with an offset or Berlin's.
+pub fn moment(word: &str, now: Instant) -> Result<Moment, NoMoment> {
+    let plain = |instant| Moment { instant, note: None, twice: false };
+    if normal(word) == "jetzt" {
+        return Ok(plain(now));
+    }
+    if word.starts_with('@') {
+        return word.parse().map(plain).map_err(|_| expected());
+    }
+    let (day, time) = parted(word).ok_or_else(expected)?;
+    let date = date(day, now).ok_or_else(expected)?;
+    let Some(time) = time else {
+        let missing = "zum Datum eine Uhrzeit, wie „2026-03-31 11:59“";
+        return Err(NoMoment::Expected(missing.to_owned()));
+    };
+    let (clock, offset) = timed(time).ok_or_else(expected)?;
+    match offset {
+        None => in_berlin(date, clock),
+        Some(offset) => with_offset(date, clock, offset),
+    }
+}
+
+/// Whether a word can be the clock time of the date before it.
+pub fn is_time(word: &str) -> bool {
+    timed(word).is_some()
+}
+
+fn expected() -> NoMoment {
+    NoMoment::Expected(INSTANT.to_owned())
+}
+
+/// The date and the clock time, with blanks or a `T` between.
+fn parted(word: &str) -> Option<(&str, Option<&str>)> {
+    let word = word.trim();
+    if let Some((day, time)) = word.split_once([' ', '\t']) {
+        return Some((day, Some(time.trim_start())));
+    }
+    let mark = word.char_indices().skip(1).find(|(at, c)| {
+        matches!(c, 'T' | 't') && word.as_bytes().get(at - 1).is_some_and(u8::is_ascii_digit)
+    });
+    match mark {
+        Some((at, _)) => Some((word.get(..at)?, Some(word.get(at + 1..)?))),
+        None => Some((word, None)),
+    }
+}
+
+/// What stands behind a clock time.
+#[derive(Clone, Copy, Debug, PartialEq, Eq)]
+enum Offset {
+    /// `Z`, which names UTC and no clock of a place.
+    Utc,
+    East(i64),
+    TooLarge,
+}
+
+fn timed(text: &str) -> Option<(Clock, Option<Offset>)> {
+    let end = text.find(['Z', 'z', '+', '-']).unwrap_or(text.len());
+    let (time, offset) = text.split_at(end);
+    let offset = match offset {
+        "" => None,
+        "Z" | "z" => Some(Offset::Utc),
+        _ => Some(east(offset)?),
+    };
+    Some((clock(time.trim_end())?, offset))
+}
+
+/// `+01:00`, `+0100` or `+01`.
+fn east(text: &str) -> Option<Offset> {
+    let digits: String = text.get(1..)?.replacen(':', "", 1);
+    let colon_fits = text.len() == digits.len() + 1 || text.get(3..4) == Some(":");
+    if !is_number(&digits) || !matches!(digits.len(), 2 | 4) || !colon_fits {
+        return None;
+    }
+    let (hours, minutes) = digits.split_at(2);
+    let hours: i64 = hours.parse().ok()?;
+    let minutes: i64 = if minutes.is_empty() { 0 } else { minutes.parse().ok()? };
+    if hours > 23 || minutes > 59 {
+        return Some(Offset::TooLarge);
+    }
+    let east = hours * HOUR + minutes * 60;
+    Some(Offset::East(if text.starts_with('-') { -east } else { east }))
+}
+
+fn in_berlin(date: Date, clock: Clock) -> Result<Moment, NoMoment> {
+    let instant = berlin_at(date, clock).map_err(|error| match error {
+        Error::Refused(refusal) => NoMoment::Refused(refusal, date, clock),
+        // The archive is looked at before anything is answered.
+        Error::Unreadable(_) => expected(),
+    })?;
+    let twice = BerlinTime::of(instant).is_ok_and(|time| time.repeated);
+    Ok(Moment { instant, note: None, twice })
+}
+
+fn with_offset(date: Date, clock: Clock, offset: Offset) -> Result<Moment, NoMoment> {
+    let no = |error| NoMoment::Expected(of_instant(error).to_owned());
+    let shown = Instant::of_utc(date, clock).ok_or_else(|| no(InstantError::Date))?;
+    clock.second_of_day().ok_or_else(|| no(InstantError::Clock))?;
+    let east = match offset {
+        Offset::Utc => 0,
+        Offset::East(east) => east,
+        Offset::TooLarge => return Err(no(InstantError::Offset)),
+    };
+    let instant = shown.plus_seconds(-east).ok_or_else(expected)?;
+    let note = if offset == Offset::Utc { None } else { not_berlins(instant, east) };
+    Ok(Moment { instant, note, twice: false })
+}
+
+fn of_instant(error: InstantError) -> &'static str {
+    match error {
+        InstantError::Form => INSTANT,
+        InstantError::Date => "einen Tag, den es gibt",
+        InstantError::Clock => "eine Stunde bis 23, eine Minute und eine Sekunde bis 59",
+        InstantError::Offset => "einen Abstand zu UTC bis 23:59",
+    }
+}
+
+/// That Berlin's clock has another offset then; nothing where the calls know no Berlin clock.
+fn not_berlins(instant: Instant, east: i64) -> Option<String> {
+    let time = BerlinTime::of(instant).ok()?;
+    let berlins = if time.summer { 2 } else { 1 };
+    let shown = zeitpunkt(time);
+    (east != berlins * HOUR)
+        .then(|| format!("in Berlin gilt dann +0{berlins}:00; gelesen ist {shown}"))
+}
+
+pub fn is_number(word: &str) -> bool {
+    !word.is_empty() && word.bytes().all(|byte| byte.is_ascii_digit())
+}
