@@ -19,6 +19,7 @@ mod lines;
 mod names;
 mod operands;
 mod outcome;
+mod output;
 mod portfolio;
 mod program;
 mod progress;
@@ -37,7 +38,7 @@ use arguments::{is_option, Arguments, Form};
 use bis_wann::BisWann;
 use command::{Command, Task};
 use input::Input;
-use kalenderblatt::{Mark, Year};
+use kalenderblatt::{Mark, Period, Sheet};
 use mako_fristen_host::{check_archive, Call, Error};
 use outcome::Outcome;
 use reply::Reply;
@@ -145,18 +146,42 @@ fn bis_wann(command: &Command, arguments: &Arguments) -> Result<Outcome, Usage> 
     Ok(Outcome::of(answer.map(|answer| answer.text()), errors::refused))
 }
 
+/// A sheet for each year or month; without any the one of this year.
 fn kalender(arguments: &Arguments) -> Result<Outcome, Usage> {
-    let years = operands::words(arguments)?;
-    let year: u32 = years.first().and_then(|year| year.to_str()?.parse().ok()).unwrap_or(2026);
-    let colour = io::stdout().is_terminal() && env::var_os("NO_COLOR").is_none();
-    let mark = if colour { Mark::Colour } else { Mark::Star };
-    let year = check_archive().map_err(Error::from).and_then(|()| Year::of(year));
-    let given = &arguments.given;
-    match arguments.form {
-        Form::Json => Ok(Outcome::of(year.map(|year| year.json(given)), |refusal| {
-            kalenderblatt::refused_json(given, refusal)
-        })),
-        Form::Bytes => Err(Usage::new("--bytes gibt es zu diesem Befehl nicht")),
-        _ => Ok(Outcome::of(year.map(|year| year.text(mark)), errors::refused)),
+    if arguments.form == Form::Bytes {
+        return Err(Usage::new("--bytes gibt es zu diesem Befehl nicht"));
     }
+    let periods = operands::periods(arguments)?;
+    if let Err(unreadable) = check_archive() {
+        return Ok(Outcome::unreadable(&unreadable));
+    }
+    let mark = if is_coloured() { Mark::Colour } else { Mark::Star };
+    let sheets = periods.into_iter().map(|period| sheet(period, arguments, mark));
+    let between = if arguments.form == Form::Sentence { "\n" } else { "" };
+    Ok(Outcome::joined(sheets, between))
+}
+
+fn sheet(period: Period, arguments: &Arguments, mark: Mark) -> Outcome {
+    let (sheet, given) = (Sheet::of(period), &arguments.given);
+    match arguments.form {
+        Form::Json => Outcome::of(sheet.map(|sheet| sheet.json(given)), |refusal| {
+            kalenderblatt::refused_json(given, refusal)
+        }),
+        Form::Short => {
+            let refused = |refusal| errors::refused_as(refusal, &period.why());
+            Outcome::of(sheet.map(|sheet| sheet.werktage().to_string()), refused)
+        }
+        Form::Sentence | Form::Bytes => {
+            Outcome::of(sheet.map(|sheet| sheet.text(mark)), |refusal| {
+                errors::refused_as(refusal, &period.why())
+            })
+        }
+    }
+}
+
+/// On a terminal that shows colours, for someone who wants them (no-color.org).
+fn is_coloured() -> bool {
+    let dumb = env::var_os("TERM").is_none_or(|terminal| terminal == "dumb");
+    let unwanted = env::var_os("NO_COLOR").is_some_and(|set| !set.is_empty());
+    io::stdout().is_terminal() && !dumb && !unwanted
 }

@@ -1,3 +1,4 @@
+use crate::output::Output;
 use crate::{errors, program};
 use mako_fristen_host::{Error, Refusal, Unreadable};
 use std::fmt::Display;
@@ -77,6 +78,18 @@ impl Outcome {
         Outcome::complaint(text, Status::OutputFailed)
     }
 
+    /// One after the other, with the status of the worst.
+    pub fn joined(outcomes: impl Iterator<Item = Outcome>, between: &str) -> Outcome {
+        let mut joined = Outcome::silent(Status::Answered);
+        joined.complaint = false;
+        for Outcome { text, status, .. } in outcomes {
+            let between = if joined.text.is_empty() { "" } else { between };
+            joined.text.extend([between, &text]);
+            joined.status = joined.status.max(status);
+        }
+        joined
+    }
+
     /// With notes for whoever asked.
     pub fn noted(self, notes: Vec<String>) -> Outcome {
         Outcome { notes, ..self }
@@ -106,7 +119,7 @@ impl Outcome {
             );
         }
         let written = match self.complaint {
-            false => write(&mut io::stdout().lock(), &self.text),
+            false => write(&mut Output::standard(), &self.text),
             true => write(&mut io::stderr().lock(), &self.text),
         };
         let status = written.map_or_else(
