@@ -94,18 +94,27 @@ program_is_old() {
 show_crate() {
     local text="fristen: beweist Teil ${number[$1]} von ${#number[@]}: $1 ..."
     if [[ -t 2 ]]; then printf '\r\033[K%s' "$text"; else echo "$text"; fi >&2
+    shown=1
+}
+
+# Whether the call is there that this process was started by. One that was killed keeps its number until it is asked for.
+caller_is_there() {
+    local told
+    IFS= read -r told <"/proc/$BASHPID/stat" || return 0
+    [[ ${told##*) } == ?" $$ "* ]]
 }
 
 # Keeps what a tool prints, and shows at which crate rt is. Ends the tool, whose process group the first line names, where
-# this call was killed.
+# this call was killed, and itself with the tool.
 follow() {
-    local group line part='' status=0
+    local group line part='' shown='' status=0
+    trap '' HUP INT TERM
     IFS= read -r group
     while ((status == 0 || status > 128)); do
         IFS= read -r -t 1 line
         status=$?
         part+=$line
-        kill -0 "$$" 2>/dev/null || kill -s TERM -- "-$group" 2>/dev/null
+        caller_is_there || kill -s TERM -- "-$group"
         ((status == 0)) || continue
         printf '%s\n' "$part" >&7
         [[ ! $part =~ ^rt:\ chose\ .*\ for\ ([a-z0-9_]+)$ || -z ${number[${BASH_REMATCH[1]}]-} ]] ||
@@ -113,7 +122,7 @@ follow() {
         part=
     done
     printf '%s' "$part" >&7
-    [[ ! -t 2 ]] || printf '\r\033[K' >&2
+    [[ -z $shown || ! -t 2 ]] || printf '\r\033[K' >&2
 }
 
 run_tool() {
