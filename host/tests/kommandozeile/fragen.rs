@@ -71,7 +71,8 @@ fn single(line: &str, number: usize, form: &[&str]) -> String {
 #[test]
 fn a_file_in_the_three_forms() {
     let input = format!("# Montag\n\n{SPAN}\n{REFUSED}\n{CHECK}\n");
-    let no_end = "Ein Ergebnis verlässt den Kalender vom 1. Januar 1996 bis zum 31. Dezember 2899.";
+    let no_end = "Die Spanne der zulässigen Termine verlässt den Kalender vom 1. Januar 1996 bis \
+                  zum 31. Dezember 2899.";
     let late =
         "1 Tag zu spät: Übertragungstag Samstag, 10. Januar 2026, Termin Montag, 12. Januar 2026. \
                 Spätester Übertragungstag ist der 1. Werktag vor dem Termin. Es fehlen 0 Werktage; \
@@ -151,10 +152,20 @@ fn nothing_asked_is_nothing_answered() {
 
 #[test]
 fn lines_that_cannot_be_read_are_named_and_the_others_answered() {
-    let cases: [(&[u8], &str); 12] = [
+    let cases: [(&[u8], &str); 13] = [
         (b"gestern", "erwartet contrl, frist, check oder span, nicht „gestern“"),
         (b"tag 2026-01-01", "erwartet contrl, frist, check oder span, nicht „tag“"),
-        (b"Span Korridor 1 2026-01-01", "erwartet contrl, frist, check oder span, nicht „Span“"),
+        (
+            b"spna Korridor 1 2026-01-01",
+            "erwartet contrl, frist, check oder span, nicht „spna“. Meinten Sie span?",
+        ),
+        (
+            b"span Koridor 1 2026-01-01",
+            "FORM [ZAHLEN]: erwartet LatestWerktageBefore, WindowWerktageBefore, \
+             LatestWerktageAfter, EarliestWerktageAfter, Korridor, TagVorDemLetztenWerktagVor, \
+             LatestMonateBefore oder LatestMonateUndWerktageBefore, nicht „Koridor“. Meinten Sie \
+             Korridor? (Aufbau: span FORM [ZAHLEN] ÜBERTRAGUNGSTAG)",
+        ),
         (b"--json", "erwartet contrl, frist, check oder span, nicht „--json“"),
         (b"span", "es fehlt: FORM [ZAHLEN] (Aufbau: span FORM [ZAHLEN] ÜBERTRAGUNGSTAG)"),
         (
@@ -267,13 +278,13 @@ fn records() -> (Vec<u8>, String) {
     let asked = [
         (
             Frage::Contrl { received, anlass: ContrlAnlass::GasAlocat },
-            "contrl GasAlocat @1774951199.7",
+            "contrl GasAlocat @1774951199s7ns",
         ),
         (
             Frage::Frist { shape: FristShape::WerktagAt { werktage: 2, at: noon }, received },
-            "frist WerktagAt 2 12:00 @1774951199.7",
+            "frist WerktagAt 2 12:00 @1774951199s7ns",
         ),
-        (Frage::Frist { shape: no_clock, received }, "frist SameDayAt 24:00 @1774951199.7"),
+        (Frage::Frist { shape: no_clock, received }, "frist SameDayAt 24:00 @1774951199s7ns"),
         (
             check(VorlaufShape::LatestWerktageBefore(1), monday),
             "check LatestWerktageBefore 1 2026-01-10 2026-01-12",
@@ -406,9 +417,9 @@ fn a_file_of_an_unlikely_name() {
 fn bad_usage() {
     for (arguments, expected) in [
         (&["a", "b"][..], "zu viel: „b“"),
-        (&["--roh", "--json"], "erwartet --roh ohne --json und --bytes"),
-        (&["--bytes", "--roh", "-"], "erwartet --roh ohne --json und --bytes"),
-        (&["--json", "--bytes"], "erwartet --json oder --bytes, nicht beide"),
+        (&["--roh", "--json"], "erwartet --roh ohne --json, --kurz und --bytes"),
+        (&["--bytes", "--roh", "-"], "erwartet --roh ohne --json, --kurz und --bytes"),
+        (&["--json", "--bytes"], "erwartet nur eines von --json, --bytes und --kurz"),
         (&["--eeg", "ja"], "--eeg gehört nicht zu diesem Befehl"),
     ] {
         let complaint = complaint(&[&["fragen"], arguments].concat());

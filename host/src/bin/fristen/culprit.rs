@@ -1,6 +1,6 @@
 //! Which part of a question a call refuses, and why, in German.
 
-use crate::deutsch::{dem, monat, monate, stunden, tag, zeitpunkt};
+use crate::deutsch::{dem, den, monat, monate, stunden, zeitpunkt};
 use crate::inquiry::Inquiry;
 use mako_fristen_host::{
     berlin_date, BerlinTime, Call, Clock, Date, Instant, Parameter, Refusal, Sparte,
@@ -85,9 +85,7 @@ fn instant_why(instant: Instant) -> Option<String> {
         _ => instant.to_string(),
     };
     if instant.nanos > Instant::LAST.nanos {
-        return Some(format!(
-            "{instant}: eine Sekunde hat 1000000000 Nanosekunden, von 0 an gezählt"
-        ));
+        return Some(format!("{instant}: über 999999999 Nanosekunden beginnt die nächste Sekunde"));
     }
     if instant < Instant::FIRST {
         return Some(format!("{shown}: der Kalender beginnt am {FIRST} um 00:00 Uhr in Berlin"));
@@ -104,7 +102,7 @@ fn clock(Clock { hour, minute, second, nanos }: Clock) -> Option<String> {
         (24.., ..) => "die letzte Stunde ist 23",
         (_, 60.., ..) => "die letzte Minute ist 59",
         (_, _, 60.., _) => "die letzte Sekunde ist 59",
-        (.., 1_000_000_000..) => "eine Sekunde hat 1000000000 Nanosekunden",
+        (.., 1_000_000_000..) => "über 999999999 Nanosekunden beginnt die nächste Sekunde",
         _ => return None,
     };
     Some(format!("{shown}: {why}"))
@@ -122,8 +120,8 @@ fn absent_in(inquiry: &Inquiry) -> Option<String> {
 
 fn absent(date: Date, clock: Clock) -> String {
     format!(
-        "Am {} gibt es {} in Berlin nicht: um 02:00 Uhr wird die Uhr auf 03:00 Uhr vorgestellt.",
-        tag(date),
+        "Am {}, gibt es {} in Berlin nicht: um 02:00 Uhr wird die Uhr auf 03:00 Uhr vorgestellt.",
+        dem(date),
         clock.uhr()
     )
 }
@@ -138,6 +136,18 @@ pub fn of_berlin(label: &str, refusal: Refusal, date: Date, at: Clock) -> String
     };
     match found {
         Some(why) => format!("{label} {why}."),
+        None => refusal.beschreibung().to_owned(),
+    }
+}
+
+/// Of `bis-wann`.
+pub fn of_anchor(anchor: Date, refusal: Refusal) -> String {
+    match date_why(anchor) {
+        Some(why) => format!("{why}."),
+        None if refusal == Refusal::LeavesCalendar => {
+            let day = den(anchor);
+            format!("Ein Übertragungstag für {day}, liegt nicht im Kalender vom {FIRST} bis zum {LAST}.")
+        }
         None => refusal.beschreibung().to_owned(),
     }
 }
@@ -183,7 +193,7 @@ fn leaves(inquiry: &Inquiry) -> Option<String> {
             }
         }
         Call::VorlaufSpan => {
-            format!("Die Spanne der zulässigen Termine reicht über den Kalender ({FIRST} bis {LAST}) hinaus.")
+            format!("Die Spanne der zulässigen Termine verlässt den Kalender vom {FIRST} bis zum {LAST}.")
         }
         _ if inquiry.call.takes(Parameter::VorlaufShape)
             || inquiry.call == Call::AbmeldungCheck =>

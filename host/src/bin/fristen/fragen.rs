@@ -7,6 +7,7 @@ use crate::errors;
 use crate::input::Input;
 use crate::lines::Line;
 use crate::outcome::{Outcome, Status};
+use crate::program;
 use crate::reply::Reply;
 use crate::run::Run;
 use crate::usage::Usage;
@@ -47,6 +48,12 @@ fn answer(run: &mut Run, batch: &mut Batch, form: Form) -> Result<(), Outcome> {
         match read {
             Ok(Asked { inquiry, given, .. }) => {
                 let answer = answers.next().unwrap_or_else(|| inquiry.answer());
+                // What is no question stands in the file as one that is not looked at.
+                let answer = inquiry.refused.as_ref().map_or(answer, |no| Err(no.refusal.into()));
+                for note in &inquiry.notes {
+                    let text = format!("{}: Zeile {line}: Hinweis: {note}.\n", program::name());
+                    run.name_line(&text, Status::Answered)?;
+                }
                 let outcome =
                     Reply { form, given: &given, line: Some(line) }.outcome(&inquiry, answer);
                 let Some((text, status)) = outcome.reply() else { return Err(outcome) };

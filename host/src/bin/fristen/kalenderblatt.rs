@@ -3,7 +3,7 @@
 use crate::deutsch::{monat, werktage};
 use crate::json::Json;
 use crate::reading::is_number;
-use crate::report::{arguments, refusal_json};
+use crate::report::{arguments, refusal_json_as};
 use crate::skipped::{is_ostersonntag, Closed};
 use mako_fristen_host::{day_reason, Date, DayReason, Error, Feiertag, Refusal, Weekday};
 use std::ffi::OsString;
@@ -284,11 +284,11 @@ fn ostersonntag(year: u16) -> Result<Option<Date>, Error> {
 }
 
 /// What the calendar of a refused year is as JSON.
-pub fn refused_json(given: &[OsString], refusal: Refusal) -> Json {
+pub fn refused_json(given: &[OsString], refusal: Refusal, why: &str) -> Json {
     Json::Object(vec![
         ("call", Json::text("kalender")),
         ("arguments", arguments(given)),
-        ("refusal", refusal_json(refusal)),
+        ("refusal", refusal_json_as(refusal, why)),
     ])
 }
 

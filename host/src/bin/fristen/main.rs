@@ -48,6 +48,9 @@ use std::io::{self, IsTerminal};
 use std::process::ExitCode;
 use usage::Usage;
 
+/// Of what is made of several calls.
+const NO_BYTES: &str = "--bytes gibt es zu diesem Befehl nicht";
+
 fn main() -> ExitCode {
     let arguments: Vec<OsString> = env::args_os().skip(1).collect();
     if arguments.is_empty() {
@@ -141,15 +144,19 @@ fn called(command: &Command, call: Call, arguments: &Arguments) -> Result<Outcom
 }
 
 fn bis_wann(command: &Command, arguments: &Arguments) -> Result<Outcome, Usage> {
+    if arguments.form == Form::Bytes {
+        return Err(Usage::new(NO_BYTES));
+    }
     let asked = operands::shape_and_anchor(command, arguments)?;
     let answer = check_archive().map_err(Error::from).and_then(|()| BisWann::of(asked));
-    Ok(Outcome::of(answer.map(|answer| answer.text()), errors::refused))
+    let refused = |refusal| errors::refused_as(refusal, &culprit::of_anchor(asked.1, refusal));
+    Ok(Outcome::of(answer.map(|answer| answer.text()), refused))
 }
 
 /// A sheet for each year or month; without any the one of this year.
 fn kalender(arguments: &Arguments) -> Result<Outcome, Usage> {
     if arguments.form == Form::Bytes {
-        return Err(Usage::new("--bytes gibt es zu diesem Befehl nicht"));
+        return Err(Usage::new(NO_BYTES));
     }
     let periods = operands::periods(arguments)?;
     if let Err(unreadable) = check_archive() {
@@ -165,7 +172,7 @@ fn sheet(period: Period, arguments: &Arguments, mark: Mark) -> Outcome {
     let (sheet, given) = (Sheet::of(period), &arguments.given);
     match arguments.form {
         Form::Json => Outcome::of(sheet.map(|sheet| sheet.json(given)), |refusal| {
-            kalenderblatt::refused_json(given, refusal)
+            kalenderblatt::refused_json(given, refusal, &period.why())
         }),
         Form::Short => {
             let refused = |refusal| errors::refused_as(refusal, &period.why());
@@ -179,9 +186,29 @@ fn sheet(period: Period, arguments: &Arguments, mark: Mark) -> Outcome {
     }
 }
 
-/// On a terminal that shows colours, for someone who wants them (no-color.org).
 fn is_coloured() -> bool {
-    let dumb = env::var_os("TERM").is_none_or(|terminal| terminal == "dumb");
-    let unwanted = env::var_os("NO_COLOR").is_some_and(|set| !set.is_empty());
-    io::stdout().is_terminal() && !dumb && !unwanted
+    let variable = |name| env::var_os(name);
+    io::stdout().is_terminal() && shows_colours(variable("TERM"), variable("NO_COLOR"))
+}
+
+/// Whether a terminal does, for someone who wants them (no-color.org).
+fn shows_colours(terminal: Option<OsString>, no_colour: Option<OsString>) -> bool {
+    let dumb = terminal.is_none_or(|terminal| terminal == "dumb");
+    let unwanted = no_colour.is_some_and(|set| !set.is_empty());
+    !dumb && !unwanted
+}
+
+#[cfg(test)]
+mod tests {
+    use super::*;
+
+    #[test]
+    fn a_dumb_terminal_shows_no_colours() {
+        let shows = |terminal: Option<&str>, no_colour: Option<&str>| {
+            shows_colours(terminal.map(OsString::from), no_colour.map(OsString::from))
+        };
+        assert!(shows(Some("xterm-256color"), None) && shows(Some("linux"), Some("")));
+        assert!(!shows(Some("dumb"), None) && !shows(None, None));
+        assert!(!shows(Some("xterm"), Some("1")));
+    }
 }

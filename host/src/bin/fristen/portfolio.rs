@@ -10,7 +10,7 @@ use crate::json::Json;
 use crate::lines::Line;
 use crate::outcome::{Outcome, Status};
 use crate::program;
-use crate::report::refusal_json;
+use crate::report::refusal_json_as;
 use crate::run::Run;
 use crate::usage::Usage;
 use line::{Pair, Reader, LABELS};
@@ -82,7 +82,7 @@ impl Place {
     fn refused(self, pair: Pair, refusal: Refusal) -> String {
         match self.form {
             Form::Bytes => entry(OUT_OF_RANGE),
-            _ => self.without_count(Some(pair), refusal_json(refusal), None),
+            _ => self.without_count(Some(pair), refusal_json_as(refusal, &why(pair)), None),
         }
     }
 
@@ -114,13 +114,15 @@ impl Place {
         format!("{}\n", Json::Object(members.into_iter().chain(error).collect()))
     }
 
-    /// Which date it is, and why it has no count.
-    fn complaint(self, (from, to): Pair, refusal: Refusal) -> String {
-        let given = LABELS.into_iter().zip([from, to]);
-        let why = |(label, date)| Some(format!("{label} {}", date_why(date)?));
-        let outside: Vec<_> = given.filter_map(why).collect();
-        let sentence = format!("{}.", outside.join("; "));
-        let refused = errors::refused_as(refusal, &sentence);
+    fn complaint(self, pair: Pair, refusal: Refusal) -> String {
+        let refused = errors::refused_as(refusal, &why(pair));
         format!("{}: Zeile {}: {refused}\n", program::name(), self.line)
     }
+}
+
+/// Which date is none of the calendar, and why.
+fn why((from, to): Pair) -> String {
+    let given = LABELS.into_iter().zip([from, to]);
+    let outside = given.filter_map(|(label, date)| Some(format!("{label} {}", date_why(date)?)));
+    format!("{}.", outside.collect::<Vec<_>>().join("; "))
 }

@@ -42,11 +42,7 @@ pub fn arguments(given: &[OsString]) -> Json {
     Json::list(given.iter().map(|argument| Json::text(argument.to_string_lossy())))
 }
 
-pub fn refusal_json(refusal: Refusal) -> Json {
-    refusal_json_as(refusal, refusal.beschreibung())
-}
-
-fn refusal_json_as(refusal: Refusal, sentence: &str) -> Json {
+pub fn refusal_json_as(refusal: Refusal, sentence: &str) -> Json {
     let (number, text) = (Json::number(refusal.number()), Json::text(sentence));
     Json::Object(vec![("number", number), ("text", text)])
 }

@@ -92,13 +92,17 @@ pub const COMMANDS: [Command; 8] = [
         task: Task::Kalender,
         operands: &[],
         options: &["[JAHR|MONAT]..."],
-        summary: "die zwölf Monate eines Jahres mit allen Feiertagen",
-        meaning: "Das Jahr auf einem Blatt. Tage, die keine Werktage sind, sind im Terminal rot,\n\
-                  Feiertage darunter hinterlegt; sonst steht ein Stern dahinter. Ohne Farbe auch,\n\
-                  wenn NO_COLOR gesetzt ist. Von zwei Feiertagen an einem Tag steht der da, den tag\n\
-                  nennt. --bytes gibt es hier nicht. In --json hat jeder Feiertag seine Nummer\n\
-                  (number) und die, die tag für das Datum nennt (reason): an einem Samstag 1, an\n\
-                  einem Sonntag 2.",
-        examples: &[Example::new("kalender 2026", include_str!("kalender-2026.txt"))],
+        summary: "die zwölf Monate eines Jahres mit allen Feiertagen, oder einer davon",
+        meaning: "Das Jahr oder der Monat auf einem Blatt, ohne Angabe dieses Jahr; mehrere\n\
+                  nacheinander. Tage, die keine Werktage sind, sind im Terminal rot, Feiertage\n\
+                  darunter hinterlegt; sonst steht ein Stern dahinter. Ohne Farbe auch, wenn NO_COLOR\n\
+                  gesetzt oder TERM dumb ist. Von zwei Feiertagen an einem Tag steht der da, den tag\n\
+                  nennt. Ostersonntag steht dabei, ist aber keiner der Liste. --bytes gibt es hier\n\
+                  nicht. In --json hat jeder Feiertag seine Nummer (number) und die, die tag für das\n\
+                  Datum nennt (reason): an einem Samstag 1, an einem Sonntag 2.",
+        examples: &[
+            Example::new("kalender 2026-04", include_str!("kalender-2026-04.txt")),
+            Example::new("kalender 2026", include_str!("kalender-2026.txt")),
+        ],
     },
 ];
