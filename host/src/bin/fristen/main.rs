@@ -1,9 +1,11 @@
 //! The host calls on the command line, answered in German. `./fristen --help` has all of it.
 
+mod ankuendigung;
 mod arguments;
 mod bis_wann;
 mod command;
 mod commands;
+mod corner;
 mod culprit;
 mod deutsch;
 mod errors;
