@@ -144,7 +144,8 @@ fn called(command: &Command, call: Call, arguments: &Arguments) -> Result<Outcom
 fn bis_wann(command: &Command, arguments: &Arguments) -> Result<Outcome, Usage> {
     let asked = operands::shape_and_anchor(command, arguments)?;
     let answer = check_archive().map_err(Error::from).and_then(|()| BisWann::of(asked));
-    Ok(Outcome::of(answer.map(|answer| answer.text()), errors::refused))
+    let refused = |refusal| errors::refused_as(refusal, &culprit::of_anchor(asked, refusal));
+    Ok(Outcome::of(answer.map(|answer| answer.text()), refused))
 }
 
 fn kalender(arguments: &Arguments) -> Result<Outcome, Usage> {

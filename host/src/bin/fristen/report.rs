@@ -3,7 +3,7 @@
 use crate::inquiry::Inquiry;
 use crate::json::Json;
 use crate::labels;
-use crate::sentences::also;
+use crate::skipped::Closed;
 use crate::umstellung::Umstellung;
 use mako_fristen_host::{
     AbmeldungVorlauf, Answer, BerlinTime, Call, Clock, Content, Date, DayReason, Error, GasDue,
@@ -58,7 +58,8 @@ fn content(inquiry: &Inquiry, answer: &Answer) -> Result<Members, Error> {
     Ok(match call.content() {
         Content::Werktag => {
             let reason: DayReason = answer.read(call)?;
-            let also = also(inquiry, reason)?.map_or(Json::Null, Json::text);
+            let also = Closed::also(inquiry.question.date, reason)?;
+            let also = also.map_or(Json::Null, |closed| Json::text(closed.name()));
             let added = vec![("werktag", Json::Bool(reason.is_werktag())), ("also", also)];
             joined([kind(reason.name()), added])
         }
