@@ -1,7 +1,7 @@
 //! Calls and what they print.
 
-/// Cases A to L of document 01 that a single call answers; A by its feasts. Those with a verdict or a
-/// span are in urteile.rs.
+/// Cases A to L of document 01 that a single call answers; A by its feasts. Those with a verdict or
+/// a span are in urteile.rs.
 pub const CASES: &[(&str, &str)] = &[
     (
         "tag 2026-04-03",
@@ -506,8 +506,8 @@ pub const TOLERANCE: &[(&str, &str)] = &[
     ),
 ];
 
-/// A CONTRL with a change day: moved, and left where it is; by an end of the window, in a window that
-/// only version one has, by a switch, and by the edges of the calendar.
+/// A CONTRL with a change day: moved, and left where it is; by an end of the window, in a window
+/// that only version one has, by a switch, and by the edges of the calendar.
 pub const CHANGE_DAYS: &[(&str, &str)] = &[
     (
         "--stichtag=2026-06-06 contrl Regelfall 2026-06-05T12:00:00+02:00",

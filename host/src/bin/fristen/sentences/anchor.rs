@@ -72,3 +72,51 @@ impl Anchor {
         Ok(Some(format!("Die Quelle nennt als {earliest} {}; {judged}.", den(named))))
     }
 }
+
+#[cfg(test)]
+mod tests {
+    use super::*;
+
+    /// A deregistration's shapes have neither an end nor an empty span.
+    #[test]
+    fn the_allowed_dates_in_both_genders() {
+        let (monday, friday) = (Date::new(2026, 1, 5), Date::new(2026, 1, 9));
+        let beyond =
+            "reicht über den Kalender vom 1. Januar 1996 bis zum 31. Dezember 2899 hinaus.";
+        let rows = [
+            (
+                Some(Span::From(monday)),
+                "Zulässig sind Termine ab Montag, dem 5. Januar 2026.".to_owned(),
+                "Zulässig ist ein Zuordnungsende ab Montag, dem 5. Januar 2026.".to_owned(),
+            ),
+            (
+                Some(Span::Between(monday, friday)),
+                "Zulässig sind Termine von Montag, dem 5. Januar 2026, bis Freitag, den 9. Januar \
+                 2026."
+                    .to_owned(),
+                "Zulässig ist ein Zuordnungsende von Montag, dem 5. Januar 2026, bis Freitag, den \
+                 9. Januar 2026."
+                    .to_owned(),
+            ),
+            (
+                Some(Span::Between(friday, friday)),
+                "Zulässig ist nur Freitag, der 9. Januar 2026.".to_owned(),
+                "Zulässig ist nur Freitag, der 9. Januar 2026.".to_owned(),
+            ),
+            (
+                Some(Span::Empty),
+                "Zulässig ist kein Termin.".to_owned(),
+                "Zulässig ist kein Zuordnungsende.".to_owned(),
+            ),
+            (
+                None,
+                format!("Die Spanne der zulässigen Termine {beyond}"),
+                format!("Die Spanne der zulässigen Zuordnungsenden {beyond}"),
+            ),
+        ];
+        for (span, termin, zuordnungsende) in rows {
+            assert_eq!(TERMIN.allowed(span), termin);
+            assert_eq!(ZUORDNUNGSENDE.allowed(span), zuordnungsende);
+        }
+    }
+}
