@@ -2,7 +2,9 @@
 
 use crate::deutsch::{monat, werktage};
 use crate::json::Json;
-use crate::report::{arguments, refusal_json};
+use crate::report::values::weekday;
+use crate::report::Asked;
+use crate::skipped::is_ostersonntag;
 use mako_fristen_host::{day_reason, Date, DayReason, Error, Feiertag, Refusal, Weekday};
 use std::ffi::OsString;
 
@@ -27,6 +29,7 @@ pub struct Year {
     number: u16,
     months: Vec<Month>,
     holidays: Vec<Holiday>,
+    ostersonntag: Option<Date>,
 }
 
 /// A holiday of the list; the day test names it unless it is on a weekend.
@@ -51,11 +54,11 @@ impl Holiday {
     fn json(&self) -> Json {
         let Holiday { date, holiday, reason } = self;
         Json::Object(vec![
-            ("date", Json::text(date)),
-            ("weekday", date.weekday().map_or(Json::Null, Json::text)),
-            ("number", Json::number(holiday.number())),
-            ("name", Json::text(holiday)),
-            ("reason", Json::number(reason.number())),
+            ("date", (*date).into()),
+            ("weekday", weekday(Some(*date))),
+            ("number", holiday.number().into()),
+            ("name", holiday.name().into()),
+            ("reason", reason.number().into()),
         ])
     }
 }
@@ -87,11 +90,14 @@ impl Year {
     pub fn of(year: u32) -> Result<Year, Error> {
         let year = u16::try_from(year).map_err(|_| Refusal::NoDate)?;
         let holidays = Feiertag::of_year(year)?.into_iter().map(Holiday::of);
-        let months = (1..=12).map(|month| Month::of(year, month)).collect::<Result<_, _>>()?;
-        Ok(Year { number: year, months, holidays: holidays.collect::<Result<_, _>>()? })
+        let holidays = holidays.collect::<Result<_, _>>()?;
+        let months = (1..=12).map(|month| Month::of(year, month));
+        let months = months.collect::<Result<Vec<_>, _>>()?;
+        let ostersonntag = ostersonntag(&months)?;
+        Ok(Year { number: year, months, holidays, ostersonntag })
     }
 
-    fn werktage(&self) -> u32 {
+    pub fn werktage(&self) -> u32 {
         self.months.iter().map(Month::werktage).sum()
     }
 
@@ -151,32 +157,41 @@ impl Year {
         }
     }
 
-    pub fn json(&self, given: &[OsString]) -> Json {
-        let months = self.months.iter().map(|month| Json::number(month.werktage()));
+    /// The days that are no Werktage.
+    fn closed(&self) -> impl Iterator<Item = Date> + '_ {
         let days = self.months.iter().flat_map(|month| &month.days);
-        let closed =
-            days.filter(|(_, reason)| !reason.is_werktag()).map(|(date, _)| Json::text(date));
-        let holidays = self.holidays.iter().map(Holiday::json);
-        Json::Object(vec![
-            ("call", Json::text("kalender")),
-            ("arguments", arguments(given)),
-            ("refusal", Json::Null),
-            ("year", Json::number(self.number)),
-            ("werktage", Json::number(self.werktage())),
-            ("werktage_by_month", Json::list(months)),
-            ("closed", Json::list(closed)),
-            ("holidays", Json::list(holidays)),
-        ])
+        days.filter(|(_, reason)| !reason.is_werktag()).map(|(date, _)| *date)
     }
 }
 
-/// What the calendar of a refused year is as JSON.
-pub fn refused_json(given: &[OsString], refusal: Refusal) -> Json {
-    Json::Object(vec![
-        ("call", Json::text("kalender")),
-        ("arguments", arguments(given)),
-        ("refusal", refusal_json(refusal)),
-    ])
+/// Ostersonntag, if it is one of the days.
+fn ostersonntag(months: &[Month]) -> Result<Option<Date>, Error> {
+    let days = months.iter().flat_map(|month| &month.days);
+    for (date, _) in days.filter(|(_, reason)| *reason == DayReason::Sonntag) {
+        if is_ostersonntag(*date)? {
+            return Ok(Some(*date));
+        }
+    }
+    Ok(None)
+}
+
+/// The sheet as JSON; of a year that is refused there is none.
+pub fn json(given: &[OsString], year: u32, refusal: Json, sheet: Option<&Year>) -> Json {
+    let read = vec![("year", year.into()), ("month", Json::Null)];
+    let by_month =
+        |sheet: &Year| Json::list(sheet.months.iter().map(|month| month.werktage().into()));
+    let closed = |sheet: &Year| Json::list(sheet.closed().map(Json::from));
+    let holidays = |sheet: &Year| Json::list(sheet.holidays.iter().map(Holiday::json));
+    let content = vec![
+        ("year", sheet.map(|sheet| sheet.number).into()),
+        ("month", Json::Null),
+        ("werktage", sheet.map(Year::werktage).into()),
+        ("werktage_by_month", sheet.map(by_month).into()),
+        ("closed", sheet.map(closed).into()),
+        ("holidays", sheet.map(holidays).into()),
+        ("ostersonntag", sheet.and_then(|sheet| sheet.ostersonntag).into()),
+    ];
+    Asked { call: "kalender", given, read }.answered(refusal, content)
 }
 
 #[cfg(test)]

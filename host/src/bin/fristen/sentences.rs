@@ -7,7 +7,7 @@ mod fristen;
 mod kalender;
 mod vorlauf;
 
-pub use kalender::also;
+pub use kalender::cut_day;
 
 use crate::inquiry::Inquiry;
 use mako_fristen_host::{Answer, Call, Error, FristShape};
