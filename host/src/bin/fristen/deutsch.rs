@@ -17,6 +17,12 @@ const MONATE: [&str; 12] = [
     "Dezember",
 ];
 
+/// From one on, of a masculine noun.
+const ZAHLEN: [&str; 12] = [
+    "ein", "zwei", "drei", "vier", "fünf", "sechs", "sieben", "acht", "neun", "zehn", "elf",
+    "zwölf",
+];
+
 /// The last nanosecond of a day.
 const TAGESENDE: Clock = Clock::new(23, 59, 59, 999_999_999);
 
@@ -68,30 +74,56 @@ pub fn zeitpunkt(time: BerlinTime) -> String {
     format!("{}, {}", tag(time.date), uhr(time))
 }
 
-/// As in 'endet …': the end of a day by the day, any other instant by the clock.
+/// As in 'endet …': the end of a day by the day, its beginning by the night, any other instant by
+/// the clock.
 pub fn faellig(time: BerlinTime) -> String {
-    match time.date.weekday() {
-        Some(weekday) if time.clock == TAGESENDE => {
-            format!("mit Ablauf des {weekday}s, {} {}", day_and_month(time.date), time.date.year)
+    let BerlinTime { date, clock, .. } = time;
+    match date.weekday() {
+        Some(weekday) if clock == TAGESENDE => {
+            format!("mit Ablauf des {weekday}s, {} {}", day_and_month(date), date.year)
+        }
+        Some(weekday) if clock == Clock::default() => {
+            format!("in der {}, am {weekday} um {}", nacht_auf(date), uhr(time))
         }
         _ => am(time),
+    }
+}
+
+/// `Nacht vom 1. auf den 2. April 2026`, with the month and the year before where they are others.
+fn nacht_auf(date: Date) -> String {
+    let to = format!("{} {}", day_and_month(date), date.year);
+    match date.plus_days(-1) {
+        Some(before) if before.year != date.year => {
+            format!("Nacht vom {} {} auf den {to}", day_and_month(before), before.year)
+        }
+        Some(before) if before.month != date.month => {
+            format!("Nacht vom {} auf den {to}", day_and_month(before))
+        }
+        Some(before) => format!("Nacht vom {}. auf den {to}", before.day),
+        None => format!("Nacht auf den {to}"),
     }
 }
 
 /// The clock time; if the clock shows it twice, which of the two.
 pub fn uhr(time: BerlinTime) -> String {
     let which = match (time.repeated, time.summer) {
-        (true, true) => " Sommerzeit (MESZ)",
-        (true, false) => " Winterzeit (MEZ)",
+        (true, true) => " Sommerzeit",
+        (true, false) => " Winterzeit",
         _ => "",
     };
     format!("{}{which}", time.clock.uhr())
 }
 
-/// `Sonntag, 25. Oktober 2026, 00:30 Uhr UTC`
+/// Of an instant that was given by a clock time which the clock shows twice.
+pub fn zweimal(time: BerlinTime) -> String {
+    let (day, uhr) = (tag(time.date), time.clock.uhr());
+    format!("Am {day}, zeigt die Uhr in Berlin zweimal {uhr}; gemeint ist die frühere.")
+}
+
+/// `Sonntag, 25. Oktober 2026, 00:30 Uhr Weltzeit (UTC)`
 pub fn utc(instant: Instant) -> String {
     match instant.utc() {
-        Some((date, clock)) => format!("{}, {} UTC", tag(date), clock.uhr()),
+        Some((date, clock)) => format!("{}, {} Weltzeit (UTC)", tag(date), clock.uhr()),
         None => instant.to_string(),
     }
 }
@@ -116,6 +148,19 @@ pub fn stunden(n: u32) -> String {
 /// As in 'in …'.
 pub fn werktagen(n: u32) -> String {
     count(n, "Werktag", "Werktagen")
+}
+
+/// From one on: `ein Samstag`, `zwei Samstage`, `13 Samstage`
+pub fn in_worten(n: u32, one: &str, many: &str) -> String {
+    let word = usize::try_from(n).ok().and_then(|n| ZAHLEN.get(n.checked_sub(1)?));
+    let number = word.map_or_else(|| n.to_string(), |word| (*word).to_owned());
+    format!("{number} {}", if n == 1 { one } else { many })
+}
+
+/// `1 Tag, der kein Werktag ist`
+pub fn keine_werktage(n: u32) -> String {
+    let none = if n == 1 { "der kein Werktag ist" } else { "die keine Werktage sind" };
+    format!("{}, {none}", tage(n))
 }
 
 fn count(n: u32, one: &str, many: &str) -> String {

@@ -165,6 +165,7 @@ fn bis_wann(command: &Command, arguments: &Arguments) -> Result<Outcome, Usage> 
         answer,
         BisWann::text,
         |answer| short::bis_wann(answer.days),
+        |refusal| culprit::of_anchor(asked, refusal),
         |refusal, answer| {
             report::bis_wann(asked, &arguments.given, refusal, answer.map(|answer| answer.days))
         },
@@ -185,6 +186,7 @@ fn kalender(arguments: &Arguments) -> Result<Outcome, Usage> {
         sheet,
         |sheet| sheet.text(mark),
         |sheet| sheet.werktage().to_string(),
+        |refusal| refusal.beschreibung().to_owned(),
         |refusal, sheet| kalenderblatt::json(&arguments.given, year, refusal, sheet),
     ))
 }

@@ -46,13 +46,14 @@ impl Reply<'_> {
         Ok(Outcome::answer(text).ending(status))
     }
 
-    /// Of a command that is no call: its sentence, its bare value, and the object, which a refusal
-    /// has too. There are no bytes.
+    /// Of a command that is no call: its sentence, its bare value, the sentence of its refusal, and
+    /// the object of either. There are no bytes.
     pub fn said<T>(
         &self,
         answer: Result<T, Error>,
         sentence: impl FnOnce(&T) -> String,
         short: impl FnOnce(&T) -> String,
+        refused: impl FnOnce(Refusal) -> String,
         json: impl FnOnce(Json, Option<&T>) -> Json,
     ) -> Outcome {
         let said = match answer {
@@ -62,7 +63,7 @@ impl Reply<'_> {
                 Form::Sentence | Form::Bytes => self.text(&sentence(&answer)),
             })),
             Err(Error::Refused(refusal)) => {
-                self.refused(refusal, refusal.beschreibung(), |refusal| Ok(json(refusal, None)))
+                self.refused(refusal, &refused(refusal), |refusal| Ok(json(refusal, None)))
             }
             Err(error) => Err(error),
         };

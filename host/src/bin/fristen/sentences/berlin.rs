@@ -6,7 +6,7 @@ pub fn at(instant: Instant) -> Result<String, Error> {
     let (time, utc) = (BerlinTime::of(instant)?, utc(instant));
     let twice =
         if time.repeated { " Die Uhr zeigt diese Zeit zweimal; es gilt die frühere." } else { "" };
-    Ok(format!("In Berlin {}; das ist {utc}.{twice}", zeitpunkt(time)))
+    Ok(format!("In Berlin ist {}; das ist {utc}.{twice}", zeitpunkt(time)))
 }
 
 /// Where a day in Berlin begins or ends, as `verb` has it.
@@ -28,6 +28,6 @@ pub fn day(inquiry: &Inquiry, date: Date) -> Result<String, Error> {
 }
 
 pub fn day_begun(inquiry: &Inquiry, date: Date) -> Result<String, Error> {
-    let sparte = inquiry.sparte()?;
-    Ok(format!("In der Sparte {sparte} beginnt zu diesem Zeitpunkt {}.", der(date)))
+    let (sparte, uhr) = (inquiry.sparte()?, uhr(BerlinTime::of(inquiry.question.instant)?));
+    Ok(format!("In der Sparte {sparte} beginnt dann, um {uhr} in Berlin, {}.", der(date)))
 }
