@@ -23,6 +23,7 @@ mod lines;
 mod names;
 mod operands;
 mod outcome;
+mod output;
 mod portfolio;
 mod program;
 mod progress;
@@ -42,7 +43,7 @@ use arguments::{is_option, Arguments, Form};
 use bis_wann::BisWann;
 use command::{Command, Task};
 use input::Input;
-use kalenderblatt::{Mark, Year};
+use kalenderblatt::{Mark, Period, Sheet};
 use mako_fristen_host::{check_archive, Call, Error};
 use outcome::{Outcome, Status};
 use reply::Reply;
@@ -173,20 +174,34 @@ fn bis_wann(command: &Command, arguments: &Arguments) -> Result<Outcome, Usage> 
     Ok(if arguments.status && none { outcome.ending(Status::No) } else { outcome })
 }
 
+/// A sheet for each year or month; without any the one of this year.
 fn kalender(arguments: &Arguments) -> Result<Outcome, Usage> {
-    let years = operands::words(arguments)?;
-    let year: u32 = years.first().and_then(|year| year.to_str()?.parse().ok()).unwrap_or(2026);
     if arguments.form == Form::Bytes {
         return Err(not_here("--bytes"));
     }
-    let colour = io::stdout().is_terminal() && env::var_os("NO_COLOR").is_none();
-    let mark = if colour { Mark::Colour } else { Mark::Star };
-    let sheet = check_archive().map_err(Error::from).and_then(|()| Year::of(year));
-    Ok(reply(arguments).said(
-        sheet,
+    let periods = operands::periods(arguments)?;
+    if let Err(unreadable) = check_archive() {
+        return Ok(Outcome::unreadable(&unreadable));
+    }
+    let mark = if is_coloured() { Mark::Colour } else { Mark::Star };
+    let sheets = periods.into_iter().map(|period| sheet(period, arguments, mark)).collect();
+    let between = if arguments.form == Form::Sentence { "\n" } else { "" };
+    Ok(Outcome::joined(sheets, between))
+}
+
+fn sheet(period: Period, arguments: &Arguments, mark: Mark) -> Outcome {
+    reply(arguments).said(
+        Sheet::of(period),
         |sheet| sheet.text(mark),
         |sheet| sheet.werktage().to_string(),
-        |refusal| refusal.beschreibung().to_owned(),
-        |refusal, sheet| kalenderblatt::json(&arguments.given, year, refusal, sheet),
-    ))
+        |_| period.why(),
+        |refusal, sheet| kalenderblatt::json(period, &arguments.given, refusal, sheet),
+    )
+}
+
+/// On a terminal that shows colours, for someone who wants them (no-color.org).
+fn is_coloured() -> bool {
+    let dumb = env::var_os("TERM").is_none_or(|terminal| terminal == "dumb");
+    let unwanted = env::var_os("NO_COLOR").is_some_and(|set| !set.is_empty());
+    io::stdout().is_terminal() && !dumb && !unwanted
 }

@@ -1,3 +1,4 @@
+use crate::output::Output;
 use crate::{errors, program};
 use mako_fristen_host::{Error, Unreadable};
 use std::io::{self, Write};
@@ -75,6 +76,22 @@ impl Outcome {
         Outcome::complaint(text, Status::OutputFailed)
     }
 
+    /// One after the other, with the status of the worst. Of several each has its place, if only an
+    /// empty line.
+    pub fn joined(outcomes: Vec<Outcome>, between: &str) -> Outcome {
+        let several = outcomes.len() > 1;
+        let mut joined = Outcome::silent(Status::Answered);
+        for Outcome { text, complaint, notes, status } in outcomes {
+            let between = if joined.text.is_empty() { "" } else { between };
+            let text = if text.is_empty() && several { "\n" } else { &text };
+            joined.text.extend([between, text]);
+            joined.complaint.push_str(&complaint);
+            joined.notes.extend(notes);
+            joined.status = joined.status.max(status);
+        }
+        joined
+    }
+
     /// With notes for whoever asked.
     pub fn noted(self, notes: Vec<String>) -> Outcome {
         Outcome { notes, ..self }
@@ -87,10 +104,6 @@ impl Outcome {
     /// With this status instead.
     pub fn ending(self, status: Status) -> Outcome {
         Outcome { status, ..self }
-    }
-
-    pub fn status(&self) -> Status {
-        self.status
     }
 
     pub fn notes(&self) -> &[String] {
@@ -110,7 +123,7 @@ impl Outcome {
                 &format!("{}: Hinweis: {note}.\n", program::name()),
             );
         }
-        let written = write(&mut io::stdout().lock(), &self.text)
+        let written = write(&mut Output::standard(), &self.text)
             .and_then(|()| write(&mut io::stderr().lock(), &self.complaint));
         let status = written.map_or_else(
             |error| {
@@ -125,7 +138,11 @@ impl Outcome {
     }
 }
 
+/// Where there is nothing to write, it does not matter whether it could be.
 fn write(to: &mut impl Write, text: &str) -> io::Result<()> {
+    if text.is_empty() {
+        return Ok(());
+    }
     to.write_all(text.as_bytes())?;
     to.flush()
 }
