@@ -7,6 +7,8 @@ mod fragen;
 mod portfolio;
 #[path = "kommandozeile/saetze.rs"]
 mod saetze;
+#[path = "kommandozeile/urteile.rs"]
+mod urteile;
 #[path = "kommandozeile/zeilen.rs"]
 mod zeilen;
 
@@ -14,7 +16,8 @@ use mako_fristen_host::{
     ffi, Answer, Call, Clock, Date, DayReason, Instant, Parameter, Question, Reason,
 };
 use saetze::{
-    CASES, CHANGE_DAYS, DAYS, DUE, JSON, LABELS, MARGINS, SPANS, VERDICTS, VERDICTS_JSON,
+    ANNOUNCEMENTS, CASES, CHANGE_DAYS, DAYS, DUE, JSON, LABELS, STEPS, TOLERANCE, TWICE,
+    VERDICTS_JSON,
 };
 use std::ffi::{OsStr, OsString};
 use std::fs;
@@ -114,13 +117,27 @@ fn the_cases_of_document_01() {
 }
 
 #[test]
-fn the_verdicts_of_document_01() {
-    assert_prints(VERDICTS);
+fn announcements() {
+    assert_prints(ANNOUNCEMENTS);
 }
 
 #[test]
-fn days_and_steps() {
+fn days_counts_and_instants() {
     assert_prints(DAYS);
+}
+
+#[test]
+fn steps_and_what_they_skip() {
+    assert_prints(STEPS);
+}
+
+/// In a second, also where nothing is optimised and other tests run beside it.
+#[test]
+fn a_long_step_is_fast() {
+    let started = std::time::Instant::now();
+    let step = printed(&["add-werktage", "1996-01-01", "200000"], 0);
+    assert!(started.elapsed() < std::time::Duration::from_secs(1), "{:?}", started.elapsed());
+    assert_eq!(step.lines().count(), 2, "{step}");
 }
 
 #[test]
@@ -133,7 +150,7 @@ fn a_due_instant_has_the_originals_label() {
     for (call, label) in LABELS {
         let line = format!("{call} 2026-04-02T10:00:00+02:00");
         let sentence = printed(&words(&line), 0);
-        assert!(sentence.ends_with(&format!(" ({label}).\n")), "{sentence}");
+        assert!(!sentence.contains(label), "{sentence}");
         let json = printed(&words(&format!("{line} --json")), 0);
         assert!(json.ends_with(&format!("}},\"label\":\"{label}\"}}\n")), "{json}");
         let refused = printed(&words(&format!("{call} 1995-01-01T00:00:00Z --json")), 2);
@@ -146,6 +163,18 @@ fn a_due_instant_has_the_originals_label() {
 #[test]
 fn contrl_with_a_change_day() {
     assert_prints(CHANGE_DAYS);
+}
+
+#[test]
+fn contrl_in_the_window_of_a_formatumstellung() {
+    assert_prints(TOLERANCE);
+}
+
+#[test]
+fn a_time_that_the_clock_shows_twice_is_named() {
+    assert_prints(TWICE);
+    let given = "contrl Regelfall 2026-10-25T02:30:00+02:00";
+    assert!(!printed(&words(given), 0).contains("zweimal"), "its offset tells it");
 }
 
 /// The option and the call's own name are one question; without the option it is version one.
@@ -198,16 +227,6 @@ fn what_leaves_the_calendar_with_a_change_day() {
     }
 }
 
-#[test]
-fn windows_and_spans() {
-    assert_prints(SPANS);
-}
-
-#[test]
-fn a_verdict_says_by_how_many_days() {
-    assert_prints(MARGINS);
-}
-
 /// In JSON, in the bytes and in the help; a refusal has none.
 #[test]
 fn the_margin_of_a_verdict() {
@@ -223,61 +242,6 @@ fn the_margin_of_a_verdict() {
     }
     let refused = printed(&["check", "Korridor", "1", "1996-01-01", "1996-01-01", "--json"], 2);
     assert!(!refused.contains("margin"), "{refused}");
-}
-
-/// The verdict is answered while the span of the same day is refused.
-#[test]
-fn a_verdict_whose_span_leaves_the_calendar() {
-    assert_prints(&[(
-        "check WindowWerktageBefore 3 1 2899-12-28 2899-12-28",
-        "5 Tage zu spät: Übertragungstag Montag, 28. Dezember 2899, Termin Montag, 28. Dezember \
-         2899.\n\
-         Frühester Übertragungstag ist der 3. Werktag vor dem Termin, spätester der 1. Werktag vor \
-         dem Termin.\n\
-         Es fehlt 1 Werktag.\n\
-         Als frühester Termin wird Dienstag, der 29. Dezember 2899, genannt; zulässig ist er. Die \
-         Spanne der zulässigen Termine verlässt den Kalender.",
-    )]);
-}
-
-#[test]
-fn deregistrations() {
-    let eeg = "Grund „Z33“, EEG-Marktlokation: Spätester Übertragungstag liegt 1 Monat vor dem \
-               Zuordnungsende.";
-    let unknown = "Grund „zq7“, unbestimmt: Für EEG-Marktlokationen und Tranchen von \
-                   EEG-Marktlokationen gilt ein Monat statt des letzten Werktags (GPKE Teil 2 Kap. \
-                   2.5.2 Nr. 1); ob die Marktlokation eine EEG-Marktlokation ist, ist nicht bekannt.";
-    let days =
-        "Übertragungstag Donnerstag, 8. Januar 2026, Zuordnungsende Montag, 12. Januar 2026.";
-    let late = format!(
-        "{eeg}\n27 Tage zu spät: {days}\nEs fehlen 13 Werktage.\nAls frühestes Zuordnungsende wird \
-         Sonntag, der 8. Februar 2026, genannt; zulässig ist ein Zuordnungsende ab diesem Tag."
-    );
-    let clamped = format!(
-        "{eeg}\n3 Tage zu spät: Übertragungstag Samstag, 31. Januar 2026, Zuordnungsende Samstag, 28. \
-         Februar 2026.\nEs fehlen 2 Werktage.\nAls frühestes Zuordnungsende wird Samstag, der 28. \
-         Februar 2026, genannt; zulässig ist es nicht.\nZulässig ist ein Zuordnungsende ab \
-         Sonntag, dem 1. März 2026."
-    );
-    let in_time =
-        "Grund „Z33“, keine EEG-Marktlokation: Spätester Übertragungstag ist der Tag vor dem \
-                   letzten Werktag vor dem Zuordnungsende.\nFrist gewahrt, noch 3 Tage Luft: \
-                   Übertragungstag Donnerstag, 8. Januar 2026, Zuordnungsende Dienstag, 13. Januar \
-                   2026.";
-    let open = format!("{unknown}\nKein Urteil, also auch nicht „Frist gewahrt“: {days}");
-    let zq7 = "Grund „ZQ7“: Die Frist ist die des Prüfschritts 120: „Liegt das Eingangsdatum der \
-               Abmeldung nach dem 5. WT des Monats, in dem die Zuordnungsermächtigung endet?“";
-    let passed = format!("{zq7}\nKein Urteil, also auch nicht „Frist gewahrt“: {days}");
-    assert_prints(&[
-        ("abmeldung-fuer Z33 --eeg JA", eeg),
-        ("abmeldung-fuer --eeg=unbekannt zq7", unknown),
-        ("abmeldung-fuer ZQ7 --eeg nein", zq7),
-        ("abmeldung Z33 2026-01-08 --eeg ja 2026-01-12", &late),
-        ("abmeldung Z33 2026-01-31 2026-02-28 --eeg ja", &clamped),
-        ("abmeldung Z33 2026-01-08 2026-01-13 --eeg nein", in_time),
-        ("--eeg unbekannt abmeldung zq7 2026-01-08 2026-01-12", &open),
-        ("abmeldung ZQ7 2026-01-08 2026-01-12 --eeg ja", &passed),
-    ]);
 }
 
 /// Every number that can be reached: 1 and 2 need a slice or a code that the program never gives.

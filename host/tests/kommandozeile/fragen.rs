@@ -12,9 +12,8 @@ const CHECK: &str = "check LatestWerktageBefore 1 2026-01-10 2026-01-12";
 const SPAN: &str = "span LatestWerktageBefore 1 2026-01-10";
 const REFUSED: &str = "span LatestWerktageBefore 1 2899-12-31";
 const SPANNED: &str =
-    "Übertragungstag Samstag, 10. Januar 2026. Spätester Übertragungstag ist der 1. \
-                       Werktag vor dem Termin. Zulässig sind Termine ab Dienstag, dem 13. Januar \
-                       2026.";
+    "Übertragungstag Samstag, 10. Januar 2026: Zulässig sind Termine ab Dienstag, dem 13. Januar \
+     2026. Spätester Übertragungstag ist der 1. Werktag vor dem Termin.";
 
 /// Every operation and shape, answered and refused, by each name of a command.
 const MIXED: &[&str] = &[
@@ -71,13 +70,14 @@ fn single(line: &str, number: usize, form: &[&str]) -> String {
 #[test]
 fn a_file_in_the_three_forms() {
     let input = format!("# Montag\n\n{SPAN}\n{REFUSED}\n{CHECK}\n");
-    let no_end = "Ein Ergebnis verlässt den Kalender vom 1. Januar 1996 bis zum 31. Dezember 2899.";
+    let no_end = "Die Spanne der zulässigen Termine reicht über den Kalender (1. Januar 1996 bis \
+                  31. Dezember 2899) hinaus.";
     let late =
         "1 Tag zu spät: Übertragungstag Samstag, 10. Januar 2026, Termin Montag, 12. Januar 2026. \
-                Spätester Übertragungstag ist der 1. Werktag vor dem Termin. Es fehlen 0 Werktage; \
-                zu spät ist es um 1 Tag, der kein Werktag ist. Als frühester Termin wird Montag, \
-                der 12. Januar 2026, genannt; zulässig ist er nicht. Zulässig sind Termine ab \
-                Dienstag, dem 13. Januar 2026.";
+         Zulässig sind Termine ab Dienstag, dem 13. Januar 2026. Spätester Übertragungstag ist der \
+         1. Werktag vor dem Termin: Freitag, der 9. Januar 2026. Es fehlt kein Werktag; zu spät ist \
+         es um 1 Tag, der kein Werktag ist. Die Quelle nennt als frühesten Termin Montag, den 12. \
+         Januar 2026; zulässig ist er nicht.";
     let sentences =
         [format!("3: {SPANNED}"), format!("4: Abgelehnt (8): {no_end}"), format!("5: {late}")];
     assert_eq!(answers(&[], &input, 2), sentences);

@@ -4,9 +4,11 @@ use mako_fristen_host::{BerlinTime, Date, Error, Instant};
 
 pub fn at(instant: Instant) -> Result<String, Error> {
     let (time, utc) = (BerlinTime::of(instant)?, utc(instant));
-    let twice =
-        if time.repeated { " Die Uhr zeigt diese Zeit zweimal; es gilt die frühere." } else { "" };
-    Ok(format!("In Berlin ist {}; das ist {utc}.{twice}", zeitpunkt(time)))
+    let twice = match time.repeated {
+        true => " Die Uhr zeigt diese Zeit zweimal; gemeint ist die frühere.",
+        false => "",
+    };
+    Ok(format!("{} in Berlin ist {utc}.{twice}", zeitpunkt(time)))
 }
 
 /// Where a day in Berlin begins or ends, as `verb` has it.
