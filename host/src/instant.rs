@@ -182,8 +182,9 @@ impl fmt::Display for Instant {
     }
 }
 
-/// RFC 3339 with an offset or `Z`, and up to nine digits of a second; or `@seconds.nanos`, the two
-/// numbers of the host calls as they are, with nanoseconds of any 32 bits or none.
+/// RFC 3339 with an offset or `Z`, and up to nine digits of a second; `@` and seconds since 1970,
+/// with a decimal fraction of up to nine digits or none; or the two numbers of the host calls as they
+/// are, each with its unit, the nanoseconds of any 32 bits.
 ///
 /// ```
 /// use mako_fristen_host::{Instant, InstantError};
@@ -191,6 +192,8 @@ impl fmt::Display for Instant {
 /// let due = Instant::new(1_774_972_799, 0);
 /// assert_eq!("2026-03-31T17:59:59+02:00".parse(), Ok(due));
 /// assert_eq!("@1774972799".parse(), Ok(due));
+/// assert_eq!("@-1.5".parse(), Ok(Instant::new(-2, 500_000_000)));
+/// assert_eq!("@1774972799s5ns".parse(), Ok(Instant::new(1_774_972_799, 5)));
 /// assert_eq!("2026-02-30T00:00:00Z".parse::<Instant>(), Err(InstantError::Date));
 /// ```
 impl FromStr for Instant {
@@ -198,19 +201,38 @@ impl FromStr for Instant {
 
     fn from_str(text: &str) -> Result<Instant, InstantError> {
         match text.strip_prefix('@') {
-            Some(numbers) => of_numbers(numbers).ok_or(InstantError::Form),
+            Some(numbers) => {
+                of_numbers(numbers).or_else(|| of_seconds(numbers)).ok_or(InstantError::Form)
+            }
             None => Text::whole(text, Stamp::read).ok_or(InstantError::Form)?.instant(),
         }
     }
 }
 
+/// `1774972799s5ns`
 fn of_numbers(text: &str) -> Option<Instant> {
-    let (seconds, nanos) = text.split_once('.').unwrap_or((text, "0"));
-    let seconds = match seconds.strip_prefix('+') {
-        Some(_) => None,
-        None => seconds.parse().ok(),
+    let (seconds, nanos) = text.strip_suffix("ns")?.split_once('s')?;
+    Some(Instant::new(whole(seconds)?, number(nanos)?))
+}
+
+/// `-1.5`; nanoseconds count forward from the whole second below.
+fn of_seconds(text: &str) -> Option<Instant> {
+    let Some((seconds, _)) = text.split_once('.') else {
+        return Some(Instant::new(whole(text)?, 0));
     };
-    Some(Instant::new(seconds?, number(nanos)?))
+    let nanos = Text::whole(&text[seconds.len()..], |text| text.fraction())?;
+    match (seconds.starts_with('-'), nanos) {
+        (true, 1..) => {
+            Some(Instant::new(whole(seconds)?.checked_sub(1)?, NANOS_OF_A_SECOND - nanos))
+        }
+        _ => Some(Instant::new(whole(seconds)?, nanos)),
+    }
+}
+
+fn whole(text: &str) -> Option<i64> {
+    let digits = text.strip_prefix('-').unwrap_or(text);
+    number::<u64>(digits)?;
+    text.parse().ok()
 }
 
 /// The parts of RFC 3339, before they are looked at.
@@ -252,7 +274,7 @@ impl Stamp {
 /// Why a text is no instant.
 #[derive(Clone, Copy, Debug, PartialEq, Eq)]
 pub enum InstantError {
-    /// Neither RFC 3339 nor `@seconds.nanos`.
+    /// Neither RFC 3339 nor `@seconds`.
     Form,
     /// There is no such day.
     Date,
@@ -267,7 +289,7 @@ impl fmt::Display for InstantError {
         f.write_str(match self {
             InstantError::Form => {
                 "expected an instant like 2026-03-31T11:59:59+02:00, with Z or an offset and up to \
-                 nine digits of a second, or @seconds.nanos of 64 and 32 bits"
+                 nine digits of a second, or @seconds since 1970"
             }
             InstantError::Date => "expected a day of the Gregorian calendar",
             InstantError::Clock => "expected an hour up to 23, a minute and a second up to 59",

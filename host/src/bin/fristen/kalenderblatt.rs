@@ -1,10 +1,63 @@
-//! The calendar of a year.
+//! The calendar of a year, or of a month.
 
 use crate::deutsch::{monat, werktage};
 use crate::json::Json;
-use crate::report::{arguments, refusal_json};
+use crate::reading::is_number;
+use crate::report::values::weekday;
+use crate::report::Asked;
+use crate::skipped::{is_ostersonntag, Closed};
 use mako_fristen_host::{day_reason, Date, DayReason, Error, Feiertag, Refusal, Weekday};
 use std::ffi::OsString;
+use std::ops::RangeInclusive;
+
+/// A year, or a month of it: any numbers.
+#[derive(Clone, Copy, Debug, PartialEq, Eq)]
+pub struct Period {
+    pub year: u32,
+    pub month: Option<u8>,
+}
+
+impl Period {
+    /// `2026`, `2026-04`, `04.2026` or `4.2026`.
+    pub fn read(word: &str) -> Option<Period> {
+        if is_number(word) {
+            // A number too large is a year that the calendar does not have.
+            return Some(Period { year: word.parse().unwrap_or(u32::MAX), month: None });
+        }
+        let parts = word.split_once('-').filter(|(_, month)| month.len() == 2);
+        let (year, month) =
+            parts.or_else(|| word.split_once('.').map(|(month, year)| (year, month)))?;
+        let digits = year.len() == 4 && (1..=2).contains(&month.len());
+        if !digits || !is_number(year) || !is_number(month) {
+            return None;
+        }
+        Some(Period { year: year.parse().ok()?, month: Some(month.parse().ok()?) })
+    }
+
+    /// The one in which a date lies.
+    pub fn year_of(date: Date) -> Period {
+        Period { year: date.year.into(), month: None }
+    }
+
+    /// Why the calendar does not have it.
+    pub fn why(self) -> String {
+        match self {
+            Period { year, month: Some(month) } if !(1..=12).contains(&month) => {
+                format!("{year}-{month:02}: einen {month}. Monat gibt es nicht.")
+            }
+            Period { year, .. } if year < Date::FIRST.year.into() => {
+                format!("{year}: der Kalender beginnt mit dem Jahr {}.", Date::FIRST.year)
+            }
+            Period { year, .. } => {
+                format!("{year}: der Kalender endet mit dem Jahr {}.", Date::LAST.year)
+            }
+        }
+    }
+
+    fn months(self) -> RangeInclusive<u8> {
+        self.month.map_or(1..=12, |month| month..=month)
+    }
+}
 
 /// How a closed day is shown.
 #[derive(Clone, Copy, Debug, PartialEq, Eq)]
@@ -15,18 +68,26 @@ pub enum Mark {
     Colour,
 }
 
+/// What a terminal is told.
+const CLOSED: &str = "\x1b[31m";
+const HOLIDAY: &str = "\x1b[7;31m";
+const PLAIN: &str = "\x1b[0m";
+
 const MONTHS_ABREAST: usize = 3;
 /// `September: 21 Werktage` is the longest.
 const WIDTH: usize = 22;
 const GAP: &str = "  ";
 const WEEKDAYS: &str = "Mo Di Mi Do Fr Sa So";
 
-/// A year with what the calls say of it.
+/// A year or a month with what the calls say of it.
 #[derive(Debug)]
-pub struct Year {
-    number: u16,
+pub struct Sheet {
+    year: u16,
+    month: Option<u8>,
     months: Vec<Month>,
     holidays: Vec<Holiday>,
+    /// None of the list, but people look for it.
+    ostersonntag: Option<Date>,
 }
 
 /// A holiday of the list; the day test names it unless it is on a weekend.
@@ -42,20 +103,14 @@ impl Holiday {
         Ok(Holiday { date, holiday, reason: day_reason(date)? })
     }
 
-    fn line(&self) -> String {
-        let Holiday { date, holiday, .. } = self;
-        let weekday = date.weekday().map(|day| day.to_string()).unwrap_or_default();
-        format!("{:2}. {:<9}  {weekday:<10}  {holiday}", date.day, monat(date.month))
-    }
-
     fn json(&self) -> Json {
         let Holiday { date, holiday, reason } = self;
         Json::Object(vec![
-            ("date", Json::text(date)),
-            ("weekday", date.weekday().map_or(Json::Null, Json::text)),
-            ("number", Json::number(holiday.number())),
-            ("name", Json::text(holiday)),
-            ("reason", Json::number(reason.number())),
+            ("date", (*date).into()),
+            ("weekday", weekday(Some(*date))),
+            ("number", holiday.number().into()),
+            ("name", holiday.name().into()),
+            ("reason", reason.number().into()),
         ])
     }
 }
@@ -80,18 +135,29 @@ impl Month {
     }
 }
 
-impl Year {
+impl Sheet {
     /// # Errors
     ///
-    /// [`Refusal::NoDate`], for a year that is none from 1996 to 2899.
-    pub fn of(year: u32) -> Result<Year, Error> {
-        let year = u16::try_from(year).map_err(|_| Refusal::NoDate)?;
-        let holidays = Feiertag::of_year(year)?.into_iter().map(Holiday::of);
-        let months = (1..=12).map(|month| Month::of(year, month)).collect::<Result<_, _>>()?;
-        Ok(Year { number: year, months, holidays: holidays.collect::<Result<_, _>>()? })
+    /// [`Refusal::NoDate`], for a year that is none from 1996 to 2899, and a month that is none.
+    pub fn of(period: Period) -> Result<Sheet, Error> {
+        let year = u16::try_from(period.year).map_err(|_| Refusal::NoDate)?;
+        if period.month.is_some_and(|month| !(1..=12).contains(&month)) {
+            return Err(Refusal::NoDate.into());
+        }
+        let inside = |date: &Date| period.months().contains(&date.month);
+        let holidays = Feiertag::of_year(year)?.into_iter().filter(|(date, _)| inside(date));
+        let months: Vec<_> =
+            period.months().map(|month| Month::of(year, month)).collect::<Result<_, _>>()?;
+        Ok(Sheet {
+            year,
+            month: period.month,
+            months,
+            holidays: holidays.map(Holiday::of).collect::<Result<_, _>>()?,
+            ostersonntag: ostersonntag(year)?.filter(inside),
+        })
     }
 
-    fn werktage(&self) -> u32 {
+    pub fn werktage(&self) -> u32 {
         self.months.iter().map(Month::werktage).sum()
     }
 
@@ -99,17 +165,38 @@ impl Year {
         self.holidays.iter().any(|holiday| holiday.date == date)
     }
 
+    /// As in '… hat 20 Werktage'.
+    fn name(&self) -> String {
+        match self.month {
+            Some(month) => format!("{} {}", monat(month), self.year),
+            None => self.year.to_string(),
+        }
+    }
+
     pub fn text(&self, mark: Mark) -> String {
-        let closed = if mark == Mark::Star { " (* kein Werktag)" } else { "" };
-        let mut lines = vec![format!("Kalender {}{closed}", self.number), String::new()];
+        let name = self.name();
+        let mut lines = vec![format!("Kalender {name} ({})", legend(mark)), String::new()];
         for months in self.months.chunks(MONTHS_ABREAST) {
             lines.extend(self.abreast(months, mark));
             lines.push(String::new());
         }
-        lines.extend(self.holidays.iter().map(Holiday::line));
-        lines.push(String::new());
-        lines.push(format!("{} hat {}.", self.number, werktage(self.werktage())));
+        let listed = self.listed();
+        lines.extend(listed.iter().map(|(date, name)| listed_line(*date, name)));
+        if !listed.is_empty() {
+            lines.push(String::new());
+        }
+        lines.push(format!("{name} hat {}.", werktage(self.werktage())));
         lines.join("\n")
+    }
+
+    /// The holidays and Ostersonntag by date.
+    fn listed(&self) -> Vec<(Date, &'static str)> {
+        let holidays =
+            self.holidays.iter().map(|Holiday { date, holiday, .. }| (*date, holiday.name()));
+        let easter = self.ostersonntag.map(|date| (date, Closed::Ostersonntag.name()));
+        let mut listed: Vec<_> = holidays.chain(easter).collect();
+        listed.sort_unstable();
+        listed
     }
 
     /// The lines of months beside each other.
@@ -146,55 +233,86 @@ impl Year {
         match (reason.is_werktag(), mark) {
             (true, _) => format!("{day:2} "),
             (false, Mark::Star) => format!("{day:2}*"),
-            (false, Mark::Colour) if self.is_holiday(date) => format!("\x1b[7;31m{day:2}\x1b[0m "),
-            (false, Mark::Colour) => format!("\x1b[31m{day:2}\x1b[0m "),
+            (false, Mark::Colour) if self.is_holiday(date) => format!("{HOLIDAY}{day:2}{PLAIN} "),
+            (false, Mark::Colour) => format!("{CLOSED}{day:2}{PLAIN} "),
         }
     }
 
-    pub fn json(&self, given: &[OsString]) -> Json {
-        let months = self.months.iter().map(|month| Json::number(month.werktage()));
+    /// The days that are no Werktage.
+    fn closed(&self) -> impl Iterator<Item = Date> + '_ {
         let days = self.months.iter().flat_map(|month| &month.days);
-        let closed =
-            days.filter(|(_, reason)| !reason.is_werktag()).map(|(date, _)| Json::text(date));
-        let holidays = self.holidays.iter().map(Holiday::json);
-        Json::Object(vec![
-            ("call", Json::text("kalender")),
-            ("arguments", arguments(given)),
-            ("refusal", Json::Null),
-            ("year", Json::number(self.number)),
-            ("werktage", Json::number(self.werktage())),
-            ("werktage_by_month", Json::list(months)),
-            ("closed", Json::list(closed)),
-            ("holidays", Json::list(holidays)),
-        ])
+        days.filter(|(_, reason)| !reason.is_werktag()).map(|(date, _)| *date)
     }
 }
 
-/// What the calendar of a refused year is as JSON.
-pub fn refused_json(given: &[OsString], refusal: Refusal) -> Json {
-    Json::Object(vec![
-        ("call", Json::text("kalender")),
-        ("arguments", arguments(given)),
-        ("refusal", refusal_json(refusal)),
-    ])
+fn listed_line(date: Date, name: &str) -> String {
+    let weekday = date.weekday().map(|day| day.to_string()).unwrap_or_default();
+    format!("{:2}. {:<9}  {weekday:<10}  {name}", date.day, monat(date.month))
+}
+
+/// What the marks mean.
+fn legend(mark: Mark) -> String {
+    match mark {
+        Mark::Star => "* kein Werktag".to_owned(),
+        Mark::Colour => {
+            format!("{CLOSED}rot{PLAIN} kein Werktag, {HOLIDAY}hinterlegt{PLAIN} Feiertag")
+        }
+    }
+}
+
+/// The Sunday before Ostermontag, of which a year has one.
+fn ostersonntag(year: u16) -> Result<Option<Date>, Error> {
+    let days = (3..=4).flat_map(|month| (1..=31).map(move |day| Date::new(year, month, day)));
+    for sunday in days.filter(|day| day.weekday() == Some(Weekday::Sonntag)) {
+        if is_ostersonntag(sunday)? {
+            return Ok(Some(sunday));
+        }
+    }
+    Ok(None)
+}
+
+/// The sheet as JSON; of a period that is refused there is none.
+pub fn json(period: Period, given: &[OsString], refusal: Json, sheet: Option<&Sheet>) -> Json {
+    let read = vec![("year", period.year.into()), ("month", period.month.into())];
+    let by_month =
+        |sheet: &Sheet| Json::list(sheet.months.iter().map(|month| month.werktage().into()));
+    let closed = |sheet: &Sheet| Json::list(sheet.closed().map(Json::from));
+    let holidays = |sheet: &Sheet| Json::list(sheet.holidays.iter().map(Holiday::json));
+    let content = vec![
+        ("year", sheet.map(|sheet| sheet.year).into()),
+        ("month", sheet.and_then(|sheet| sheet.month).into()),
+        ("werktage", sheet.map(Sheet::werktage).into()),
+        ("werktage_by_month", sheet.map(by_month).into()),
+        ("closed", sheet.map(closed).into()),
+        ("holidays", sheet.map(holidays).into()),
+        ("ostersonntag", sheet.and_then(|sheet| sheet.ostersonntag).into()),
+    ];
+    Asked { call: "kalender", given, read }.answered(refusal, content)
 }
 
 #[cfg(test)]
 mod tests {
     use super::*;
 
-    /// Without its colours the sheet is the plain one without its stars.
+    fn sheet(year: u32, month: Option<u8>) -> Sheet {
+        Sheet::of(Period { year, month }).expect("the calendar has it")
+    }
+
+    /// Without its colours the sheet is the plain one without its stars, but for the legend.
     #[test]
     fn a_closed_day_has_a_star_or_a_colour() {
         for year in [1996, 2008, 2026, 2899] {
-            let sheet = Year::of(year).expect("a year of the calendar");
-            let plain = sheet.text(Mark::Star).replace(" (* kein Werktag)", "").replace('*', " ");
+            let sheet = sheet(year, None);
+            let plain = sheet.text(Mark::Star).replace('*', " ");
             let mut coloured = sheet.text(Mark::Colour);
-            for code in ["\x1b[7;31m", "\x1b[31m", "\x1b[0m"] {
+            let legend = "\x1b[31mrot\x1b[0m kein Werktag, \x1b[7;31mhinterlegt\x1b[0m Feiertag";
+            assert!(coloured.starts_with(&format!("Kalender {year} ({legend})\n\n")), "{coloured}");
+            for code in [HOLIDAY, CLOSED, PLAIN] {
                 assert!(coloured.contains(code));
                 coloured = coloured.replace(code, "");
             }
-            let lines = |text: &str| text.lines().map(str::trim_end).map(str::to_owned).collect();
+            let lines =
+                |text: &str| text.lines().skip(1).map(str::trim_end).map(str::to_owned).collect();
             let (plain, coloured): (Vec<_>, Vec<_>) = (lines(&plain), lines(&coloured));
             assert_eq!(plain, coloured);
         }
@@ -203,7 +321,47 @@ mod tests {
     #[test]
     fn a_year_outside_the_calendar_is_refused() {
         for year in [0, 1995, 2900, 65_535, 65_536, u32::MAX] {
-            assert_eq!(Year::of(year).err(), Some(Refusal::NoDate.into()), "{year}");
+            let refused = Sheet::of(Period { year, month: None }).err();
+            assert_eq!(refused, Some(Refusal::NoDate.into()), "{year}");
+        }
+        for month in [0, 13, 255] {
+            let refused = Sheet::of(Period { year: 2026, month: Some(month) }).err();
+            assert_eq!(refused, Some(Refusal::NoDate.into()), "{month}");
+        }
+    }
+
+    #[test]
+    fn a_month_has_its_own_days_and_holidays() {
+        let april = sheet(2026, Some(4));
+        assert_eq!(april.werktage(), 20);
+        let names: Vec<_> = april.listed().into_iter().map(|(_, name)| name).collect();
+        assert_eq!(names, ["Karfreitag", "Ostersonntag", "Ostermontag"]);
+        assert!(sheet(2026, Some(7)).listed().is_empty());
+        let all: u32 = (1..=12).map(|month| sheet(2026, Some(month)).werktage()).sum();
+        assert_eq!(all, sheet(2026, None).werktage());
+    }
+
+    /// By the list of the Physikalisch-Technische Bundesanstalt.
+    #[test]
+    fn ostersonntag_of_a_year() {
+        for (year, month, day) in [(1997, 3, 30), (2008, 3, 23), (2011, 4, 24), (2026, 4, 5)] {
+            assert_eq!(ostersonntag(year), Ok(Some(Date::new(year, month, day))));
+        }
+    }
+
+    #[test]
+    fn a_year_or_a_month_as_people_write_it() {
+        let month = |year, month| Some(Period { year, month: Some(month) });
+        assert_eq!(Period::read("2026"), Some(Period { year: 2026, month: None }));
+        assert_eq!(Period::read("99999999999"), Some(Period { year: u32::MAX, month: None }));
+        for word in ["2026-04", "04.2026", "4.2026"] {
+            assert_eq!(Period::read(word), month(2026, 4), "{word}");
+        }
+        assert_eq!(Period::read("2026-13"), month(2026, 13), "the calendar judges it");
+        for word in
+            ["", "-2026", "2026-4", "2026-", "26-04", "2026.04", "4.26", "April", "2026-04-02"]
+        {
+            assert_eq!(Period::read(word), None, "{word}");
         }
     }
 }

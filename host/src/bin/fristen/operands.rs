@@ -3,13 +3,14 @@
 use crate::arguments::Arguments;
 use crate::command::Command;
 use crate::inquiry::{Inquiry, Refused};
+use crate::kalenderblatt::Period;
 use crate::names::{self, Named, ANLAESSE, EEG, FRISTEN, SPARTEN, VORLAUF};
 use crate::reading::{self, is_number, Moment, NoMoment};
 use crate::usage::{perhaps, quoted, Usage};
 use crate::{culprit, hints};
 use mako_fristen_host::{Call, Clock, Date, Eeg, Instant, Parameter, VorlaufShape};
 use std::ffi::{OsStr, OsString};
-use std::slice;
+use std::{mem, slice};
 
 /// The inquiry of a subcommand. `call` is its own.
 pub fn inquiry(command: &Command, call: Call, arguments: &Arguments) -> Result<Inquiry, Usage> {
@@ -42,12 +43,24 @@ pub fn shape_and_anchor(
     Ok((shape, anchor))
 }
 
-/// The words behind the name, without options.
-pub fn words(arguments: &Arguments) -> Result<&[OsString], Usage> {
-    let words = Words::new(arguments);
-    let left = words.left.as_slice();
-    Words { left: [].iter(), ..words }.end()?;
-    Ok(left)
+/// The years and months of a calendar; this year, if there is none.
+pub fn periods(arguments: &Arguments) -> Result<Vec<Period>, Usage> {
+    let mut words = Words::new(arguments);
+    let left = mem::take(&mut words.left);
+    words.end()?;
+    let read = |word: &OsString| {
+        read_as("JAHR", word, |word| {
+            let expected = "ein Jahr wie 2026 oder einen Monat wie 2026-04";
+            Period::read(word).ok_or_else(|| expected.to_owned())
+        })
+    };
+    let periods = left.map(read).collect::<Result<Vec<_>, _>>()?;
+    if !periods.is_empty() {
+        return Ok(periods);
+    }
+    let today = reading::date("heute", reading::now());
+    let no_year = || Usage::new("die Uhr des Rechners geht falsch; erwartet ein Jahr wie 2026");
+    Ok(vec![Period::year_of(today.ok_or_else(no_year)?)])
 }
 
 /// The file of a subcommand that takes one; none for the standard input.
@@ -130,6 +143,7 @@ fn instant(
         }
         Err(refused) => {
             inquiry.refused.get_or_insert(refused);
+            inquiry.absent.push(label);
             Ok(Instant::default())
         }
     }

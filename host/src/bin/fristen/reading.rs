@@ -74,7 +74,7 @@ pub fn moment(word: &str, now: Instant) -> Result<Moment, NoMoment> {
         return Ok(plain(now));
     }
     if word.starts_with('@') {
-        return word.parse().map(plain).map_err(|_| expected());
+        return word.replacen(',', ".", 1).parse().map(plain).map_err(|_| expected());
     }
     let (day, time) = parted(word).ok_or_else(expected)?;
     let date = date(day, now).ok_or_else(expected)?;
@@ -194,4 +194,181 @@ fn not_berlins(instant: Instant, east: i64) -> Option<String> {
 
 pub fn is_number(word: &str) -> bool {
     !word.is_empty() && word.bytes().all(|byte| byte.is_ascii_digit())
+}
+
+#[cfg(test)]
+mod tests {
+    use super::*;
+
+    /// Tuesday, 31 March 2026, 23:30 in Berlin, where it is summer: in UTC still 21:30.
+    const NOW: Instant = Instant::new(1_774_992_600, 0);
+
+    #[test]
+    fn a_date_in_any_of_its_forms() {
+        let second_of_april = Some(Date::new(2026, 4, 2));
+        for word in ["2026-04-02", "02.04.2026", "2.4.2026", "2.04.2026"] {
+            assert_eq!(date(word, NOW), second_of_april, "{word}");
+        }
+        let days = [("heute", 31, 3), ("Morgen", 1, 4), ("GESTERN", 30, 3)];
+        for (word, day, month) in days {
+            assert_eq!(date(word, NOW), Some(Date::new(2026, month, day)), "{word}");
+        }
+        assert_eq!(date("30.02.2026", NOW), Some(Date::new(2026, 2, 30)), "the call judges it");
+    }
+
+    /// An hour before midnight in UTC the day in Berlin is the next one.
+    #[test]
+    fn today_is_berlins() {
+        let half_past_midnight = Instant::new(NOW.seconds + HOUR, 0);
+        assert_eq!(date("heute", half_past_midnight), Some(Date::new(2026, 4, 1)));
+        assert_eq!(date("heute", Instant::new(0, 0)), None, "the calls know no such day");
+    }
+
+    #[test]
+    fn what_is_no_date() {
+        for word in [
+            "",
+            "2026-4-2",
+            "2.4.26",
+            "2.4.",
+            "2.4",
+            "2/4/2026",
+            "4.2026",
+            "002.04.2026",
+            "2.4.2026.",
+            "2.4.02026",
+            "+2.4.2026",
+            "2. 4. 2026",
+            "uebermorgen",
+            "20260402",
+        ] {
+            assert_eq!(date(word, NOW), None, "{word}");
+        }
+    }
+
+    #[test]
+    fn a_clock_time_with_a_comma_or_a_point() {
+        let half = Clock::new(9, 5, 7, 500_000_000);
+        for word in ["09:05:07,5", "9:05:07.5", "09:05:07.500000000"] {
+            assert_eq!(clock(word), Some(half), "{word}");
+        }
+        assert_eq!(clock("9:05"), Some(Clock::new(9, 5, 0, 0)));
+        assert_eq!(clock("24:00"), Some(Clock::new(24, 0, 0, 0)), "the call judges it");
+        for word in
+            ["", "9", "9:5", "9.05", "009:05", ":05", "09:05,5", "09:05:07,", "09:05:07,5,5"]
+        {
+            assert_eq!(clock(word), None, "{word}");
+        }
+    }
+
+    fn instant(word: &str) -> Result<Instant, NoMoment> {
+        moment(word, NOW).map(|moment| moment.instant)
+    }
+
+    /// By `date -u -d '2026-03-31 09:59' +%s`, in summer time two hours before Berlin's clock.
+    #[test]
+    fn an_instant_by_berlins_clock_or_with_an_offset() {
+        let expected = Ok(Instant::new(1_774_951_140, 0));
+        for word in [
+            "2026-03-31 11:59",
+            "2026-03-31T11:59:00",
+            "2026-03-31t11:59",
+            "31.3.2026 11:59",
+            "31.03.2026T11:59",
+            "heute 11:59",
+            " Heute \t 11:59",
+            "2026-03-31T11:59+02:00",
+            "2026-03-31T11:59:00+0200",
+            "2026-03-31 11:59+02",
+            "2026-03-31 11:59 +02:00",
+            "2026-03-31T09:59Z",
+            "31.3.2026 9:59z",
+            "2026-03-31T05:29-04:30",
+            "@1774951140",
+            "@1774951140,0",
+            "@1774951140s0ns",
+        ] {
+            assert_eq!(instant(word), expected, "{word}");
+        }
+        assert_eq!(instant("jetzt"), Ok(NOW));
+        let half = Ok(Instant::new(1_774_951_140, 500_000_000));
+        for word in ["2026-03-31 11:59:00,5", "2026-03-31T11:59:00.5+02:00", "@1774951140,5"] {
+            assert_eq!(instant(word), half, "{word}");
+        }
+    }
+
+    #[test]
+    fn an_offset_that_is_not_berlins_has_a_note() {
+        let note = |word| moment(word, NOW).map(|moment| moment.note);
+        let in_summer =
+            "in Berlin gilt dann +02:00; gelesen ist Dienstag, 31. März 2026, 12:00 Uhr";
+        assert_eq!(note("2026-03-31T11:00+01:00"), Ok(Some(in_summer.to_owned())));
+        let in_winter =
+            "in Berlin gilt dann +01:00; gelesen ist Freitag, 9. Januar 2026, 11:00 Uhr";
+        assert_eq!(note("2026-01-09T12:00:00+0200"), Ok(Some(in_winter.to_owned())));
+        assert!(note("2026-01-09T12:00:00+00:00").is_ok_and(|note| note.is_some()));
+        for word in [
+            "2026-03-31T11:00+02:00",
+            "2026-01-09T12:00+01",
+            "2026-10-25T02:30+02:00",
+            "2026-10-25T02:30+01:00",
+            // UTC by its name is meant, and is no clock of a place.
+            "2026-03-31T11:00Z",
+            "2026-03-31 11:00",
+            "@1774951140",
+            // The calls know no Berlin clock then.
+            "1995-01-01T12:00+02:00",
+        ] {
+            assert_eq!(note(word), Ok(None), "{word}");
+        }
+    }
+
+    #[test]
+    fn a_time_that_berlins_clock_shows_twice_or_never() {
+        let autumn = moment("2026-10-25 02:30", NOW).expect("the earlier");
+        assert_eq!((autumn.instant.seconds, autumn.twice), (1_792_888_200, true));
+        let after = moment("2026-10-25 03:00", NOW).expect("it is shown once");
+        assert!(!after.twice);
+        assert!(!moment("2026-10-25T02:30+02:00", NOW).expect("the offset tells").twice);
+        let refused = |word| match instant(word) {
+            Err(NoMoment::Refused(refusal, ..)) => Some(refusal),
+            _ => None,
+        };
+        assert_eq!(refused("2026-03-29 02:30"), Some(Refusal::LocalTimeAbsent));
+        assert_eq!(refused("2026-02-29 02:30"), Some(Refusal::NoDate));
+        assert_eq!(refused("1995-12-31 23:59"), Some(Refusal::NoDate));
+        assert_eq!(refused("2026-03-31 24:00"), Some(Refusal::NoClock));
+        assert_eq!(refused("2026-03-31 11:00:60"), Some(Refusal::NoClock));
+    }
+
+    #[test]
+    fn what_is_no_instant_says_what_was_expected() {
+        let expected = |word| match instant(word) {
+            Err(NoMoment::Expected(expected)) => expected,
+            other => panic!("{word}: {other:?}"),
+        };
+        for word in [
+            "",
+            "@",
+            "11:59",
+            "morgens 11:59",
+            "2026-03-31 11",
+            "2026-03-31 11:59 Uhr",
+            "@1,5,5",
+            "2026-03-31T11:59+2",
+            "2026-03-31T11:59+020",
+            "2026-03-31T11:59+02:0",
+            "2026-03-31T11:59+0:200",
+            "2026-03-31T11:59++02:00",
+            "2026-03-31T11:59ZZ",
+            "T11:59",
+        ] {
+            assert!(expected(word).starts_with("einen Zeitpunkt wie"), "{word}");
+        }
+        assert!(expected("2026-03-31").contains("zum Datum eine Uhrzeit"));
+        assert!(expected("heute").contains("zum Datum eine Uhrzeit"));
+        assert_eq!(expected("2026-02-30T11:59Z"), "einen Tag, den es gibt");
+        assert!(expected("2026-03-31T24:00Z").starts_with("eine Stunde bis 23"));
+        assert_eq!(expected("2026-03-31T11:59+24:00"), "einen Abstand zu UTC bis 23:59");
+    }
 }

@@ -1,14 +1,15 @@
 use crate::input::Input;
 use crate::lines::{Line, Lines};
 use crate::outcome::{Outcome, Status};
+use crate::output::Output;
 use crate::program;
 use crate::progress::Progress;
-use std::io::{self, BufWriter, StdoutLock, Write};
+use std::io::{self, BufWriter, Write};
 
 /// Where the answers to an input go, and what came of them so far. What ends the work early is an
 /// outcome.
 pub struct Run {
-    out: BufWriter<StdoutLock<'static>>,
+    out: BufWriter<Output>,
     progress: Progress,
     /// The subcommand's name.
     name: &'static str,
@@ -20,7 +21,7 @@ pub struct Run {
 impl Run {
     /// Of the subcommand of this name; `what` as in '3 … ...'.
     pub fn new(input: &Input, name: &'static str, what: &'static str) -> Run {
-        let out = BufWriter::new(io::stdout().lock());
+        let out = BufWriter::new(Output::standard());
         let progress = Progress::new(input.typed, what);
         Run { out, progress, name, status: Status::Answered, answered: 0, unread: 0 }
     }

@@ -10,9 +10,11 @@ pub mod rule;
 mod skipped;
 mod vorlauf;
 
+pub use kalender::cut_day;
+
 use crate::deutsch::zweimal;
 use crate::inquiry::Inquiry;
-use mako_fristen_host::{Answer, BerlinTime, Call, Error, FristShape, Parameter};
+use mako_fristen_host::{Answer, BerlinTime, Call, Error, Parameter};
 
 /// One or more sentences, a line each where they are long.
 pub fn of(inquiry: &Inquiry, answer: &Answer) -> Result<String, Error> {
@@ -30,8 +32,7 @@ fn twice(inquiry: &Inquiry) -> Result<Vec<String>, Error> {
 }
 
 fn said(inquiry: &Inquiry, answer: &Answer) -> Result<String, Error> {
-    let (call, n, at) = (inquiry.call, inquiry.question.n, inquiry.question.clock);
-    let werktag_at = |werktage| FristShape::WerktagAt { werktage, at };
+    let call = inquiry.call;
     match call {
         Call::IsWerktag => kalender::day(inquiry, answer.read(call)?),
         Call::NextWerktag => kalender::next(inquiry, answer.read(call)?),
@@ -56,12 +57,11 @@ fn said(inquiry: &Inquiry, answer: &Answer) -> Result<String, Error> {
         | Call::AperakGasInitialprozessDueAt
         | Call::AperakGasDueAt => fristen::gas(inquiry, answer.read(call)?),
         Call::AddHours => fristen::hours(inquiry, answer.read(call)?),
-        Call::DeadlineAtWerktage | Call::EndOfWerktagAfter => {
-            fristen::shaped(inquiry, answer.read(call)?, FristShape::EndOfWerktag(n))
-        }
-        Call::NextWerktagAt => fristen::shaped(inquiry, answer.read(call)?, werktag_at(1)),
-        Call::NthWerktagAt => fristen::shaped(inquiry, answer.read(call)?, werktag_at(n)),
-        Call::FristDueAt => fristen::shaped(inquiry, answer.read(call)?, inquiry.frist()?),
+        Call::DeadlineAtWerktage
+        | Call::EndOfWerktagAfter
+        | Call::NextWerktagAt
+        | Call::NthWerktagAt
+        | Call::FristDueAt => fristen::shaped(inquiry, answer.read(call)?),
         Call::VorlaufCheck | Call::VorlaufCheckAt => vorlauf::judged(inquiry, answer.read(call)?),
         Call::VorlaufSpan => vorlauf::spanned(inquiry, answer.read(call)?),
         Call::AbmeldungFuer => abmeldung::heading(inquiry, answer.read(call)?),

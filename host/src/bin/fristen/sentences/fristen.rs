@@ -16,9 +16,8 @@ pub fn hours(inquiry: &Inquiry, to: Instant) -> Result<String, Error> {
     Ok(format!("{n} nach {from}, ist es {to}."))
 }
 
-/// The calls that step by Werktage are shapes under other names.
-pub fn shaped(inquiry: &Inquiry, due: Instant, shape: FristShape) -> Result<String, Error> {
-    let received = inquiry.question.instant;
+pub fn shaped(inquiry: &Inquiry, due: Instant) -> Result<String, Error> {
+    let (received, shape) = (inquiry.question.instant, inquiry.frist()?);
     let corner = Corner::of(shape, received, due)?;
     let (from, to) = (am(BerlinTime::of(received)?), faellig(BerlinTime::of(due)?));
     let ends = match corner {

@@ -47,11 +47,16 @@ pub fn months(inquiry: &Inquiry, to: Date, side: &str) -> String {
         return format!("Mit 0 Monaten bleibt es bei {}.", dem(from));
     }
     let shifted = format!("{}, liegt {} {side} {}.", der(to), monate(n), dem(from));
-    if to.day == from.day {
+    let Some(day) = cut_day(inquiry, to) else {
         return shifted;
-    }
-    let (day, month, year) = (from.day, monat(to.month), to.year);
+    };
+    let (month, year) = (monat(to.month), to.year);
     format!(
         "{shifted} Einen {day}. hat der {month} {year} nicht; es gilt sein letzter Tag (§ 188 BGB)."
     )
+}
+
+/// The day that the month does not have, if the step was cut to its last.
+pub fn cut_day(inquiry: &Inquiry, to: Date) -> Option<u8> {
+    Some(inquiry.question.date.day).filter(|day| *day != to.day)
 }
