@@ -140,12 +140,11 @@ Folgeprozess.",
         options: &[],
         summary: "der Zeitpunkt N Stunden später",
         meaning: "\
-N Stunden später, an jedem Tag. Beim Wechsel der Uhren geht die Berliner Uhr eine
-Stunde anders.",
+N Stunden später, an jedem Tag. Wird die Uhr dazwischen umgestellt, so steht es dabei.",
         examples: &[Example::new(
             "add-hours 2026-03-29T01:30:00+01:00 1",
             "1 Stunde nach Sonntag, 29. März 2026, 01:30 Uhr, ist es Sonntag, 29. März 2026, 03:30 \
-             Uhr.",
+             Uhr. Dazwischen wird die Uhr um eine Stunde vorgestellt.",
         )],
     },
     Command {
