@@ -799,6 +799,49 @@ const BIS_WANN: &[(&str, &str)] = &[
          Der späteste Übertragungstag liegt 1 Monat vor dem Termin.",
     ),
 ];
+
+/// The end that leaves the calendar, or why the Termin is none.
+const NOT_UNTIL: &[(&str, &str)] = &[
+    (
+        "bis-wann LatestWerktageBefore 1 1996-01-02",
+        "Abgelehnt (8): Der späteste Übertragungstag für den Termin Dienstag, 2. Januar 1996, \
+         liegt vor dem 1. Januar 1996, dem ersten Tag des Kalenders.",
+    ),
+    (
+        "bis-wann EarliestWerktageAfter 1 1996-01-01",
+        "Abgelehnt (8): Der späteste Übertragungstag für den Termin Montag, 1. Januar 1996, \
+         liegt vor dem 1. Januar 1996, dem ersten Tag des Kalenders.",
+    ),
+    (
+        "bis-wann Korridor 1 1996-01-02",
+        "Abgelehnt (8): Der früheste Übertragungstag für den Termin Dienstag, 2. Januar 1996, \
+         liegt vor dem 1. Januar 1996, dem ersten Tag des Kalenders.",
+    ),
+    (
+        "bis-wann WindowWerktageBefore 2 0 1996-01-03",
+        "Abgelehnt (8): Der früheste Übertragungstag für den Termin Mittwoch, 3. Januar 1996, \
+         liegt vor dem 1. Januar 1996, dem ersten Tag des Kalenders.",
+    ),
+    (
+        "bis-wann Korridor 1 2899-12-30",
+        "Abgelehnt (8): Der späteste Übertragungstag für den Termin Mittwoch, 30. Dezember \
+         2899, liegt hinter dem 31. Dezember 2899, dem letzten Tag des Kalenders.",
+    ),
+    (
+        "bis-wann LatestWerktageAfter 2 2899-12-29",
+        "Abgelehnt (8): Der späteste Übertragungstag für den Termin Dienstag, 29. Dezember \
+         2899, liegt hinter dem 31. Dezember 2899, dem letzten Tag des Kalenders.",
+    ),
+    (
+        "bis-wann LatestWerktageBefore 1 2026-02-30",
+        "Abgelehnt (3): 2026-02-30: der Februar 2026 hat 28 Tage.",
+    ),
+    (
+        "bis-wann EarliestWerktageAfter 0 2900-01-01",
+        "Abgelehnt (3): 2900-01-01: der Kalender endet am 31. Dezember 2899.",
+    ),
+];
+
 /// A span that leaves the calendar while the verdict is answered, under each verdict: of a window
 /// and a Korridor only, which have two ends.
 const EDGES: &[(&str, &str)] = &[
@@ -959,52 +1002,7 @@ fn spans() {
 #[test]
 fn until_when() {
     assert_prints(BIS_WANN);
-}
-
-/// The end that leaves the calendar, or why the Termin is none.
-#[test]
-fn until_when_refused() {
-    let rows = [
-        (
-            "bis-wann LatestWerktageBefore 1 1996-01-02",
-            "Abgelehnt (8): Der späteste Übertragungstag für den Termin Dienstag, 2. Januar 1996, \
-             liegt vor dem 1. Januar 1996, dem ersten Tag des Kalenders.",
-        ),
-        (
-            "bis-wann EarliestWerktageAfter 1 1996-01-01",
-            "Abgelehnt (8): Der späteste Übertragungstag für den Termin Montag, 1. Januar 1996, \
-             liegt vor dem 1. Januar 1996, dem ersten Tag des Kalenders.",
-        ),
-        (
-            "bis-wann Korridor 1 1996-01-02",
-            "Abgelehnt (8): Der früheste Übertragungstag für den Termin Dienstag, 2. Januar 1996, \
-             liegt vor dem 1. Januar 1996, dem ersten Tag des Kalenders.",
-        ),
-        (
-            "bis-wann WindowWerktageBefore 2 0 1996-01-03",
-            "Abgelehnt (8): Der früheste Übertragungstag für den Termin Mittwoch, 3. Januar 1996, \
-             liegt vor dem 1. Januar 1996, dem ersten Tag des Kalenders.",
-        ),
-        (
-            "bis-wann Korridor 1 2899-12-30",
-            "Abgelehnt (8): Der späteste Übertragungstag für den Termin Mittwoch, 30. Dezember \
-             2899, liegt hinter dem 31. Dezember 2899, dem letzten Tag des Kalenders.",
-        ),
-        (
-            "bis-wann LatestWerktageAfter 2 2899-12-29",
-            "Abgelehnt (8): Der späteste Übertragungstag für den Termin Dienstag, 29. Dezember \
-             2899, liegt hinter dem 31. Dezember 2899, dem letzten Tag des Kalenders.",
-        ),
-        (
-            "bis-wann LatestWerktageBefore 1 2026-02-30",
-            "Abgelehnt (3): 2026-02-30: der Februar 2026 hat 28 Tage.",
-        ),
-        (
-            "bis-wann EarliestWerktageAfter 0 2900-01-01",
-            "Abgelehnt (3): 2900-01-01: der Kalender endet am 31. Dezember 2899.",
-        ),
-    ];
-    for (line, expected) in rows {
+    for (line, expected) in NOT_UNTIL {
         assert_eq!(printed(&words(line), 2), format!("{expected}\n"), "{line}");
     }
 }

@@ -81,42 +81,25 @@ mod tests {
     #[test]
     fn the_allowed_dates_in_both_genders() {
         let (monday, friday) = (Date::new(2026, 1, 5), Date::new(2026, 1, 9));
+        let rows = [
+            (Span::From(monday), "% ab Montag, dem 5. Januar 2026."),
+            (
+                Span::Between(monday, friday),
+                "% von Montag, dem 5. Januar 2026, bis Freitag, den 9. Januar 2026.",
+            ),
+            (Span::Between(friday, friday), "Zulässig ist nur Freitag, der 9. Januar 2026."),
+        ];
+        for (span, expected) in rows {
+            let of = |begin| expected.replace('%', begin);
+            assert_eq!(TERMIN.allowed(Some(span)), of("Zulässig sind Termine"));
+            assert_eq!(ZUORDNUNGSENDE.allowed(Some(span)), of("Zulässig ist ein Zuordnungsende"));
+        }
+        assert_eq!(TERMIN.allowed(Some(Span::Empty)), "Zulässig ist kein Termin.");
+        assert_eq!(ZUORDNUNGSENDE.allowed(Some(Span::Empty)), "Zulässig ist kein Zuordnungsende.");
         let beyond =
             "reicht über den Kalender vom 1. Januar 1996 bis zum 31. Dezember 2899 hinaus.";
-        let rows = [
-            (
-                Some(Span::From(monday)),
-                "Zulässig sind Termine ab Montag, dem 5. Januar 2026.".to_owned(),
-                "Zulässig ist ein Zuordnungsende ab Montag, dem 5. Januar 2026.".to_owned(),
-            ),
-            (
-                Some(Span::Between(monday, friday)),
-                "Zulässig sind Termine von Montag, dem 5. Januar 2026, bis Freitag, den 9. Januar \
-                 2026."
-                    .to_owned(),
-                "Zulässig ist ein Zuordnungsende von Montag, dem 5. Januar 2026, bis Freitag, den \
-                 9. Januar 2026."
-                    .to_owned(),
-            ),
-            (
-                Some(Span::Between(friday, friday)),
-                "Zulässig ist nur Freitag, der 9. Januar 2026.".to_owned(),
-                "Zulässig ist nur Freitag, der 9. Januar 2026.".to_owned(),
-            ),
-            (
-                Some(Span::Empty),
-                "Zulässig ist kein Termin.".to_owned(),
-                "Zulässig ist kein Zuordnungsende.".to_owned(),
-            ),
-            (
-                None,
-                format!("Die Spanne der zulässigen Termine {beyond}"),
-                format!("Die Spanne der zulässigen Zuordnungsenden {beyond}"),
-            ),
-        ];
-        for (span, termin, zuordnungsende) in rows {
-            assert_eq!(TERMIN.allowed(span), termin);
-            assert_eq!(ZUORDNUNGSENDE.allowed(span), zuordnungsende);
-        }
+        assert_eq!(TERMIN.allowed(None), format!("Die Spanne der zulässigen Termine {beyond}"));
+        let of_ends = format!("Die Spanne der zulässigen Zuordnungsenden {beyond}");
+        assert_eq!(ZUORDNUNGSENDE.allowed(None), of_ends);
     }
 }
