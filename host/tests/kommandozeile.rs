@@ -3,22 +3,29 @@
 
 #[path = "kommandozeile/fragen.rs"]
 mod fragen;
+#[path = "kommandozeile/json.rs"]
+mod json;
+#[path = "kommandozeile/kurz.rs"]
+mod kurz;
+#[path = "kommandozeile/leser.rs"]
+mod leser;
 #[path = "kommandozeile/portfolio.rs"]
 mod portfolio;
 #[path = "kommandozeile/saetze.rs"]
 mod saetze;
+#[path = "kommandozeile/seite.rs"]
+mod seite;
 #[path = "kommandozeile/urteile.rs"]
 mod urteile;
 #[path = "kommandozeile/zeilen.rs"]
 mod zeilen;
 
+use json::object;
+use leser::Value;
 use mako_fristen_host::{
     ffi, Answer, Call, Clock, Date, DayReason, Instant, Parameter, Question, Reason,
 };
-use saetze::{
-    ANNOUNCEMENTS, CASES, CHANGE_DAYS, DAYS, DUE, JSON, LABELS, STEPS, TOLERANCE, TWICE,
-    VERDICTS_JSON,
-};
+use saetze::{ANNOUNCEMENTS, CASES, CHANGE_DAYS, DAYS, DUE, STEPS, TOLERANCE, TWICE};
 use std::ffi::{OsStr, OsString};
 use std::fs;
 use std::path::Path;
@@ -101,7 +108,7 @@ fn every_call_is_asked_under_its_own_name() {
         let line = example.lines().next().expect("a line");
         let mut arguments = words(line);
         arguments.push("--json");
-        let expected = format!("{{\"call\":\"{}\",\"arguments\":[\"", call.name());
+        let expected = format!("{{\"version\":1,\"call\":\"{}\",\"arguments\":[\"", call.name());
         let json = printed(&arguments, 0);
         assert!(json.starts_with(&expected), "{json}");
         for name in [&name, &name.replace('-', "_"), call.name()] {
@@ -146,21 +153,6 @@ fn due_instants() {
 }
 
 #[test]
-fn a_due_instant_has_the_originals_label() {
-    for (call, label) in LABELS {
-        let line = format!("{call} 2026-04-02T10:00:00+02:00");
-        let sentence = printed(&words(&line), 0);
-        assert!(!sentence.contains(label), "{sentence}");
-        let json = printed(&words(&format!("{line} --json")), 0);
-        assert!(json.ends_with(&format!("}},\"label\":\"{label}\"}}\n")), "{json}");
-        let refused = printed(&words(&format!("{call} 1995-01-01T00:00:00Z --json")), 2);
-        assert!(!refused.contains("label"), "{refused}");
-    }
-    let json = printed(&words("next-werktag-at 2026-04-02T10:00:00+02:00 12:00 --json"), 0);
-    assert!(!json.contains("label"), "{json}");
-}
-
-#[test]
 fn contrl_with_a_change_day() {
     assert_prints(CHANGE_DAYS);
 }
@@ -192,11 +184,9 @@ fn the_change_day_is_an_option_of_contrl() {
     assert_eq!(bytes, printed(&[&own[..], &["--bytes"]].concat(), 0));
     let version_one = printed(&asked[..3], 0);
     assert!(!version_one.contains("Stichtag"), "{version_one}");
-    let json = printed(&[&asked[..3], &["--json"]].concat(), 0);
-    assert!(
-        json.starts_with("{\"call\":\"mf_contrl_due_at\",") && !json.contains("moved"),
-        "{json}"
-    );
+    let call = |line: &[&str]| object(&line.join(" "), 0).get("call").clone();
+    assert_eq!(call(&asked[..3]), Value::Text("mf_contrl_due_at".to_owned()));
+    assert_eq!(call(&asked), Value::Text("mf_contrl_due_at_change".to_owned()));
     let help = printed(&["help", "contrl"], 0);
     assert!(help.starts_with("Aufruf: ./fristen contrl ANLASS EINGANG [--stichtag DATUM]\n"));
     assert_eq!(help.matches("\n  $ ./fristen contrl ").count(), 2, "{help}");
@@ -221,9 +211,7 @@ fn what_leaves_the_calendar_with_a_change_day() {
     ];
     for (line, sentence) in rows {
         assert_eq!(printed(&words(line), 2), format!("Abgelehnt (8): {sentence}\n"), "{line}");
-        let json = printed(&words(&format!("{line} --json")), 2);
-        let end = format!("\"refusal\":{{\"number\":8,\"text\":\"{sentence}\"}}}}\n");
-        assert!(json.ends_with(&end), "{json}");
+        assert_refusal(line, 8, sentence);
     }
 }
 
@@ -240,8 +228,20 @@ fn the_margin_of_a_verdict() {
         let help = printed(&["help", command], 0).replace('\n', " ");
         assert!(help.contains("mit den Tagen, die noch Luft sind oder zu spät"), "{help}");
     }
-    let refused = printed(&["check", "Korridor", "1", "1996-01-01", "1996-01-01", "--json"], 2);
-    assert!(!refused.contains("margin"), "{refused}");
+    assert_eq!(object("check Korridor 1 1996-01-01 1996-01-01", 2).get("margin"), &Value::Null);
+}
+
+/// The refusal as JSON, behind which nothing is answered.
+fn assert_refusal(line: &str, number: i64, text: &str) {
+    let object = object(line, 2);
+    let refusal = object.get("refusal");
+    assert_eq!(refusal.get("number"), &Value::Number(number), "{line}");
+    assert_eq!(refusal.get("text"), &Value::Text(text.to_owned()), "{line}");
+    let content = object.members().iter().skip_while(|(key, _)| key != "refusal").skip(1);
+    assert!(
+        content.clone().count() > 0 && content.clone().all(|(_, value)| *value == Value::Null),
+        "{object:?}"
+    );
 }
 
 /// Every number that can be reached: 1 and 2 need a slice or a code that the program never gives.
@@ -283,10 +283,8 @@ fn refusals_with_their_number() {
         let sentence = printed(&words(line), 2);
         assert!(sentence.starts_with(&format!("Abgelehnt ({number}): ")), "{line}: {sentence}");
         assert!(sentence.ends_with(".\n") && sentence.lines().count() == 1, "{sentence}");
-        let json = printed(&words(&format!("{line} --json")), 2);
         let text = sentence.trim_end().split_once(": ").expect("a sentence").1;
-        let refusal = format!("\"refusal\":{{\"number\":{number},\"text\":\"{text}\"}}}}\n");
-        assert!(json.ends_with(&refusal), "{json}");
+        assert_refusal(line, number, text);
     }
 }
 
@@ -298,9 +296,11 @@ fn a_refused_day_is_no_werktag() {
         assert!(sentence.starts_with("Abgelehnt (3): "), "{sentence}");
         let json = printed(&["tag", day, "--json"], 2);
         assert!(json.contains("\"refusal\":{\"number\":3,"), "{json}");
-        for text in [&sentence, &json] {
-            assert!(!text.contains("Werktag") && !text.contains("\"werktag\""), "{text}");
-            assert!(!text.contains("\"kind\""), "{text}");
+        assert!(json.contains("\"werktag\":null,\"kind\":null,\"kind_name\":null"), "{json}");
+        let short = run(&["tag", day, "--kurz", "--status"]);
+        assert_eq!((short.status.code(), &short.stdout[..]), (Some(2), &b""[..]));
+        for text in [sentence, json, String::from_utf8_lossy(&short.stderr).into_owned()] {
+            assert!(!text.contains("Werktag"), "{text}");
         }
         assert_eq!(printed(&["tag", day, "--bytes"], 2), format!("03{}\n", "00".repeat(31)));
     }
@@ -333,8 +333,8 @@ fn a_count_with_the_days_that_it_tested() {
     assert_eq!(bytes, fields.concat());
     let help = printed(&["help", "werktage-between"], 0);
     assert!(help.contains("\n„days_tested“ in --json: die geprüften Tage, "), "{help}");
-    let refused = printed(&["werktage-between", "2026-04-02", "2026-02-29", "--json"], 2);
-    assert!(!refused.contains("count") && !refused.contains("days_tested"), "{refused}");
+    let refused = object("werktage-between 2026-04-02 2026-02-29", 2);
+    assert_eq!([refused.get("count"), refused.get("days_tested")], [&Value::Null; 2]);
 }
 
 const WRONG: &[(&str, &str)] = &[
@@ -432,36 +432,6 @@ fn a_call_of_no_command() {
     let expected = complaint(&["gestern"]);
     assert!(expected.contains("\n  Kalender: tag, next-werktag, add-werktage, "), "{expected}");
     assert_eq!(help.matches("mf_").count(), 1, "only the example of a host call's name");
-}
-
-#[test]
-fn answers_as_json() {
-    assert_prints(JSON);
-}
-
-/// A `TooLate` says whether its date is allowed, and which dates are; no other verdict does.
-#[test]
-fn verdicts_as_json() {
-    for (line, end) in VERDICTS_JSON {
-        let json = printed(&words(&format!("{line} --json")), 0);
-        assert!(json.ends_with(&format!("{end}\n")), "{json}");
-    }
-}
-
-#[test]
-fn the_calendar_of_a_year_as_json() {
-    let year = printed(&["kalender", "2026", "--json"], 0);
-    let begin = "{\"call\":\"kalender\",\"arguments\":[\"2026\"],\"refusal\":null,\"year\":2026,\
-                 \"werktage\":249,\"werktage_by_month\":[20,20,22,20,18,21,23,21,22,22,20,20],\
-                 \"closed\":[\"2026-01-01\",\"2026-01-03\",";
-    assert!(year.starts_with(begin) && year.lines().count() == 1, "{year}");
-    let end = "{\"date\":\"2026-12-31\",\"weekday\":\"Donnerstag\",\"number\":15,\
-               \"name\":\"Silvester\",\"reason\":15}]}\n";
-    assert!(year.ends_with(end), "{year}");
-    let sunday = "{\"date\":\"2026-03-08\",\"weekday\":\"Sonntag\",\"number\":5,\
-                  \"name\":\"Internationaler Frauentag\",\"reason\":2},";
-    assert!(year.contains(sunday), "{year}");
-    assert_eq!(year.matches("\"number\":").count(), 20, "{year}");
 }
 
 /// The second case of every code.
@@ -565,7 +535,7 @@ fn a_reason_that_is_no_text_is_shown_and_given_in_hex() {
     arguments.push("--json".into());
     let json = printed(&arguments, 0);
     let expected = "\"arguments\":[\"\u{fffd}\\u0001\\\"Z\u{fffd}\",\"--eeg\",\"nein\"],\
-                    \"reason_hex\":\"ff01225ac3\",\"refusal\":null,\"kind\":0,";
+                    \"read\":{\"reason_hex\":\"ff01225ac3\",\"eeg\":\"nein\"},\"refusal\":null,\"kind\":0,";
     assert!(json.contains(expected), "{json}");
     let no_text: [OsString; 2] = ["tag".into(), argument(b"2026-01-0\xff")];
     assert!(
