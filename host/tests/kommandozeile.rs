@@ -138,13 +138,16 @@ fn steps_and_what_they_skip() {
     assert_prints(STEPS);
 }
 
-/// In a second, also where nothing is optimised and other tests run beside it.
+/// Some 30 ms; in seconds where nothing is optimised and other tests run beside it.
 #[test]
-fn a_long_step_is_fast() {
+fn a_step_over_centuries_is_soon_there() {
     let started = std::time::Instant::now();
     let step = printed(&["add-werktage", "1996-01-01", "200000"], 0);
-    assert!(started.elapsed() < std::time::Duration::from_secs(1), "{:?}", started.elapsed());
-    assert_eq!(step.lines().count(), 2, "{step}");
+    assert!(started.elapsed() < std::time::Duration::from_secs(10), "{:?}", started.elapsed());
+    let expected =
+        "Der 200000. Werktag nach Montag, dem 1. Januar 1996, ist Mittwoch, der 21. April \
+                    2810.\nÜbersprungen: 40974 Samstage, 40167 Sonntage und 16277 Feiertage.\n";
+    assert_eq!(step, expected);
 }
 
 #[test]
@@ -189,7 +192,7 @@ fn the_change_day_is_an_option_of_contrl() {
     assert_eq!(call(&asked), Value::Text("mf_contrl_due_at_change".to_owned()));
     let help = printed(&["help", "contrl"], 0);
     assert!(help.starts_with("Aufruf: ./fristen contrl ANLASS EINGANG [--stichtag DATUM]\n"));
-    assert_eq!(help.matches("\n  $ ./fristen contrl ").count(), 2, "{help}");
+    assert_eq!(help.matches("\n  $ ./fristen contrl ").count(), 3, "{help}");
     assert!(help.contains(" --stichtag 2026-06-06\n"), "{help}");
 }
 

@@ -75,9 +75,9 @@ fn a_file_in_the_three_forms() {
     let late =
         "1 Tag zu spät: Übertragungstag Samstag, 10. Januar 2026, Termin Montag, 12. Januar 2026. \
          Zulässig sind Termine ab Dienstag, dem 13. Januar 2026. Spätester Übertragungstag ist der \
-         1. Werktag vor dem Termin: Freitag, der 9. Januar 2026. Es fehlt kein Werktag; zu spät ist \
-         es um 1 Tag, der kein Werktag ist. Die Quelle nennt als frühesten Termin Montag, den 12. \
-         Januar 2026; zulässig ist er nicht.";
+         1. Werktag vor dem Termin: Freitag, der 9. Januar 2026. Es fehlt kein Werktag; zu spät \
+         ist es um 1 Tag, der kein Werktag ist. Die Quelle nennt als frühesten Termin Montag, den \
+         12. Januar 2026; zulässig ist er nicht.";
     let sentences =
         [format!("3: {SPANNED}"), format!("4: Abgelehnt (8): {no_end}"), format!("5: {late}")];
     assert_eq!(answers(&[], &input, 2), sentences);

@@ -1,7 +1,7 @@
 //! Calls and what they print.
 
-/// Cases A to L of document 01 that a single call answers; A by its feasts. Those with a verdict or a
-/// span are in urteile.rs.
+/// Cases A to L of document 01 that a single call answers; A by its feasts. Those with a verdict or
+/// a span are in urteile.rs.
 pub const CASES: &[(&str, &str)] = &[
     (
         "tag 2026-04-03",
@@ -189,7 +189,18 @@ pub const DAYS: &[(&str, &str)] = &[
     (
         "add-hours 2026-10-25T00:30:00Z 1",
         "1 Stunde nach Sonntag, 25. Oktober 2026, 02:30 Uhr Sommerzeit, ist es Sonntag, 25. \
-         Oktober 2026, 02:30 Uhr Winterzeit.",
+         Oktober 2026, 02:30 Uhr Winterzeit. Dazwischen wird die Uhr um eine Stunde \
+         zurückgestellt.",
+    ),
+    (
+        "add-hours 2026-03-29T01:30:00+01:00 1",
+        "1 Stunde nach Sonntag, 29. März 2026, 01:30 Uhr, ist es Sonntag, 29. März 2026, 03:30 \
+         Uhr. Dazwischen wird die Uhr um eine Stunde vorgestellt.",
+    ),
+    (
+        "add-hours 2026-01-01T00:00:00+01:00 8760",
+        "8760 Stunden nach Donnerstag, 1. Januar 2026, 00:00 Uhr, ist es Freitag, 1. Januar 2027, \
+         00:00 Uhr.",
     ),
     (
         "add-hours 2026-04-01T10:00:00+02:00 0",
@@ -341,6 +352,22 @@ pub const DUE: &[(&str, &str)] = &[
         "Eingang am Donnerstag, 31. Dezember 2026, um 18:00 Uhr: Die CONTRL im Regelfall ist \
          fällig in der Nacht vom 31. Dezember 2026 auf den 1. Januar 2027, am Freitag um 00:00 \
          Uhr.",
+    ),
+    (
+        "contrl Regelfall 2026-03-29T01:30:00+01:00",
+        "Eingang am Sonntag, 29. März 2026, um 01:30 Uhr: Die CONTRL im Regelfall ist fällig am \
+         Sonntag, 29. März 2026, um 08:30 Uhr. Dazwischen wird die Uhr um eine Stunde vorgestellt.",
+    ),
+    (
+        "aperak-strom 2026-10-25T02:45:00+02:00",
+        "Eingang am Sonntag, 25. Oktober 2026, um 02:45 Uhr Sommerzeit: Die APERAK auf UTILMD oder \
+         ORDERS Strom ist fällig am Sonntag, 25. Oktober 2026, um 02:30 Uhr Winterzeit. Dazwischen \
+         wird die Uhr um eine Stunde zurückgestellt.",
+    ),
+    (
+        "aperak-strom 2026-03-28T10:00:00+01:00",
+        "Eingang am Samstag, 28. März 2026, um 10:00 Uhr: Die APERAK auf UTILMD oder ORDERS Strom \
+         ist fällig am Sonntag, 29. März 2026, um 12:00 Uhr.",
     ),
     (
         "aperak-strom 2026-01-31T23:15:00+01:00",
@@ -506,8 +533,8 @@ pub const TOLERANCE: &[(&str, &str)] = &[
     ),
 ];
 
-/// A CONTRL with a change day: moved, and left where it is; by an end of the window, in a window that
-/// only version one has, by a switch, and by the edges of the calendar.
+/// A CONTRL with a change day: moved, and left where it is; by an end of the window, in a window
+/// that only version one has, by a switch, and by the edges of the calendar.
 pub const CHANGE_DAYS: &[(&str, &str)] = &[
     (
         "--stichtag=2026-06-06 contrl Regelfall 2026-06-05T12:00:00+02:00",
@@ -635,14 +662,16 @@ pub const TWICE: &[(&str, &str)] = &[
     (
         "contrl Regelfall 25.10.2026 02:30",
         "Eingang am Sonntag, 25. Oktober 2026, um 02:30 Uhr Sommerzeit: Die CONTRL im Regelfall \
-         ist fällig am Sonntag, 25. Oktober 2026, um 07:30 Uhr.\n\
+         ist fällig am Sonntag, 25. Oktober 2026, um 07:30 Uhr. Dazwischen wird die Uhr um eine \
+         Stunde zurückgestellt.\n\
          Am Sonntag, 25. Oktober 2026, zeigt die Uhr in Berlin zweimal 02:30 Uhr; gemeint ist die \
          frühere.",
     ),
     (
         "contrl Regelfall 2026-10-25T02:30 --stichtag 2026-06-06",
         "Eingang am Sonntag, 25. Oktober 2026, um 02:30 Uhr Sommerzeit: Die CONTRL im Regelfall \
-         ist fällig am Sonntag, 25. Oktober 2026, um 07:30 Uhr.\n\
+         ist fällig am Sonntag, 25. Oktober 2026, um 07:30 Uhr. Dazwischen wird die Uhr um eine \
+         Stunde zurückgestellt.\n\
          Stichtag der Formatumstellung ist Samstag, der 6. Juni 2026; ihr Zeitraum geht von \
          Freitag, 5. Juni 2026, 18:00 Uhr, bis Sonntag, 7. Juni 2026, 00:00 Uhr.\n\
          An dieser Fälligkeit ändert er nichts.\n\
@@ -658,7 +687,8 @@ pub const TWICE: &[(&str, &str)] = &[
     (
         "add-hours 25.10.2026 02:30 1",
         "1 Stunde nach Sonntag, 25. Oktober 2026, 02:30 Uhr Sommerzeit, ist es Sonntag, 25. \
-         Oktober 2026, 02:30 Uhr Winterzeit.\n\
+         Oktober 2026, 02:30 Uhr Winterzeit. Dazwischen wird die Uhr um eine Stunde \
+         zurückgestellt.\n\
          Am Sonntag, 25. Oktober 2026, zeigt die Uhr in Berlin zweimal 02:30 Uhr; gemeint ist die \
          frühere.",
     ),

@@ -3,7 +3,7 @@
 
 use super::{assert_prints, printed, words};
 
-/// Case E first; with a Werktag that is missing or none, and with each number that has its own words.
+/// Case E first; with Werktage that are missing or none, and each number that has its own words.
 const BEFORE: &[(&str, &str)] = &[
     (
         "check LatestWerktageBefore 1 2026-01-10 2026-01-12",
@@ -799,8 +799,51 @@ const BIS_WANN: &[(&str, &str)] = &[
          Der späteste Übertragungstag liegt 1 Monat vor dem Termin.",
     ),
 ];
-/// A span that leaves the calendar while the verdict is answered, under each verdict: of a window and a
-/// Korridor only, which have two ends.
+
+/// The end that leaves the calendar, or why the Termin is none.
+const NOT_UNTIL: &[(&str, &str)] = &[
+    (
+        "bis-wann LatestWerktageBefore 1 1996-01-02",
+        "Abgelehnt (8): Der späteste Übertragungstag für den Termin Dienstag, 2. Januar 1996, \
+         liegt vor dem 1. Januar 1996, dem ersten Tag des Kalenders.",
+    ),
+    (
+        "bis-wann EarliestWerktageAfter 1 1996-01-01",
+        "Abgelehnt (8): Der späteste Übertragungstag für den Termin Montag, 1. Januar 1996, \
+         liegt vor dem 1. Januar 1996, dem ersten Tag des Kalenders.",
+    ),
+    (
+        "bis-wann Korridor 1 1996-01-02",
+        "Abgelehnt (8): Der früheste Übertragungstag für den Termin Dienstag, 2. Januar 1996, \
+         liegt vor dem 1. Januar 1996, dem ersten Tag des Kalenders.",
+    ),
+    (
+        "bis-wann WindowWerktageBefore 2 0 1996-01-03",
+        "Abgelehnt (8): Der früheste Übertragungstag für den Termin Mittwoch, 3. Januar 1996, \
+         liegt vor dem 1. Januar 1996, dem ersten Tag des Kalenders.",
+    ),
+    (
+        "bis-wann Korridor 1 2899-12-30",
+        "Abgelehnt (8): Der späteste Übertragungstag für den Termin Mittwoch, 30. Dezember \
+         2899, liegt hinter dem 31. Dezember 2899, dem letzten Tag des Kalenders.",
+    ),
+    (
+        "bis-wann LatestWerktageAfter 2 2899-12-29",
+        "Abgelehnt (8): Der späteste Übertragungstag für den Termin Dienstag, 29. Dezember \
+         2899, liegt hinter dem 31. Dezember 2899, dem letzten Tag des Kalenders.",
+    ),
+    (
+        "bis-wann LatestWerktageBefore 1 2026-02-30",
+        "Abgelehnt (3): 2026-02-30: der Februar 2026 hat 28 Tage.",
+    ),
+    (
+        "bis-wann EarliestWerktageAfter 0 2900-01-01",
+        "Abgelehnt (3): 2900-01-01: der Kalender endet am 31. Dezember 2899.",
+    ),
+];
+
+/// A span that leaves the calendar while the verdict is answered, under each verdict: of a window
+/// and a Korridor only, which have two ends.
 const EDGES: &[(&str, &str)] = &[
     (
         "check WindowWerktageBefore 3 1 2899-12-28 2899-12-28",
@@ -815,20 +858,20 @@ const EDGES: &[(&str, &str)] = &[
     ),
     (
         "check Korridor 3 2899-12-30 2899-12-23",
-        "Frist gewahrt, kein Tag Luft: Übertragungstag Mittwoch, 30. Dezember 2899, Termin Mittwoch, \
-         23. Dezember 2899.\n\
-         Die Spanne der zulässigen Termine reicht über den Kalender vom 1. Januar 1996 bis zum 31. \
-         Dezember 2899 hinaus.\n\
-         Der Übertragungstag muss vom 3. Werktag vor bis zum 3. Werktag nach dem Termin liegen: von \
-         Freitag, dem 18. Dezember 2899, bis Mittwoch, den 30. Dezember 2899.",
+        "Frist gewahrt, kein Tag Luft: Übertragungstag Mittwoch, 30. Dezember 2899, Termin \
+         Mittwoch, 23. Dezember 2899.\n\
+         Die Spanne der zulässigen Termine reicht über den Kalender vom 1. Januar 1996 bis zum \
+         31. Dezember 2899 hinaus.\n\
+         Der Übertragungstag muss vom 3. Werktag vor bis zum 3. Werktag nach dem Termin liegen: \
+         von Freitag, dem 18. Dezember 2899, bis Mittwoch, den 30. Dezember 2899.",
     ),
     (
         "check Korridor 2 1996-01-02 1996-01-08",
         "Zu früh: Übertragungstag Dienstag, 2. Januar 1996, Termin Montag, 8. Januar 1996.\n\
-         Die Spanne der zulässigen Termine reicht über den Kalender vom 1. Januar 1996 bis zum 31. \
-         Dezember 2899 hinaus.\n\
-         Der Übertragungstag muss vom 2. Werktag vor bis zum 2. Werktag nach dem Termin liegen: von \
-         Donnerstag, dem 4. Januar 1996, bis Mittwoch, den 10. Januar 1996.\n\
+         Die Spanne der zulässigen Termine reicht über den Kalender vom 1. Januar 1996 bis zum \
+         31. Dezember 2899 hinaus.\n\
+         Der Übertragungstag muss vom 2. Werktag vor bis zum 2. Werktag nach dem Termin liegen: \
+         von Donnerstag, dem 4. Januar 1996, bis Mittwoch, den 10. Januar 1996.\n\
          Der Zeitraum beginnt erst in 2 Werktagen.",
     ),
 ];
@@ -837,10 +880,11 @@ const EDGES: &[(&str, &str)] = &[
 const INSTANTS: &[(&str, &str)] = &[
     (
         "check-at TagVorDemLetztenWerktagVor 2026-01-07T23:30:00Z 2026-01-09T00:00:00+01:00 Strom",
-        "1 Tag zu spät: Übertragungstag Donnerstag, 8. Januar 2026, Termin Freitag, 9. Januar 2026.\n\
+        "1 Tag zu spät: Übertragungstag Donnerstag, 8. Januar 2026, Termin Freitag, 9. Januar \
+         2026.\n\
          Zulässig sind Termine ab Samstag, dem 10. Januar 2026.\n\
-         Spätester Übertragungstag ist der Tag vor dem letzten Werktag vor dem Termin: Mittwoch, der \
-         7. Januar 2026.\n\
+         Spätester Übertragungstag ist der Tag vor dem letzten Werktag vor dem Termin: Mittwoch, \
+         der 7. Januar 2026.\n\
          Es fehlt 1 Werktag.",
     ),
     (
@@ -848,7 +892,8 @@ const INSTANTS: &[(&str, &str)] = &[
         "Frist gewahrt, der Termin liegt 1 Tag nach dem frühesten: Übertragungstag Donnerstag, 2. \
          April 2026, Termin Mittwoch, 8. April 2026.\n\
          Zulässig sind Termine ab Dienstag, dem 7. April 2026.\n\
-         Frühester Termin ist der 1. Werktag nach dem Übertragungstag: Dienstag, der 7. April 2026.",
+         Frühester Termin ist der 1. Werktag nach dem Übertragungstag: Dienstag, der 7. April \
+         2026.",
     ),
 ];
 
@@ -861,8 +906,8 @@ const DEREGISTRATIONS: &[(&str, &str)] = &[
     ),
     (
         "abmeldung-fuer Z33 --eeg nein",
-        "Grund „Z33“, keine EEG-Marktlokation: Spätester Übertragungstag ist der Tag vor dem letzten \
-         Werktag vor dem Zuordnungsende.",
+        "Grund „Z33“, keine EEG-Marktlokation: Spätester Übertragungstag ist der Tag vor dem \
+         letzten Werktag vor dem Zuordnungsende.",
     ),
     (
         "abmeldung-fuer --eeg=unbekannt Z33",
@@ -872,16 +917,16 @@ const DEREGISTRATIONS: &[(&str, &str)] = &[
     ),
     (
         "abmeldung-fuer ZQ7 --eeg nein",
-        "Grund „ZQ7“: Die Frist ist die des Prüfschritts 120: „Liegt das Eingangsdatum der Abmeldung \
-         nach dem 5. WT des Monats, in dem die Zuordnungsermächtigung endet?“",
+        "Grund „ZQ7“: Die Frist ist die des Prüfschritts 120: „Liegt das Eingangsdatum der \
+         Abmeldung nach dem 5. WT des Monats, in dem die Zuordnungsermächtigung endet?“",
     ),
     (
         "abmeldung Z33 2026-01-08 --eeg ja 2026-01-12",
         "27 Tage zu spät: Übertragungstag Donnerstag, 8. Januar 2026, Zuordnungsende Montag, 12. \
          Januar 2026, Grund „Z33“, EEG-Marktlokation.\n\
          Zulässig ist ein Zuordnungsende ab Sonntag, dem 8. Februar 2026.\n\
-         Der späteste Übertragungstag liegt 1 Monat vor dem Zuordnungsende: Freitag, der 12. Dezember \
-         2025.\n\
+         Der späteste Übertragungstag liegt 1 Monat vor dem Zuordnungsende: Freitag, der 12. \
+         Dezember 2025.\n\
          Es fehlen 13 Werktage.",
     ),
     (
@@ -889,11 +934,11 @@ const DEREGISTRATIONS: &[(&str, &str)] = &[
         "3 Tage zu spät: Übertragungstag Samstag, 31. Januar 2026, Zuordnungsende Samstag, 28. \
          Februar 2026, Grund „Z33“, EEG-Marktlokation.\n\
          Zulässig ist ein Zuordnungsende ab Sonntag, dem 1. März 2026.\n\
-         Der späteste Übertragungstag liegt 1 Monat vor dem Zuordnungsende: Mittwoch, der 28. Januar \
-         2026.\n\
+         Der späteste Übertragungstag liegt 1 Monat vor dem Zuordnungsende: Mittwoch, der 28. \
+         Januar 2026.\n\
          Es fehlen 2 Werktage.\n\
-         Die Quelle nennt als frühestes Zuordnungsende Samstag, den 28. Februar 2026; zulässig ist es \
-         nicht.",
+         Die Quelle nennt als frühestes Zuordnungsende Samstag, den 28. Februar 2026; zulässig \
+         ist es nicht.",
     ),
     (
         "abmeldung Z33 2026-01-31 2026-03-02 --eeg ja",
@@ -905,8 +950,8 @@ const DEREGISTRATIONS: &[(&str, &str)] = &[
     ),
     (
         "abmeldung Z33 2026-01-08 2026-01-13 --eeg nein",
-        "Frist gewahrt, noch 3 Tage Luft: Übertragungstag Donnerstag, 8. Januar 2026, Zuordnungsende \
-         Dienstag, 13. Januar 2026, Grund „Z33“, keine EEG-Marktlokation.\n\
+        "Frist gewahrt, noch 3 Tage Luft: Übertragungstag Donnerstag, 8. Januar 2026, \
+         Zuordnungsende Dienstag, 13. Januar 2026, Grund „Z33“, keine EEG-Marktlokation.\n\
          Zulässig ist ein Zuordnungsende ab Samstag, dem 10. Januar 2026.\n\
          Spätester Übertragungstag ist der Tag vor dem letzten Werktag vor dem Zuordnungsende: \
          Sonntag, der 11. Januar 2026.",
@@ -930,10 +975,10 @@ const DEREGISTRATIONS: &[(&str, &str)] = &[
     ),
     (
         "abmeldung ZQ7 2026-01-08 2026-01-12 --eeg ja",
-        "Kein Urteil, also auch nicht „Frist gewahrt“: Übertragungstag Donnerstag, 8. Januar 2026, \
-         Zuordnungsende Montag, 12. Januar 2026, Grund „ZQ7“.\n\
-         Die Frist ist die des Prüfschritts 120: „Liegt das Eingangsdatum der Abmeldung nach dem 5. \
-         WT des Monats, in dem die Zuordnungsermächtigung endet?“",
+        "Kein Urteil, also auch nicht „Frist gewahrt“: Übertragungstag Donnerstag, 8. Januar \
+         2026, Zuordnungsende Montag, 12. Januar 2026, Grund „ZQ7“.\n\
+         Die Frist ist die des Prüfschritts 120: „Liegt das Eingangsdatum der Abmeldung nach dem \
+         5. WT des Monats, in dem die Zuordnungsermächtigung endet?“",
     ),
 ];
 
@@ -957,52 +1002,7 @@ fn spans() {
 #[test]
 fn until_when() {
     assert_prints(BIS_WANN);
-}
-
-/// The end that leaves the calendar, or why the Termin is none.
-#[test]
-fn until_when_refused() {
-    let rows = [
-        (
-            "bis-wann LatestWerktageBefore 1 1996-01-02",
-            "Abgelehnt (8): Der späteste Übertragungstag für den Termin Dienstag, 2. Januar 1996, \
-             liegt vor dem 1. Januar 1996, dem ersten Tag des Kalenders.",
-        ),
-        (
-            "bis-wann EarliestWerktageAfter 1 1996-01-01",
-            "Abgelehnt (8): Der späteste Übertragungstag für den Termin Montag, 1. Januar 1996, \
-             liegt vor dem 1. Januar 1996, dem ersten Tag des Kalenders.",
-        ),
-        (
-            "bis-wann Korridor 1 1996-01-02",
-            "Abgelehnt (8): Der früheste Übertragungstag für den Termin Dienstag, 2. Januar 1996, \
-             liegt vor dem 1. Januar 1996, dem ersten Tag des Kalenders.",
-        ),
-        (
-            "bis-wann WindowWerktageBefore 2 0 1996-01-03",
-            "Abgelehnt (8): Der früheste Übertragungstag für den Termin Mittwoch, 3. Januar 1996, \
-             liegt vor dem 1. Januar 1996, dem ersten Tag des Kalenders.",
-        ),
-        (
-            "bis-wann Korridor 1 2899-12-30",
-            "Abgelehnt (8): Der späteste Übertragungstag für den Termin Mittwoch, 30. Dezember 2899, \
-             liegt hinter dem 31. Dezember 2899, dem letzten Tag des Kalenders.",
-        ),
-        (
-            "bis-wann LatestWerktageAfter 2 2899-12-29",
-            "Abgelehnt (8): Der späteste Übertragungstag für den Termin Dienstag, 29. Dezember 2899, \
-             liegt hinter dem 31. Dezember 2899, dem letzten Tag des Kalenders.",
-        ),
-        (
-            "bis-wann LatestWerktageBefore 1 2026-02-30",
-            "Abgelehnt (3): 2026-02-30: der Februar 2026 hat 28 Tage.",
-        ),
-        (
-            "bis-wann EarliestWerktageAfter 0 2900-01-01",
-            "Abgelehnt (3): 2900-01-01: der Kalender endet am 31. Dezember 2899.",
-        ),
-    ];
-    for (line, expected) in rows {
+    for (line, expected) in NOT_UNTIL {
         assert_eq!(printed(&words(line), 2), format!("{expected}\n"), "{line}");
     }
 }

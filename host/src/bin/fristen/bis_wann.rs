@@ -26,10 +26,10 @@ impl BisWann {
     pub fn text(&self) -> String {
         let (anchor, rule) = (tag(self.anchor), rule::of(self.shape, &TERMIN));
         let Uebertragungstage { first, last } = self.days;
+        if self.days.is_empty() {
+            return format!("Für den Termin {anchor}, gibt es keinen Übertragungstag.\n{rule}");
+        }
         let days = match first {
-            Some(first) if first > last => {
-                return format!("Für den Termin {anchor}, gibt es keinen Übertragungstag.\n{rule}");
-            }
             Some(first) if first == last => format!("am {}, übertragen werden", tag(last)),
             Some(first) => format!("von {}, bis {}, übertragen werden", dem(first), den(last)),
             None => format!("spätestens am {}, übertragen sein", tag(last)),

@@ -166,3 +166,47 @@ pub fn keine_werktage(n: u32) -> String {
 fn count(n: u32, one: &str, many: &str) -> String {
     format!("{n} {}", if n == 1 { one } else { many })
 }
+
+#[cfg(test)]
+mod tests {
+    use super::*;
+
+    fn at(date: Date, clock: Clock) -> String {
+        faellig(BerlinTime { date, clock, summer: false, repeated: false })
+    }
+
+    #[test]
+    fn midnight_is_the_night_before_the_day() {
+        let night = |year, month, day| at(Date::new(year, month, day), Clock::default());
+        let in_a_month = "in der Nacht vom 1. auf den 2. April 2026, am Donnerstag um 00:00 Uhr";
+        assert_eq!(night(2026, 4, 2), in_a_month);
+        let over_a_month =
+            "in der Nacht vom 31. März auf den 1. April 2026, am Mittwoch um 00:00 Uhr";
+        assert_eq!(night(2026, 4, 1), over_a_month);
+        let leap_day =
+            "in der Nacht vom 29. Februar auf den 1. März 2028, am Mittwoch um 00:00 Uhr";
+        assert_eq!(night(2028, 3, 1), leap_day);
+        let over_a_year =
+            "in der Nacht vom 31. Dezember 2026 auf den 1. Januar 2027, am Freitag um 00:00 Uhr";
+        assert_eq!(night(2027, 1, 1), over_a_year);
+    }
+
+    #[test]
+    fn only_midnight_is_a_night_and_only_the_last_instant_the_end() {
+        let date = Date::new(2026, 4, 2);
+        let just_after = at(date, Clock::new(0, 0, 0, 1));
+        assert_eq!(just_after, "am Donnerstag, 2. April 2026, um 00:00:00,000000001 Uhr");
+        assert_eq!(at(date, TAGESENDE), "mit Ablauf des Donnerstags, 2. April 2026");
+        let just_before = at(date, Clock::new(23, 59, 59, 999_999_998));
+        assert_eq!(just_before, "am Donnerstag, 2. April 2026, um 23:59:59,999999998 Uhr");
+    }
+
+    #[test]
+    fn numbers_up_to_twelve_are_words() {
+        let samstage = |n| in_worten(n, "Samstag", "Samstage");
+        let said = [1, 2, 3, 11, 12, 13, 52].map(samstage);
+        let expected = ["ein Samstag", "zwei Samstage", "drei Samstage", "elf Samstage"];
+        assert_eq!(said[..4], expected);
+        assert_eq!(said[4..], ["zwölf Samstage", "13 Samstage", "52 Samstage"]);
+    }
+}

@@ -22,7 +22,7 @@ pub fn of(inquiry: &Inquiry, answer: &Answer) -> Result<String, Error> {
     Ok(lines.join("\n"))
 }
 
-/// Of each instant that was given by a time which Berlin's clock shows twice, which of the two it is.
+/// Of each instant that was given by a time which Berlin's clock shows twice: which of both it is.
 fn twice(inquiry: &Inquiry) -> Result<Vec<String>, Error> {
     let (first, second) = (inquiry.question.instant, inquiry.question.instant2);
     let instants = [(Parameter::Instant, first), (Parameter::SecondInstant, second)];

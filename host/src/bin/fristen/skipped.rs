@@ -53,7 +53,8 @@ pub fn is_ostersonntag(sunday: Date) -> Result<bool, Error> {
     }
 }
 
-/// What a step by Werktage has passed over. The first Werktag from a date on passes over the date too.
+/// What a step by Werktage has passed over. The first Werktag from a date on passes over the date
+/// too.
 pub fn by(inquiry: &Inquiry, to: Date) -> Result<Vec<(Closed, u32)>, Error> {
     let date = inquiry.question.date;
     let before = date.plus_days(-1).filter(|_| inquiry.call == Call::NextWerktag);

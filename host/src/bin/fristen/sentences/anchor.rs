@@ -72,3 +72,34 @@ impl Anchor {
         Ok(Some(format!("Die Quelle nennt als {earliest} {}; {judged}.", den(named))))
     }
 }
+
+#[cfg(test)]
+mod tests {
+    use super::*;
+
+    /// A deregistration's shapes have neither an end nor an empty span.
+    #[test]
+    fn the_allowed_dates_in_both_genders() {
+        let (monday, friday) = (Date::new(2026, 1, 5), Date::new(2026, 1, 9));
+        let rows = [
+            (Span::From(monday), "% ab Montag, dem 5. Januar 2026."),
+            (
+                Span::Between(monday, friday),
+                "% von Montag, dem 5. Januar 2026, bis Freitag, den 9. Januar 2026.",
+            ),
+            (Span::Between(friday, friday), "Zulässig ist nur Freitag, der 9. Januar 2026."),
+        ];
+        for (span, expected) in rows {
+            let of = |begin| expected.replace('%', begin);
+            assert_eq!(TERMIN.allowed(Some(span)), of("Zulässig sind Termine"));
+            assert_eq!(ZUORDNUNGSENDE.allowed(Some(span)), of("Zulässig ist ein Zuordnungsende"));
+        }
+        assert_eq!(TERMIN.allowed(Some(Span::Empty)), "Zulässig ist kein Termin.");
+        assert_eq!(ZUORDNUNGSENDE.allowed(Some(Span::Empty)), "Zulässig ist kein Zuordnungsende.");
+        let beyond =
+            "reicht über den Kalender vom 1. Januar 1996 bis zum 31. Dezember 2899 hinaus.";
+        assert_eq!(TERMIN.allowed(None), format!("Die Spanne der zulässigen Termine {beyond}"));
+        let of_ends = format!("Die Spanne der zulässigen Zuordnungsenden {beyond}");
+        assert_eq!(ZUORDNUNGSENDE.allowed(None), of_ends);
+    }
+}

@@ -7,13 +7,26 @@ use mako_fristen_host::{
     Instant, Refusal,
 };
 
+/// The most seconds of a Frist in hours or minutes; one by days is longer.
+const IN_HOURS: i64 = 6 * 3600;
+
 pub fn hours(inquiry: &Inquiry, to: Instant) -> Result<String, Error> {
-    let from = zeitpunkt(BerlinTime::of(inquiry.question.instant)?);
-    if inquiry.question.n == 0 {
-        return Ok(format!("Mit 0 Stunden bleibt es bei {from}."));
+    let (n, to) = (inquiry.question.n, BerlinTime::of(to)?);
+    let from = BerlinTime::of(inquiry.question.instant)?;
+    let (shown, switched) = (zeitpunkt(from), umgestellt(from, to));
+    Ok(match n {
+        0 => format!("Mit 0 Stunden bleibt es bei {shown}."),
+        n => format!("{} nach {shown}, ist es {}.{switched}", stunden(n), zeitpunkt(to)),
+    })
+}
+
+/// Where the clock seems to be wrong by an hour, that it is not.
+fn umgestellt(from: BerlinTime, to: BerlinTime) -> &'static str {
+    match (from.summer, to.summer) {
+        (false, true) => " Dazwischen wird die Uhr um eine Stunde vorgestellt.",
+        (true, false) => " Dazwischen wird die Uhr um eine Stunde zurückgestellt.",
+        (true, true) | (false, false) => "",
     }
-    let (n, to) = (stunden(inquiry.question.n), zeitpunkt(BerlinTime::of(to)?));
-    Ok(format!("{n} nach {from}, ist es {to}."))
 }
 
 pub fn shaped(inquiry: &Inquiry, due: Instant) -> Result<String, Error> {
@@ -155,7 +168,9 @@ pub fn gas(inquiry: &Inquiry, GasDue { kind, due }: GasDue) -> Result<String, Er
 }
 
 fn message_due(inquiry: &Inquiry, message: &str, due: Instant) -> Result<String, Error> {
-    let from = am(BerlinTime::of(inquiry.question.instant)?);
-    let to = faellig(BerlinTime::of(due)?);
-    Ok(format!("Eingang {from}: {message} ist fällig {to}."))
+    let received = inquiry.question.instant;
+    let (from, to) = (BerlinTime::of(received)?, BerlinTime::of(due)?);
+    let in_hours = due.seconds - received.seconds <= IN_HOURS;
+    let switched = if in_hours { umgestellt(from, to) } else { "" };
+    Ok(format!("Eingang {}: {message} ist fällig {}.{switched}", am(from), faellig(to)))
 }

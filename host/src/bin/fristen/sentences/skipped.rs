@@ -65,3 +65,48 @@ fn counted(skipped: &[(Closed, u32)]) -> String {
         None => String::new(),
     }
 }
+
+#[cfg(test)]
+mod tests {
+    use super::*;
+
+    const SAMSTAG: Closed = Closed::Samstag;
+    const SONNTAG: Closed = Closed::Sonntag;
+    const ERSTER: Closed = Closed::Holiday(Feiertag::ErsterWeihnachtsfeiertag);
+    const ZWEITER: Closed = Closed::Holiday(Feiertag::ZweiterWeihnachtsfeiertag);
+    const NEUJAHR: Closed = Closed::Holiday(Feiertag::Neujahr);
+
+    #[test]
+    fn by_name_in_their_order() {
+        assert_eq!(said(&[(SONNTAG, 1)]), "ein Sonntag");
+        assert_eq!(said(&[(SAMSTAG, 2), (SONNTAG, 1)]), "zwei Samstage, ein Sonntag");
+        assert_eq!(said(&[(ERSTER, 1)]), "Erster Weihnachtsfeiertag");
+        assert_eq!(said(&[(ZWEITER, 1), (SONNTAG, 1)]), "Zweiter Weihnachtsfeiertag, ein Sonntag");
+        let both = [(ERSTER, 1), (ZWEITER, 1), (NEUJAHR, 1), (SAMSTAG, 1)];
+        assert_eq!(said(&both), "zwei Weihnachtsfeiertage, Neujahr, ein Samstag");
+    }
+
+    #[test]
+    fn more_days_or_kinds_are_counted() {
+        let most = [(SAMSTAG, MOST_DAYS - 1), (SONNTAG, 1)];
+        assert_eq!(said(&most), "19 Samstage, ein Sonntag");
+        assert_eq!(said(&[(SAMSTAG, MOST_DAYS), (SONNTAG, 1)]), "20 Samstage und ein Sonntag");
+        assert_eq!(said(&[(SONNTAG, 21)]), "21 Sonntage");
+        let eastern = [(SAMSTAG, 12), (Closed::Ostersonntag, 1), (SONNTAG, 11), (NEUJAHR, 1)];
+        assert_eq!(said(&eastern), "zwölf Samstage, zwölf Sonntage und ein Feiertag");
+        let names = [
+            Feiertag::Neujahr,
+            Feiertag::HeiligeDreiKoenige,
+            Feiertag::InternationalerFrauentag,
+            Feiertag::TagDerArbeit,
+            Feiertag::MariaeHimmelfahrt,
+            Feiertag::Weltkindertag,
+            Feiertag::Reformationstag,
+            Feiertag::Allerheiligen,
+            Feiertag::Silvester,
+        ];
+        let kinds = names.map(|holiday| (Closed::Holiday(holiday), 1));
+        assert_eq!(said(&kinds), "neun Feiertage");
+        assert_eq!(said(&kinds[1..]).split(", ").count(), MOST_KINDS);
+    }
+}

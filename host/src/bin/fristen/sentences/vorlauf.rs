@@ -15,8 +15,8 @@ pub fn judged(inquiry: &Inquiry, given: Judgement) -> Result<String, Error> {
     verdict(inquiry, given, &TERMIN, &format!("Übertragungstag {from}, Termin {to}."))
 }
 
-/// A line each: the verdict with its margin and `what` was judged, which dates are allowed, the rule
-/// with its days, by how many Werktage it is kept or missed, and the original's date.
+/// A line each: the verdict with its margin and `what` was judged, which dates are allowed, the
+/// rule with its days, how many Werktage are missing, and the original's date.
 pub fn verdict(
     inquiry: &Inquiry,
     given: Judgement,
