@@ -1,6 +1,8 @@
 //! The program `fristen`. Expected dates and instants are document 01's cases, or known without the
 //! program (a printed calendar, `date -d`).
 
+#[path = "kommandozeile/eingabe.rs"]
+mod eingabe;
 #[path = "kommandozeile/fragen.rs"]
 mod fragen;
 #[path = "kommandozeile/json.rs"]
@@ -28,11 +30,15 @@ use mako_fristen_host::{
 use saetze::{ANNOUNCEMENTS, CASES, CHANGE_DAYS, DAYS, DUE, STEPS, TOLERANCE, TWICE};
 use std::ffi::{OsStr, OsString};
 use std::fs;
+use std::os::unix::process::CommandExt;
 use std::path::Path;
 use std::process::{Command, Output, Stdio};
 
+/// As it is called at the repository's root.
 fn program() -> Command {
-    Command::new(env!("CARGO_BIN_EXE_fristen"))
+    let mut program = Command::new(env!("CARGO_BIN_EXE_fristen"));
+    program.arg0("./fristen");
+    program
 }
 
 fn run<T: AsRef<OsStr>>(arguments: &[T]) -> Output {
@@ -81,7 +87,7 @@ fn unindented(block: &str) -> String {
 #[test]
 fn the_examples_of_the_help_print_what_it_says() {
     let folder = Path::new(env!("CARGO_TARGET_TMPDIR"));
-    let others = ["kalender", "fragen", "portfolio"].map(str::to_owned);
+    let others = ["kalender", "bis-wann", "fragen", "portfolio"].map(str::to_owned);
     for name in source_names().map(|(_, name)| name).chain(others) {
         let help = printed(&["help", &name], 0);
         assert_eq!(help, printed(&[&name, "--help"], 0), "{name}");
@@ -199,18 +205,17 @@ fn the_change_day_is_an_option_of_contrl() {
 /// The day beside the change day is no result; a due instant is one.
 #[test]
 fn what_leaves_the_calendar_with_a_change_day() {
-    let calendar = "Kalender vom 1. Januar 1996 bis zum 31. Dezember 2899.";
-    let before = format!("Der Tag vor dem Stichtag liegt nicht im {calendar}");
-    let after = format!("Der Tag nach dem Stichtag liegt nicht im {calendar}");
-    let result = format!("Ein Ergebnis verlässt den {calendar}");
+    let last = "dem 31. Dezember 2899, dem letzten Tag des Kalenders.";
+    let before =
+        "Der Tag vor dem Stichtag liegt vor dem 1. Januar 1996, dem ersten Tag des Kalenders.";
+    let after = format!("Der Tag nach dem Stichtag liegt hinter {last}");
+    let result = format!("Das Ende der Frist liegt hinter {last}");
     let rows = [
-        ("contrl Regelfall 2026-06-05T12:00:00Z --stichtag 1996-01-01", &before),
+        ("contrl Regelfall 2026-06-05T12:00:00Z --stichtag 1996-01-01", before),
         ("contrl Regelfall 2026-06-05T12:00:00Z --stichtag 2899-12-31", &after),
         ("contrl-due-at-change Regelfall @29348002799 2899-12-31", &after),
         ("contrl Regelfall @29348002799 --stichtag 2899-12-30", &result),
         ("contrl Regelfall @29348002799", &result),
-        ("add-werktage 2899-12-31 1", &result),
-        ("sub-werktage 1996-01-01 1", &result),
     ];
     for (line, sentence) in rows {
         assert_eq!(printed(&words(line), 2), format!("Abgelehnt (8): {sentence}\n"), "{line}");
@@ -263,7 +268,7 @@ fn refusals_with_their_number() {
         (3, "contrl-due-at-change GasAlocat 1995-01-01T00:00:00Z 2900-01-01"),
         (4, "berlin-date 1995-12-31T22:59:59Z"),
         (4, "berlin-date 0000-01-01T00:00:00Z"),
-        (4, "berlin-date @1774972799.1000000000"),
+        (4, "berlin-date @1774972799s1000000000ns"),
         (4, "add-hours @-9223372036854775808 1"),
         (4, "contrl Regelfall 1995-01-01T00:00:00Z --stichtag=1996-01-01"),
         (4, "check-at Korridor 1 2026-01-12T00:00:00Z 9999-12-31T00:00:00Z Gas"),
@@ -342,14 +347,19 @@ fn a_count_with_the_days_that_it_tested() {
 
 const WRONG: &[(&str, &str)] = &[
     ("tag", "es fehlt: DATUM"),
-    ("tag 2026-4-2", "DATUM: erwartet ein Datum wie 2026-04-02, nicht „2026-4-2“"),
+    ("tag 2026-4-2", "DATUM: erwartet ein Datum wie 2026-04-02 oder 2.4.2026, nicht „2026-4-2“"),
     ("tag 2026-01-01 5", "zu viel: „5“"),
     ("tag 2026-01-01 --eeg ja", "--eeg gehört nicht zu diesem Befehl"),
     ("add-werktage 2026-01-01 -1", "N: erwartet eine Zahl von 0 bis 4294967295, nicht „-1“"),
     ("add-werktage 2026-01-01 4294967296", "N: erwartet eine Zahl von 0 bis 4294967295"),
     ("add-werktage 2026-01-01 +1", "N: erwartet eine Zahl"),
-    ("berlin-at 2026-01-01 1:00", "UHRZEIT: erwartet eine Uhrzeit wie 13:00"),
-    ("berlin-date 2026-01-01", "ZEITPUNKT: erwartet einen Zeitpunkt wie 2026-03-31T11:59:59"),
+    ("berlin-at 2026-01-01 1", "UHRZEIT: erwartet eine Uhrzeit wie 13:00"),
+    (
+        "berlin-date 2026-01-01",
+        "ZEITPUNKT: erwartet zum Datum eine Uhrzeit, wie „2026-03-31 11:59“",
+    ),
+    ("berlin-date 11:00", "ZEITPUNKT: erwartet einen Zeitpunkt wie „2026-03-31 11:59“ in Berlin"),
+    ("berlin-date @1774000000.", "oder @SEKUNDEN seit 1970, nicht „@1774000000.“"),
     ("berlin-date 2026-02-29T00:00:00Z", "ZEITPUNKT: erwartet einen Tag, den es gibt"),
     ("berlin-date 2016-12-31T23:59:60Z", "ZEITPUNKT: erwartet eine Stunde bis 23"),
     ("berlin-date 2016-12-31T23:59:59+24:00", "ZEITPUNKT: erwartet einen Abstand zu UTC"),
@@ -358,28 +368,31 @@ const WRONG: &[(&str, &str)] = &[
     ("frist Morgen", "erwartet WerktagAt, EndOfWerktag, SameDayAt oder SameDay"),
     ("frist WerktagAt 1", "es fehlt: UHRZEIT"),
     ("check LatestWerktageBefore", "es fehlt: N"),
-    ("check WindowWerktageBefore 1", "es fehlt: LATEST"),
+    ("check WindowWerktageBefore 1", "es fehlt: BIS"),
     ("check LatestMonateUndWerktageBefore", "es fehlt: MONATE"),
     ("span Frist 1 2026-01-01", "erwartet LatestWerktageBefore, WindowWerktageBefore"),
     ("abmeldung-fuer Z33", "es fehlt: --eeg ja|nein|unbekannt"),
     ("abmeldung-fuer Z33 --eeg", "erwartet ja, nein oder unbekannt nach --eeg"),
     ("abmeldung-fuer Z33 --eeg vielleicht", "--eeg: erwartet nein, ja oder unbekannt"),
     ("abmeldung-fuer Z33 --eeg ja --eeg ja", "erwartet --eeg nur einmal"),
-    ("contrl Regelfall @0 --stichtag", "erwartet ein Datum wie 2026-04-02 nach --stichtag"),
     (
-        "contrl Regelfall @0 --stichtag morgen",
-        "--stichtag: erwartet ein Datum wie 2026-04-02, nicht",
+        "contrl Regelfall @0 --stichtag",
+        "erwartet ein Datum wie 2026-04-02 oder 2.4.2026 nach --stichtag",
     ),
-    ("contrl Regelfall @0 --stichtag=", "--stichtag: erwartet ein Datum wie 2026-04-02, nicht „“"),
+    ("contrl Regelfall @0 --stichtag bald", "--stichtag: erwartet ein Datum wie 2026-04-02 oder"),
+    ("contrl Regelfall @0 --stichtag=", "--stichtag: erwartet ein Datum wie 2026-04-02 oder 2.4."),
     (
         "contrl Regelfall @0 --stichtag 2026-06-06 --stichtag=2026-06-06",
         "erwartet --stichtag nur einmal",
     ),
     ("contrl Regelfall @0 2026-06-06", "zu viel: „2026-06-06“"),
     ("contrl Regelfall --stichtag 2026-06-06", "es fehlt: EINGANG"),
-    ("contrl Regelfall @0 --Stichtag 2026-06-06", "unbekannte Option „--Stichtag“"),
+    (
+        "contrl Regelfall @0 --Stichtag 2026-06-06",
+        "unbekannte Option „--Stichtag“. Meinten Sie --stichtag?",
+    ),
     ("contrl-due-at-change Regelfall @0", "es fehlt: STICHTAG"),
-    ("contrl-due-at-change Regelfall @0 6.6.2026", "STICHTAG: erwartet ein Datum wie 2026-04-02"),
+    ("contrl-due-at-change Regelfall @0 6.6.26", "STICHTAG: erwartet ein Datum wie 2026-04-02"),
     (
         "contrl-due-at-change Regelfall @0 2026-06-06 --stichtag 2026-06-06",
         "--stichtag gehört nicht zu diesem Befehl",
@@ -389,15 +402,24 @@ const WRONG: &[(&str, &str)] = &[
     ("kalender 2026 --stichtag 2026-06-06", "--stichtag gehört nicht zu diesem Befehl"),
     ("fragen - --stichtag 2026-06-06", "--stichtag gehört nicht zu diesem Befehl"),
     ("portfolio - --stichtag 2026-06-06", "--stichtag gehört nicht zu diesem Befehl"),
-    ("kalender abc", "JAHR: erwartet ein Jahr von 1996 bis 2899, nicht „abc“"),
-    ("kalender -2026", "JAHR: erwartet ein Jahr von 1996 bis 2899, nicht „-2026“"),
+    ("kalender abc", "JAHR: erwartet ein Jahr wie 2026 oder einen Monat wie 2026-04, nicht „abc“"),
+    ("kalender 2026 -2026", "JAHR: erwartet ein Jahr wie 2026 oder einen Monat wie 2026-04, nicht"),
     ("kalender 2026 --bytes", "--bytes gibt es zu diesem Befehl nicht"),
-    ("tag 2026-01-01 --json --bytes", "erwartet --json oder --bytes, nicht beide"),
+    ("tag 2026-01-01 --json --bytes", "erwartet nur eines von --json, --bytes und --kurz"),
+    ("tag 2026-01-01 --kurz --json", "erwartet nur eines von --json, --bytes und --kurz"),
     ("tag 2026-01-01 --laut", "unbekannte Option „--laut“"),
     ("tag 2026-01-01 --roh", "--roh gibt es zu diesem Befehl nicht"),
     ("kalender 2026 --roh --json", "--roh gibt es zu diesem Befehl nicht"),
     ("portfolio --roh", "--roh gibt es zu diesem Befehl nicht"),
-    ("portfolio - --json --bytes", "erwartet --json oder --bytes, nicht beide"),
+    ("portfolio - --json --bytes", "erwartet nur eines von --json, --bytes und --kurz"),
+    ("bis-wann Korridor 1 2026-01-01 --bytes", "--bytes gibt es zu diesem Befehl nicht"),
+    ("bis-wann Korridor 1", "es fehlt: TERMIN"),
+    ("bis-wann Korridor 1 2026-01-01 2026-01-02", "zu viel: „2026-01-02“"),
+    ("tag 2026-01-01 --jsom", "unbekannte Option „--jsom“. Meinten Sie --json?"),
+    ("frist SameDayAd 12:00 heute", "nicht „SameDayAd“. Meinten Sie SameDayAt?"),
+    ("check Koridor 1", "nicht „Koridor“. Meinten Sie Korridor?"),
+    ("check Werktagvorher 1", "nicht „Werktagvorher“. Meinten Sie WerktageVorher?"),
+    ("tagesbeginn-utc heute Storm", "nicht „Storm“. Meinten Sie Strom?"),
     ("portfolio a b", "zu viel: „b“"),
 ];
 
@@ -416,12 +438,17 @@ fn a_call_of_no_command() {
     let help = printed(&["--help"], 0);
     assert_eq!(help, printed(&["help"], 0));
     assert_eq!(help, printed(&["-h", "--json"], 0));
+    assert_eq!(help, printed(&["hilfe"], 0));
     assert_eq!(complaint::<&str>(&[]), help);
     let wrong = [
-        ("gestern", "unbekannter Befehl „gestern“"),
-        ("Tag 2026-01-01", "unbekannter Befehl „Tag“"),
+        ("gestern", "unbekannter Befehl „gestern“\n"),
         ("mf_tag 2026-01-01", "unbekannter Befehl „mf_tag“"),
-        ("MF_IS_WERKTAG 2026-01-01", "unbekannter Befehl „MF_IS_WERKTAG“"),
+        (
+            "add-wertkage 2026-01-01 1",
+            "unbekannter Befehl „add-wertkage“. Meinten Sie add-werktage?",
+        ),
+        ("Prüfe Korridor 1", "unbekannter Befehl „Prüfe“. Meinten Sie pruefen?"),
+        ("help kalendar", "unbekannter Befehl „kalendar“. Meinten Sie kalender?"),
         ("help gestern", "unbekannter Befehl „gestern“"),
         ("gestern --help", "unbekannter Befehl „gestern“"),
         ("help tag check", "zu viel: „check“"),
@@ -465,7 +492,7 @@ fn arguments(question: &Question) -> String {
             Parameter::Count | Parameter::SecondCount | Parameter::Clock if shaped => continue,
             Parameter::Count | Parameter::Pid => "5".to_owned(),
             Parameter::SecondCount => "2".to_owned(),
-            Parameter::Instant => format!("@{seconds}.{nanos}"),
+            Parameter::Instant => format!("@{seconds}s{nanos}ns"),
             Parameter::SecondInstant => "2026-03-29T04:00:00Z".to_owned(),
             Parameter::Clock => "11:30:15.5".to_owned(),
             Parameter::Sparte | Parameter::SecondSparte => "Gas".to_owned(),
@@ -496,7 +523,9 @@ fn answers_as_bytes() {
             let number = question.ask(&mut bytes);
             let line = arguments(&question) + " --bytes";
             let expected = format!("{:x}\n", Answer::from_bytes(bytes));
-            assert_eq!(printed(&words(&line), if number == 0 { 0 } else { 2 }), expected, "{line}");
+            let output = run(&words(&line));
+            assert_eq!(String::from_utf8_lossy(&output.stdout), expected, "{line}");
+            assert_eq!(output.status.code(), Some(if number == 0 { 0 } else { 2 }), "{line}");
         }
     }
 }
@@ -524,7 +553,9 @@ fn a_reason_is_bytes_of_any_kind_and_length() {
         arguments.push(argument(reason));
         arguments.extend(["2026-01-08", "2026-01-12"].map(OsString::from));
         let expected = format!("{:x}\n", Answer::from_bytes(answer));
-        assert_eq!(printed(&arguments, 0), expected, "{reason:?}");
+        let output = run(&arguments);
+        assert_eq!(String::from_utf8_lossy(&output.stdout), expected, "{reason:?}");
+        assert_eq!(output.status.code(), Some(0), "{reason:?}");
     }
 }
 

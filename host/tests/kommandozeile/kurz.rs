@@ -1,5 +1,6 @@
 //! `--kurz`, the bare value for a script, and `--status`, yes or no as an exit status.
 
+use super::fragen::MIXED;
 use super::zeilen::{complaints, fed, lines};
 use super::{complaint, printed, run, words};
 
@@ -127,6 +128,21 @@ fn the_values_of_a_file() {
     );
     let sentence = printed(&words("frist SameDay 2026-03-29T02:30"), 2);
     assert_eq!(complaints(&output), format!("fristen: Zeile 6: {sentence}"));
+}
+
+/// Each line is answered as its command is, and a refusal keeps its place.
+#[test]
+fn each_value_of_a_file_is_its_commands() {
+    let (mut values, mut sentences) = (Vec::new(), String::new());
+    for (place, question) in MIXED.iter().enumerate() {
+        let single = run(&words(&format!("{question} --kurz")));
+        let value = lines(&single).concat();
+        values.push(format!("{}: {value}", place + 1).trim_end().to_owned());
+        let named = format!("fristen: Zeile {}: ", place + 1);
+        sentences.push_str(&complaints(&single).replace("fristen: ", &named));
+    }
+    let output = fed("fragen", &["--kurz"], MIXED.join("\n").as_bytes());
+    assert_eq!((lines(&output), complaints(&output)), (values, sentences));
 }
 
 /// As without an option: the counts, and an empty line for what has none.
