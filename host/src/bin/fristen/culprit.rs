@@ -111,9 +111,7 @@ fn instant_why(instant: Instant) -> Option<String> {
         _ => instant.to_string(),
     };
     if instant.nanos > Instant::LAST.nanos {
-        return Some(format!(
-            "{instant}: eine Sekunde hat 1000000000 Nanosekunden, von 0 an gezählt"
-        ));
+        return Some(format!("{instant}: über 999999999 Nanosekunden beginnt die nächste Sekunde"));
     }
     if instant < Instant::FIRST {
         return Some(format!("{shown}: der Kalender beginnt am {FIRST} um 00:00 Uhr in Berlin"));
@@ -130,7 +128,7 @@ fn clock(Clock { hour, minute, second, nanos }: Clock) -> Option<String> {
         (24.., ..) => "die letzte Stunde ist 23",
         (_, 60.., ..) => "die letzte Minute ist 59",
         (_, _, 60.., _) => "die letzte Sekunde ist 59",
-        (.., 1_000_000_000..) => "eine Sekunde hat 1000000000 Nanosekunden",
+        (.., 1_000_000_000..) => "über 999999999 Nanosekunden beginnt die nächste Sekunde",
         _ => return None,
     };
     Some(format!("{shown}: {why}"))
@@ -148,8 +146,8 @@ fn absent_in(inquiry: &Inquiry) -> Option<String> {
 
 fn absent(date: Date, clock: Clock) -> String {
     format!(
-        "Am {} gibt es {} in Berlin nicht: um 02:00 Uhr wird die Uhr auf 03:00 Uhr vorgestellt.",
-        tag(date),
+        "Am {}, gibt es {} in Berlin nicht: um 02:00 Uhr wird die Uhr auf 03:00 Uhr vorgestellt.",
+        dem(date),
         clock.uhr()
     )
 }
@@ -209,7 +207,7 @@ fn leaves(inquiry: &Inquiry) -> Option<String> {
             }
         }
         Call::VorlaufSpan => {
-            format!("Die Spanne der zulässigen Termine reicht über den Kalender ({FIRST} bis {LAST}) hinaus.")
+            format!("Die Spanne der zulässigen Termine verlässt den Kalender vom {FIRST} bis zum {LAST}.")
         }
         _ if inquiry.call.takes(Parameter::VorlaufShape)
             || inquiry.call == Call::AbmeldungCheck =>

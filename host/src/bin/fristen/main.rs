@@ -156,10 +156,10 @@ fn reply(arguments: &Arguments) -> Reply<'_> {
 }
 
 fn bis_wann(command: &Command, arguments: &Arguments) -> Result<Outcome, Usage> {
-    let asked = operands::shape_and_anchor(command, arguments)?;
     if arguments.form == Form::Bytes {
         return Err(not_here("--bytes"));
     }
+    let asked = operands::shape_and_anchor(command, arguments)?;
     let answer = check_archive().map_err(Error::from).and_then(|()| BisWann::of(asked));
     let none = answer.as_ref().is_ok_and(|answer| answer.days.is_empty());
     let outcome = reply(arguments).said(
@@ -199,9 +199,29 @@ fn sheet(period: Period, arguments: &Arguments, mark: Mark) -> Outcome {
     )
 }
 
-/// On a terminal that shows colours, for someone who wants them (no-color.org).
 fn is_coloured() -> bool {
-    let dumb = env::var_os("TERM").is_none_or(|terminal| terminal == "dumb");
-    let unwanted = env::var_os("NO_COLOR").is_some_and(|set| !set.is_empty());
-    io::stdout().is_terminal() && !dumb && !unwanted
+    let variable = |name| env::var_os(name);
+    io::stdout().is_terminal() && shows_colours(variable("TERM"), variable("NO_COLOR"))
+}
+
+/// Whether a terminal does, for someone who wants them (no-color.org).
+fn shows_colours(terminal: Option<OsString>, no_colour: Option<OsString>) -> bool {
+    let dumb = terminal.is_none_or(|terminal| terminal == "dumb");
+    let unwanted = no_colour.is_some_and(|set| !set.is_empty());
+    !dumb && !unwanted
+}
+
+#[cfg(test)]
+mod tests {
+    use super::*;
+
+    #[test]
+    fn a_dumb_terminal_shows_no_colours() {
+        let shows = |terminal: Option<&str>, no_colour: Option<&str>| {
+            shows_colours(terminal.map(OsString::from), no_colour.map(OsString::from))
+        };
+        assert!(shows(Some("xterm-256color"), None) && shows(Some("linux"), Some("")));
+        assert!(!shows(Some("dumb"), None) && !shows(None, None));
+        assert!(!shows(Some("xterm"), Some("1")));
+    }
 }

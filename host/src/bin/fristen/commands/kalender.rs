@@ -126,14 +126,18 @@ in --bytes das 25. bis 28. Byte, das niederwertigste zuerst.",
         task: Task::Kalender,
         operands: &[],
         options: &["[JAHR|MONAT]..."],
-        summary: "die zwölf Monate eines Jahres mit allen Feiertagen",
+        summary: "die zwölf Monate eines Jahres mit allen Feiertagen, oder einer davon",
         meaning: "\
-Das Jahr auf einem Blatt. Tage, die keine Werktage sind, sind im Terminal rot,
-Feiertage darunter hinterlegt; sonst steht ein Stern dahinter. Ohne Farbe auch,
-wenn NO_COLOR gesetzt ist. Von zwei Feiertagen an einem Tag steht der da, den tag
-nennt. --bytes gibt es hier nicht. In --json hat jeder Feiertag seine Nummer
-(number) und die, die tag für das Datum nennt (reason): an einem Samstag 1, an
-einem Sonntag 2.",
-        examples: &[Example::new("kalender 2026", include_str!("kalender-2026.txt"))],
+Das Jahr oder der Monat auf einem Blatt, ohne Angabe dieses Jahr; mehrere
+nacheinander. Tage, die keine Werktage sind, sind im Terminal rot, Feiertage
+darunter hinterlegt; sonst steht ein Stern dahinter. Ohne Farbe auch, wenn NO_COLOR
+gesetzt oder TERM dumb ist. Von zwei Feiertagen an einem Tag steht der da, den tag
+nennt. Ostersonntag steht dabei, ist aber keiner der Liste. --bytes gibt es hier
+nicht. In --json hat jeder Feiertag seine Nummer (number) und die, die tag für das
+Datum nennt (reason): an einem Samstag 1, an einem Sonntag 2.",
+        examples: &[
+            Example::new("kalender 2026-04", include_str!("kalender-2026-04.txt")),
+            Example::new("kalender 2026", include_str!("kalender-2026.txt")),
+        ],
     },
 ];

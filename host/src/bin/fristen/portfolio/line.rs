@@ -95,6 +95,7 @@ fn quoted(text: &str) -> Option<(&str, &str)> {
 #[cfg(test)]
 mod tests {
     use super::*;
+    use crate::reading;
 
     const BEGIN: Date = Date::new(2025, 6, 30);
     const END: Date = Date::new(2035, 6, 30);
@@ -123,6 +124,7 @@ mod tests {
             "2025-06-30 , \"2035-06-30\" ",
             "2025-06-30;2035-06-30;",
             "2025-06-30,2035-06-30, ,;",
+            "30.06.2025;30.6.2035",
         ];
         for text in lines {
             assert_eq!(read(text), Ok(Some((BEGIN, END))), "{text}");
@@ -133,8 +135,7 @@ mod tests {
 
     #[test]
     fn a_line_that_cannot_be_read_says_what_was_expected() {
-        let no_date =
-            |label, text| format!("{label}: erwartet ein Datum wie 2026-04-02, nicht „{text}“");
+        let no_date = |label, text| format!("{label}: erwartet {}, nicht „{text}“", reading::DATE);
         let cases = [
             ("2025-06-30", "es fehlt: BIS".to_owned()),
             ("2025-06-30;", "es fehlt: BIS".to_owned()),
@@ -143,7 +144,6 @@ mod tests {
             (";", "es fehlt: VON".to_owned()),
             ("\"\";2035-06-30", "es fehlt: VON".to_owned()),
             ("Beginn;Ende", no_date("VON", "Beginn")),
-            ("30.06.2025;30.06.2035", no_date("VON", "30.06.2025")),
             ("2025-06-30;2035-6-30", no_date("BIS", "2035-6-30")),
             ("2025-06-30-2035-06-30", no_date("VON", "2025-06-30-2035-06-30")),
             ("\"2025-06-30", no_date("VON", "\"2025-06-30")),
