@@ -110,8 +110,8 @@ fn a_line_that_cannot_be_read_is_named_and_keeps_its_place() {
         let output = fed(&["--json"], &input);
         assert_eq!((output.status.code(), complaints(&output)), (Some(64), named));
         let text = expected.replace('\\', "\\\\");
-        let begin = r#"{"line":2,"call":"mf_portfolio","arguments":[],"refusal":null,"count":null"#;
-        assert_eq!(lines(&output)[1], format!("{begin},\"error\":\"{text}\"}}"));
+        let error = format!("\"{text}\"");
+        assert_eq!(lines(&output)[1], object(2, ["null"; 2], ["null", &error, "null"]));
     }
 }
 
@@ -142,26 +142,43 @@ fn a_date_that_is_none_of_the_calendar_is_named_and_keeps_its_place() {
         let output = fed(&["--json"], &input);
         assert_eq!((output.status.code(), complaints(&output)), (Some(2), complaint));
         let refusal = format!("{{\"number\":3,\"text\":\"{named}\"}}");
-        let object = format!(
-            "{{\"line\":2,\"call\":\"mf_portfolio\",\"arguments\":[\"{from}\",\"{to}\"],\
-             \"refusal\":{refusal},\"count\":null}}"
-        );
+        let dates = [format!("\"{from}\""), format!("\"{to}\"")];
+        let object = object(2, [&dates[0], &dates[1]], [&refusal, "null", "null"]);
         assert_eq!(lines(&output)[1], object);
     }
+}
+
+/// A line as JSON: the dates, or null for none; the refusal, the error and the count.
+fn object(line: u32, [from, to]: [&str; 2], [refusal, error, count]: [&str; 3]) -> String {
+    let given = if from == "null" { String::new() } else { format!("{from},{to}") };
+    format!(
+        "{{\"line\":{line},\"version\":1,\"call\":\"mf_portfolio\",\"arguments\":[{given}],\
+         \"read\":{{\"from\":{from},\"to\":{to}}},\"refusal\":{refusal},\"error\":{error},\
+         \"count\":{count}}}"
+    )
 }
 
 #[test]
 fn counts_as_json() {
     let given =
         counts(&["--json"], "VON;BIS\n\"2025-06-30\";\"2035-06-30\"\n\n2026-04-02 2026-04-07");
-    let begin = |line| format!("{{\"line\":{line},\"call\":\"mf_portfolio\",\"arguments\":");
+    let counted = |line, dates, count| object(line, dates, ["null", "null", count]);
     let expected = [
-        begin(1) + "[],\"refusal\":null,\"count\":null}",
-        begin(2) + "[\"2025-06-30\",\"2035-06-30\"],\"refusal\":null,\"count\":2457}",
-        begin(3) + "[],\"refusal\":null,\"count\":null}",
-        begin(4) + "[\"2026-04-02\",\"2026-04-07\"],\"refusal\":null,\"count\":1}",
+        counted(1, ["null"; 2], "null"),
+        counted(2, ["\"2025-06-30\"", "\"2035-06-30\""], "2457"),
+        counted(3, ["null"; 2], "null"),
+        counted(4, ["\"2026-04-02\"", "\"2026-04-07\""], "1"),
     ];
     assert_eq!(given, expected);
+}
+
+/// What is given stands beside what was read of it.
+#[test]
+fn dates_as_they_were_given() {
+    let given = counts(&["--json"], "2.4.2026 ; \"07.04.2026\"");
+    let expected = object(1, ["\"2026-04-02\"", "\"2026-04-07\""], ["null", "null", "1"]);
+    let arguments = "[\"2026-04-02\",\"2026-04-07\"]";
+    assert_eq!(given, [expected.replace(arguments, "[\"2.4.2026\",\"07.04.2026\"]")]);
 }
 
 /// A line that cannot be read goes before a refusal, and that before an answer.

@@ -1,9 +1,10 @@
 //! Which part of a question a call refuses, and why, in German.
 
-use crate::deutsch::{dem, den, monat, monate, stunden, zeitpunkt};
+use crate::deutsch::{dem, monat, monate, stunden, tag, zeitpunkt};
 use crate::inquiry::Inquiry;
+use crate::uebertragung::opening;
 use mako_fristen_host::{
-    berlin_date, BerlinTime, Call, Clock, Date, Instant, Parameter, Refusal, Sparte,
+    berlin_date, BerlinTime, Call, Clock, Date, Instant, Parameter, Refusal, Sparte, VorlaufShape,
 };
 
 const FIRST: &str = "1. Januar 1996";
@@ -22,6 +23,31 @@ pub fn of(inquiry: &Inquiry, refusal: Refusal) -> String {
         _ => None,
     };
     found.unwrap_or_else(|| refusal.beschreibung().to_owned())
+}
+
+/// Of the transmission days that an anchor allows.
+pub fn of_anchor(asked: (VorlaufShape, Date), refusal: Refusal) -> String {
+    let found = match refusal {
+        Refusal::NoDate => date_why(asked.1).map(|why| format!("{why}.")),
+        Refusal::LeavesCalendar => Some(end_leaves(asked)),
+        _ => None,
+    };
+    found.unwrap_or_else(|| refusal.beschreibung().to_owned())
+}
+
+/// Only the last day of some shapes lies behind the anchor.
+fn end_leaves((shape, anchor): (VorlaufShape, Date)) -> String {
+    let for_anchor = format!("Übertragungstag für den Termin am {}, liegt", dem(anchor));
+    let before = format!("vor dem {FIRST}, dem ersten Tag des Kalenders.");
+    if opening(shape, anchor).is_err() {
+        return format!("Der früheste {for_anchor} {before}");
+    }
+    match shape {
+        VorlaufShape::LatestWerktageAfter(_) | VorlaufShape::Korridor(_) => {
+            format!("Der späteste {for_anchor} hinter dem {LAST}, dem letzten Tag des Kalenders.")
+        }
+        _ => format!("Der späteste {for_anchor} {before}"),
+    }
 }
 
 /// The dates that are none, each by its name if there are two.
@@ -136,18 +162,6 @@ pub fn of_berlin(label: &str, refusal: Refusal, date: Date, at: Clock) -> String
     };
     match found {
         Some(why) => format!("{label} {why}."),
-        None => refusal.beschreibung().to_owned(),
-    }
-}
-
-/// Of `bis-wann`.
-pub fn of_anchor(anchor: Date, refusal: Refusal) -> String {
-    match date_why(anchor) {
-        Some(why) => format!("{why}."),
-        None if refusal == Refusal::LeavesCalendar => {
-            let day = den(anchor);
-            format!("Ein Übertragungstag für {day}, liegt nicht im Kalender vom {FIRST} bis zum {LAST}.")
-        }
         None => refusal.beschreibung().to_owned(),
     }
 }
