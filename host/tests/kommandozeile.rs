@@ -176,6 +176,24 @@ fn a_time_that_the_clock_shows_twice_is_named() {
     assert_prints(TWICE);
     let given = "contrl Regelfall 2026-10-25T02:30:00+02:00";
     assert!(!printed(&words(given), 0).contains("zweimal"), "its offset tells it");
+    let end = "zeigt die Uhr in Berlin zweimal 02:30 Uhr; gemeint ist die frühere.\n";
+    for line in [
+        "aperak-strom 2026-10-25T02:30",
+        "aperak-strom-allgemein 2026-10-25T02:30",
+        "aperak-gas-folgeprozess 2026-10-25T02:30",
+        "aperak-gas-initialprozess 2026-10-25T02:30",
+        "aperak-gas 44001 2026-10-25T02:30",
+        "deadline-at-werktage 2026-10-25T02:30 1",
+        "end-of-werktag-after 2026-10-25T02:30 1",
+        "next-werktag-at 2026-10-25T02:30 12:00",
+        "nth-werktag-at 2026-10-25T02:30 2 12:00",
+        "frist SameDay 2026-10-25T02:30",
+        "ankuendigung 2026-10-25T02:30 2026-10-27",
+    ] {
+        let sentence = printed(&words(line), 0);
+        assert_eq!((sentence.ends_with(end), sentence.matches("zweimal").count()), (true, 1));
+        assert!(!printed(&words(&line.replace("02:30", "03:00")), 0).contains("zweimal"), "{line}");
+    }
 }
 
 /// The option and the call's own name are one question; without the option it is version one.

@@ -110,7 +110,7 @@ fn a_time_that_berlins_clock_does_not_show() {
     let lines = super::zeilen::lines(&output);
     assert_eq!(lines[0], format!("1: Abgelehnt (6): {absent}"));
     assert!(
-        lines[1].starts_with("2: Eingang am Sonntag, 29. März 2026, um 03:30 Uhr"),
+        lines[1].starts_with("2: Eingang am Sonntag, dem 29. März 2026, um 03:30 Uhr"),
         "{lines:?}"
     );
 }

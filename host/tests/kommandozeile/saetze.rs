@@ -3,22 +3,10 @@
 /// Cases A to L of document 01 that a single call answers; A by its feasts. Those with a verdict or
 /// a span are in urteile.rs.
 pub const CASES: &[(&str, &str)] = &[
-    (
-        "tag 2026-04-03",
-        "Freitag, der 3. April 2026, ist kein Werktag: Karfreitag.",
-    ),
-    (
-        "tag 2026-04-05",
-        "Sonntag, der 5. April 2026, ist kein Werktag: Sonntag; auch Ostersonntag.",
-    ),
-    (
-        "tag 2026-04-06",
-        "Montag, der 6. April 2026, ist kein Werktag: Ostermontag.",
-    ),
-    (
-        "tag 2026-11-18",
-        "Mittwoch, der 18. November 2026, ist kein Werktag: Buß- und Bettag.",
-    ),
+    ("tag 2026-04-03", "Freitag, der 3. April 2026, ist kein Werktag: Karfreitag."),
+    ("tag 2026-04-05", "Sonntag, der 5. April 2026, ist kein Werktag: Sonntag; auch Ostersonntag."),
+    ("tag 2026-04-06", "Montag, der 6. April 2026, ist kein Werktag: Ostermontag."),
+    ("tag 2026-11-18", "Mittwoch, der 18. November 2026, ist kein Werktag: Buß- und Bettag."),
     (
         "add-werktage 2026-04-02 1",
         "Der 1. Werktag nach Donnerstag, dem 2. April 2026, ist Dienstag, der 7. April 2026.\n\
@@ -30,31 +18,33 @@ pub const CASES: &[(&str, &str)] = &[
     ),
     (
         "contrl Regelfall 2026-03-31T11:59:59+02:00",
-        "Eingang am Dienstag, 31. März 2026, um 11:59:59 Uhr: Die CONTRL im Regelfall ist fällig \
-         am Dienstag, 31. März 2026, um 17:59:59 Uhr.",
+        "Eingang am Dienstag, dem 31. März 2026, um 11:59:59 Uhr: Die CONTRL im Regelfall ist \
+         fällig am Dienstag, dem 31. März 2026, um 17:59:59 Uhr.",
     ),
     (
         "contrl Regelfall 2026-03-31T12:00:00+02:00",
-        "Eingang am Dienstag, 31. März 2026, um 12:00 Uhr: Die CONTRL im Regelfall ist fällig in \
-         der Nacht vom 1. auf den 2. April 2026, am Donnerstag um 00:00 Uhr.\n\
-         Ohne Umstellung wäre sie fällig am Dienstag, 31. März 2026, um 18:00 Uhr. Das liegt im \
-         Zeitraum der Formatumstellung von Dienstag, 31. März 2026, 18:00 Uhr, bis Donnerstag, 2. \
-         April 2026, 00:00 Uhr; darum gilt dessen Ende.",
+        "Eingang am Dienstag, dem 31. März 2026, um 12:00 Uhr: Die CONTRL im Regelfall ist fällig \
+         in der Nacht vom 1. auf den 2. April 2026, am Donnerstag um 00:00 Uhr.\n\
+         Ohne Umstellung wäre sie fällig am Dienstag, dem 31. März 2026, um 18:00 Uhr. Das liegt \
+         im Zeitraum der Formatumstellung von Dienstag, dem 31. März 2026, 18:00 Uhr, bis \
+         Donnerstag, den 2. April 2026, 00:00 Uhr; darum gilt dessen Ende.",
     ),
     (
         "berlin-at 2026-10-25 02:30",
-        "Sonntag, 25. Oktober 2026, 02:30 Uhr Sommerzeit in Berlin ist Sonntag, 25. Oktober 2026, \
-         00:30 Uhr Weltzeit (UTC). Die Uhr zeigt diese Zeit zweimal; gemeint ist die frühere.",
+        "Sonntag, der 25. Oktober 2026, 02:30 Uhr Sommerzeit in Berlin ist Sonntag, der 25. \
+         Oktober 2026, 00:30 Uhr Weltzeit (UTC). Die Uhr zeigt diese Zeit zweimal; gemeint ist \
+         die frühere.",
     ),
     (
         "tagesbeginn-utc 2026-03-29 Gas",
         "In der Sparte Gas beginnt Sonntag, der 29. März 2026, in Berlin um 06:00 Uhr; das ist \
-         Sonntag, 29. März 2026, 04:00 Uhr Weltzeit (UTC).",
+         Sonntag, der 29. März 2026, 04:00 Uhr Weltzeit (UTC).",
     ),
     (
         "frist SameDayAt 12:00 2026-01-09T12:00:00+01:00",
-        "Eingang am Freitag, 9. Januar 2026, um 12:00 Uhr: Die Frist endet am nächsten Werktag, am \
-         Montag, 12. Januar 2026, um 12:00 Uhr. Am Eingangstag war 12:00 Uhr schon erreicht.",
+        "Eingang am Freitag, dem 9. Januar 2026, um 12:00 Uhr: Die Frist endet am nächsten \
+         Werktag, am Montag, dem 12. Januar 2026, um 12:00 Uhr. Am Eingangstag war 12:00 Uhr \
+         schon erreicht.",
     ),
 ];
 
@@ -62,50 +52,50 @@ pub const CASES: &[(&str, &str)] = &[
 pub const ANNOUNCEMENTS: &[(&str, &str)] = &[
     (
         "ankuendigung 2026-01-09T13:00:00+01:00 2026-01-12",
-        "Fristgerecht: Eingang am Freitag, 9. Januar 2026, um 13:00 Uhr, Zuordnungsbeginn Montag, \
-         12. Januar 2026.\n\
+        "Fristgerecht: Eingang am Freitag, dem 9. Januar 2026, um 13:00 Uhr, Zuordnungsbeginn \
+         Montag, 12. Januar 2026.\n\
          Fristgerecht ist die Ankündigung am letzten Werktag vor dem Zuordnungsbeginn von 00:00 \
-         bis 13:00 Uhr: am Freitag, 9. Januar 2026.",
+         bis 13:00 Uhr: am Freitag, dem 9. Januar 2026.",
     ),
     (
         "ankuendigung 2026-01-09T13:00:00.000000001+01:00 2026-01-12",
-        "Zu spät: Eingang am Freitag, 9. Januar 2026, um 13:00:00,000000001 Uhr, Zuordnungsbeginn \
-         Montag, 12. Januar 2026.\n\
+        "Zu spät: Eingang am Freitag, dem 9. Januar 2026, um 13:00:00,000000001 Uhr, \
+         Zuordnungsbeginn Montag, 12. Januar 2026.\n\
          Fristgerecht ist die Ankündigung am letzten Werktag vor dem Zuordnungsbeginn von 00:00 \
-         bis 13:00 Uhr: am Freitag, 9. Januar 2026.",
+         bis 13:00 Uhr: am Freitag, dem 9. Januar 2026.",
     ),
     (
         "ankuendigung 2026-01-12T00:00:00+01:00 2026-01-12",
-        "Weder fristgerecht noch verspätet: Eingang am Montag, 12. Januar 2026, um 00:00 Uhr, \
+        "Weder fristgerecht noch verspätet: Eingang am Montag, dem 12. Januar 2026, um 00:00 Uhr, \
          Zuordnungsbeginn Montag, 12. Januar 2026.\n\
          Der Zuordnungsbeginn liegt nicht in der Zukunft; dann gilt „unverzüglich“, und ab wann, \
          steht in keiner Nachricht.",
     ),
     (
         "ankuendigung 2026-01-09T00:00:00+01:00 2026-01-12",
-        "Fristgerecht: Eingang am Freitag, 9. Januar 2026, um 00:00 Uhr, Zuordnungsbeginn Montag, \
-         12. Januar 2026.\n\
+        "Fristgerecht: Eingang am Freitag, dem 9. Januar 2026, um 00:00 Uhr, Zuordnungsbeginn \
+         Montag, 12. Januar 2026.\n\
          Fristgerecht ist die Ankündigung am letzten Werktag vor dem Zuordnungsbeginn von 00:00 \
-         bis 13:00 Uhr: am Freitag, 9. Januar 2026.",
+         bis 13:00 Uhr: am Freitag, dem 9. Januar 2026.",
     ),
     (
         "ankuendigung 2026-01-08T23:59:59.999999999+01:00 2026-01-12",
-        "Zu früh: Eingang am Donnerstag, 8. Januar 2026, um 23:59:59,999999999 Uhr, \
+        "Zu früh: Eingang am Donnerstag, dem 8. Januar 2026, um 23:59:59,999999999 Uhr, \
          Zuordnungsbeginn Montag, 12. Januar 2026.\n\
          Fristgerecht ist die Ankündigung am letzten Werktag vor dem Zuordnungsbeginn von 00:00 \
-         bis 13:00 Uhr: am Freitag, 9. Januar 2026.",
+         bis 13:00 Uhr: am Freitag, dem 9. Januar 2026.",
     ),
     (
         "ankuendigung 2026-01-11T23:59:59+01:00 2026-01-12",
-        "Zu spät: Eingang am Sonntag, 11. Januar 2026, um 23:59:59 Uhr, Zuordnungsbeginn Montag, \
-         12. Januar 2026.\n\
+        "Zu spät: Eingang am Sonntag, dem 11. Januar 2026, um 23:59:59 Uhr, Zuordnungsbeginn \
+         Montag, 12. Januar 2026.\n\
          Fristgerecht ist die Ankündigung am letzten Werktag vor dem Zuordnungsbeginn von 00:00 \
-         bis 13:00 Uhr: am Freitag, 9. Januar 2026.",
+         bis 13:00 Uhr: am Freitag, dem 9. Januar 2026.",
     ),
     (
         "ankuendigung 2026-02-01T10:00:00+01:00 2026-01-12",
-        "Weder fristgerecht noch verspätet: Eingang am Sonntag, 1. Februar 2026, um 10:00 Uhr, \
-         Zuordnungsbeginn Montag, 12. Januar 2026.\n\
+        "Weder fristgerecht noch verspätet: Eingang am Sonntag, dem 1. Februar 2026, um 10:00 \
+         Uhr, Zuordnungsbeginn Montag, 12. Januar 2026.\n\
          Der Zuordnungsbeginn liegt nicht in der Zukunft; dann gilt „unverzüglich“, und ab wann, \
          steht in keiner Nachricht.",
     ),
@@ -188,48 +178,48 @@ pub const DAYS: &[(&str, &str)] = &[
     ),
     (
         "add-hours 2026-10-25T00:30:00Z 1",
-        "1 Stunde nach Sonntag, 25. Oktober 2026, 02:30 Uhr Sommerzeit, ist es Sonntag, 25. \
-         Oktober 2026, 02:30 Uhr Winterzeit. Dazwischen wird die Uhr um eine Stunde \
+        "1 Stunde nach Sonntag, dem 25. Oktober 2026, 02:30 Uhr Sommerzeit, ist es Sonntag, der \
+         25. Oktober 2026, 02:30 Uhr Winterzeit. Dazwischen wird die Uhr um eine Stunde \
          zurückgestellt.",
     ),
     (
         "add-hours 2026-03-29T01:30:00+01:00 1",
-        "1 Stunde nach Sonntag, 29. März 2026, 01:30 Uhr, ist es Sonntag, 29. März 2026, 03:30 \
-         Uhr. Dazwischen wird die Uhr um eine Stunde vorgestellt.",
+        "1 Stunde nach Sonntag, dem 29. März 2026, 01:30 Uhr, ist es Sonntag, der 29. März 2026, \
+         03:30 Uhr. Dazwischen wird die Uhr um eine Stunde vorgestellt.",
     ),
     (
         "add-hours 2026-01-01T00:00:00+01:00 8760",
-        "8760 Stunden nach Donnerstag, 1. Januar 2026, 00:00 Uhr, ist es Freitag, 1. Januar 2027, \
-         00:00 Uhr.",
+        "8760 Stunden nach Donnerstag, dem 1. Januar 2026, 00:00 Uhr, ist es Freitag, der 1. \
+         Januar 2027, 00:00 Uhr.",
     ),
     (
         "add-hours 2026-04-01T10:00:00+02:00 0",
-        "Mit 0 Stunden bleibt es bei Mittwoch, 1. April 2026, 10:00 Uhr.",
+        "Mit 0 Stunden bleibt es bei Mittwoch, dem 1. April 2026, 10:00 Uhr.",
     ),
     (
         "add-hours 2026-04-01T10:00:00+02:00 24",
-        "24 Stunden nach Mittwoch, 1. April 2026, 10:00 Uhr, ist es Donnerstag, 2. April 2026, \
-         10:00 Uhr.",
+        "24 Stunden nach Mittwoch, dem 1. April 2026, 10:00 Uhr, ist es Donnerstag, der 2. April \
+         2026, 10:00 Uhr.",
     ),
     (
         "berlin-at 1996-01-01 00:00",
-        "Montag, 1. Januar 1996, 00:00 Uhr in Berlin ist Sonntag, 31. Dezember 1995, 23:00 Uhr \
-         Weltzeit (UTC).",
+        "Montag, der 1. Januar 1996, 00:00 Uhr in Berlin ist Sonntag, der 31. Dezember 1995, \
+         23:00 Uhr Weltzeit (UTC).",
     ),
     (
         "berlin-midnight 2026-03-29",
-        "Sonntag, der 29. März 2026, beginnt in Berlin um 00:00 Uhr; das ist Samstag, 28. März \
-         2026, 23:00 Uhr Weltzeit (UTC).",
+        "Sonntag, der 29. März 2026, beginnt in Berlin um 00:00 Uhr; das ist Samstag, der 28. \
+         März 2026, 23:00 Uhr Weltzeit (UTC).",
     ),
     (
         "end-of-day-berlin 2026-03-29",
         "Sonntag, der 29. März 2026, endet in Berlin um 23:59:59,999999999 Uhr; das ist Sonntag, \
-         29. März 2026, 21:59:59,999999999 Uhr Weltzeit (UTC).",
+         der 29. März 2026, 21:59:59,999999999 Uhr Weltzeit (UTC).",
     ),
     (
         "tagesbeginn-utc 2026-01-01 strom",
         "In der Sparte Strom beginnt Donnerstag, der 1. Januar 2026, in Berlin um 00:00 Uhr; das \
-         ist Mittwoch, 31. Dezember 2025, 23:00 Uhr Weltzeit (UTC).",
+         ist Mittwoch, der 31. Dezember 2025, 23:00 Uhr Weltzeit (UTC).",
     ),
     (
         "berlin-date 2026-10-25T01:30:00Z",
@@ -339,146 +329,148 @@ pub const STEPS: &[(&str, &str)] = &[
 pub const DUE: &[(&str, &str)] = &[
     (
         "contrl STROMUTILMDODERORDERS 2026-01-10T12:00:00+01:00",
-        "Eingang am Samstag, 10. Januar 2026, um 12:00 Uhr: Die CONTRL auf UTILMD oder ORDERS \
-         Strom ist fällig am Samstag, 10. Januar 2026, um 18:00 Uhr.",
+        "Eingang am Samstag, dem 10. Januar 2026, um 12:00 Uhr: Die CONTRL auf UTILMD oder ORDERS \
+         Strom ist fällig am Samstag, dem 10. Januar 2026, um 18:00 Uhr.",
     ),
     (
         "contrl gasalocat 2026-01-10T12:00:00.5+01:00",
-        "Eingang am Samstag, 10. Januar 2026, um 12:00:00,5 Uhr: Die CONTRL auf ALOCAT Gas ist \
-         fällig am Samstag, 10. Januar 2026, um 12:45:00,5 Uhr.",
+        "Eingang am Samstag, dem 10. Januar 2026, um 12:00:00,5 Uhr: Die CONTRL auf ALOCAT Gas \
+         ist fällig am Samstag, dem 10. Januar 2026, um 12:45:00,5 Uhr.",
     ),
     (
         "contrl Regelfall 2026-12-31T18:00:00+01:00",
-        "Eingang am Donnerstag, 31. Dezember 2026, um 18:00 Uhr: Die CONTRL im Regelfall ist \
+        "Eingang am Donnerstag, dem 31. Dezember 2026, um 18:00 Uhr: Die CONTRL im Regelfall ist \
          fällig in der Nacht vom 31. Dezember 2026 auf den 1. Januar 2027, am Freitag um 00:00 \
          Uhr.",
     ),
     (
         "contrl Regelfall 2026-03-29T01:30:00+01:00",
-        "Eingang am Sonntag, 29. März 2026, um 01:30 Uhr: Die CONTRL im Regelfall ist fällig am \
-         Sonntag, 29. März 2026, um 08:30 Uhr. Dazwischen wird die Uhr um eine Stunde vorgestellt.",
+        "Eingang am Sonntag, dem 29. März 2026, um 01:30 Uhr: Die CONTRL im Regelfall ist fällig \
+         am Sonntag, dem 29. März 2026, um 08:30 Uhr. Dazwischen wird die Uhr um eine Stunde \
+         vorgestellt.",
     ),
     (
         "aperak-strom 2026-10-25T02:45:00+02:00",
-        "Eingang am Sonntag, 25. Oktober 2026, um 02:45 Uhr Sommerzeit: Die APERAK auf UTILMD oder \
-         ORDERS Strom ist fällig am Sonntag, 25. Oktober 2026, um 02:30 Uhr Winterzeit. Dazwischen \
-         wird die Uhr um eine Stunde zurückgestellt.",
+        "Eingang am Sonntag, dem 25. Oktober 2026, um 02:45 Uhr Sommerzeit: Die APERAK auf UTILMD \
+         oder ORDERS Strom ist fällig am Sonntag, dem 25. Oktober 2026, um 02:30 Uhr Winterzeit. \
+         Dazwischen wird die Uhr um eine Stunde zurückgestellt.",
     ),
     (
         "aperak-strom 2026-03-28T10:00:00+01:00",
-        "Eingang am Samstag, 28. März 2026, um 10:00 Uhr: Die APERAK auf UTILMD oder ORDERS Strom \
-         ist fällig am Sonntag, 29. März 2026, um 12:00 Uhr.",
+        "Eingang am Samstag, dem 28. März 2026, um 10:00 Uhr: Die APERAK auf UTILMD oder ORDERS \
+         Strom ist fällig am Sonntag, dem 29. März 2026, um 12:00 Uhr.",
     ),
     (
         "aperak-strom 2026-01-31T23:15:00+01:00",
-        "Eingang am Samstag, 31. Januar 2026, um 23:15 Uhr: Die APERAK auf UTILMD oder ORDERS \
-         Strom ist fällig am Sonntag, 1. Februar 2026, um 12:00 Uhr.",
+        "Eingang am Samstag, dem 31. Januar 2026, um 23:15 Uhr: Die APERAK auf UTILMD oder ORDERS \
+         Strom ist fällig am Sonntag, dem 1. Februar 2026, um 12:00 Uhr.",
     ),
     (
         "aperak-strom 2026-04-30T23:15:00+02:00",
-        "Eingang am Donnerstag, 30. April 2026, um 23:15 Uhr: Die APERAK auf UTILMD oder ORDERS \
-         Strom ist fällig in der Nacht vom 30. April auf den 1. Mai 2026, am Freitag um 00:00 Uhr.",
-    ),
-    (
-        "aperak-strom-allgemein 2026-04-02T10:00:00+02:00",
-        "Eingang am Donnerstag, 2. April 2026, um 10:00 Uhr: Die APERAK auf eine andere Nachricht \
-         Strom ist fällig am Dienstag, 7. April 2026, um 12:00 Uhr.",
-    ),
-    (
-        "aperak-gas-folgeprozess 2026-04-02T10:00:00+02:00",
-        "Eingang am Donnerstag, 2. April 2026, um 10:00 Uhr: Die APERAK im Folgeprozess Gas ist \
-         fällig am Dienstag, 7. April 2026, um 12:00 Uhr.",
-    ),
-    (
-        "aperak-gas-initialprozess 2026-04-02T10:00:00+02:00",
-        "Eingang am Donnerstag, 2. April 2026, um 10:00 Uhr: Die APERAK im Initialprozess Gas ist \
-         fällig mit Ablauf des Donnerstags, 9. April 2026.",
-    ),
-    (
-        "aperak-gas 44001 2026-04-02T10:00:00+02:00",
-        "Eingang am Donnerstag, 2. April 2026, um 10:00 Uhr: Die APERAK auf Prüfidentifikator \
-         44001 (Initialprozess Gas) ist fällig mit Ablauf des Donnerstags, 9. April 2026.",
-    ),
-    (
-        "aperak-gas 44002 2026-04-02T10:00:00+02:00",
-        "Eingang am Donnerstag, 2. April 2026, um 10:00 Uhr: Die APERAK auf Prüfidentifikator \
-         44002 (Folgeprozess Gas) ist fällig am Dienstag, 7. April 2026, um 12:00 Uhr.",
-    ),
-    (
-        "frist WerktagAt 2 06:00 2026-04-02T10:00:00+02:00",
-        "Eingang am Donnerstag, 2. April 2026, um 10:00 Uhr: Die Frist bis 06:00 Uhr am 2. Werktag \
-         nach dem Eingangstag endet am Mittwoch, 8. April 2026, um 06:00 Uhr.",
-    ),
-    (
-        "frist WerktagAt 61 00:00 2026-01-09T12:00:00+01:00",
-        "Eingang am Freitag, 9. Januar 2026, um 12:00 Uhr: Die Frist bis 00:00 Uhr am 61. Werktag \
-         nach dem Eingangstag endet in der Nacht vom 7. auf den 8. April 2026, am Mittwoch um \
+        "Eingang am Donnerstag, dem 30. April 2026, um 23:15 Uhr: Die APERAK auf UTILMD oder \
+         ORDERS Strom ist fällig in der Nacht vom 30. April auf den 1. Mai 2026, am Freitag um \
          00:00 Uhr.",
     ),
     (
+        "aperak-strom-allgemein 2026-04-02T10:00:00+02:00",
+        "Eingang am Donnerstag, dem 2. April 2026, um 10:00 Uhr: Die APERAK auf eine andere \
+         Nachricht Strom ist fällig am Dienstag, dem 7. April 2026, um 12:00 Uhr.",
+    ),
+    (
+        "aperak-gas-folgeprozess 2026-04-02T10:00:00+02:00",
+        "Eingang am Donnerstag, dem 2. April 2026, um 10:00 Uhr: Die APERAK im Folgeprozess Gas \
+         ist fällig am Dienstag, dem 7. April 2026, um 12:00 Uhr.",
+    ),
+    (
+        "aperak-gas-initialprozess 2026-04-02T10:00:00+02:00",
+        "Eingang am Donnerstag, dem 2. April 2026, um 10:00 Uhr: Die APERAK im Initialprozess Gas \
+         ist fällig mit Ablauf des Donnerstags, des 9. April 2026.",
+    ),
+    (
+        "aperak-gas 44001 2026-04-02T10:00:00+02:00",
+        "Eingang am Donnerstag, dem 2. April 2026, um 10:00 Uhr: Die APERAK auf Prüfidentifikator \
+         44001 (Initialprozess Gas) ist fällig mit Ablauf des Donnerstags, des 9. April 2026.",
+    ),
+    (
+        "aperak-gas 44002 2026-04-02T10:00:00+02:00",
+        "Eingang am Donnerstag, dem 2. April 2026, um 10:00 Uhr: Die APERAK auf Prüfidentifikator \
+         44002 (Folgeprozess Gas) ist fällig am Dienstag, dem 7. April 2026, um 12:00 Uhr.",
+    ),
+    (
+        "frist WerktagAt 2 06:00 2026-04-02T10:00:00+02:00",
+        "Eingang am Donnerstag, dem 2. April 2026, um 10:00 Uhr: Die Frist bis 06:00 Uhr am 2. \
+         Werktag nach dem Eingangstag endet am Mittwoch, dem 8. April 2026, um 06:00 Uhr.",
+    ),
+    (
+        "frist WerktagAt 61 00:00 2026-01-09T12:00:00+01:00",
+        "Eingang am Freitag, dem 9. Januar 2026, um 12:00 Uhr: Die Frist bis 00:00 Uhr am 61. \
+         Werktag nach dem Eingangstag endet in der Nacht vom 7. auf den 8. April 2026, am \
+         Mittwoch um 00:00 Uhr.",
+    ),
+    (
         "frist WerktagAt 0 11:00:30 2026-04-02T10:00:00+02:00",
-        "Eingang am Donnerstag, 2. April 2026, um 10:00 Uhr: Die Frist bis 11:00:30 Uhr am 1. \
-         Werktag nach dem Eingangstag endet am Dienstag, 7. April 2026, um 11:00:30 Uhr. 0 \
+        "Eingang am Donnerstag, dem 2. April 2026, um 10:00 Uhr: Die Frist bis 11:00:30 Uhr am 1. \
+         Werktag nach dem Eingangstag endet am Dienstag, dem 7. April 2026, um 11:00:30 Uhr. 0 \
          Werktage zählen hier wie 1.",
     ),
     (
         "nth-werktag-at 2026-04-02T10:00:00+02:00 0 11:00",
-        "Eingang am Donnerstag, 2. April 2026, um 10:00 Uhr: Die Frist bis 11:00 Uhr am 1. Werktag \
-         nach dem Eingangstag endet am Dienstag, 7. April 2026, um 11:00 Uhr. 0 Werktage zählen \
-         hier wie 1.",
+        "Eingang am Donnerstag, dem 2. April 2026, um 10:00 Uhr: Die Frist bis 11:00 Uhr am 1. \
+         Werktag nach dem Eingangstag endet am Dienstag, dem 7. April 2026, um 11:00 Uhr. 0 \
+         Werktage zählen hier wie 1.",
     ),
     (
         "next-werktag-at 2026-04-02T10:00:00+02:00 11:00",
-        "Eingang am Donnerstag, 2. April 2026, um 10:00 Uhr: Die Frist bis 11:00 Uhr am 1. Werktag \
-         nach dem Eingangstag endet am Dienstag, 7. April 2026, um 11:00 Uhr.",
+        "Eingang am Donnerstag, dem 2. April 2026, um 10:00 Uhr: Die Frist bis 11:00 Uhr am 1. \
+         Werktag nach dem Eingangstag endet am Dienstag, dem 7. April 2026, um 11:00 Uhr.",
     ),
     (
         "frist EndOfWerktag 1 2026-04-02T10:00:00+02:00",
-        "Eingang am Donnerstag, 2. April 2026, um 10:00 Uhr: Die Frist bis zum Ablauf des 1. \
-         Werktags nach dem Eingangstag endet mit Ablauf des Dienstags, 7. April 2026.",
+        "Eingang am Donnerstag, dem 2. April 2026, um 10:00 Uhr: Die Frist bis zum Ablauf des 1. \
+         Werktags nach dem Eingangstag endet mit Ablauf des Dienstags, des 7. April 2026.",
     ),
     (
         "end-of-werktag-after 2026-04-02T10:00:00+02:00 3",
-        "Eingang am Donnerstag, 2. April 2026, um 10:00 Uhr: Die Frist bis zum Ablauf des 3. \
-         Werktags nach dem Eingangstag endet mit Ablauf des Donnerstags, 9. April 2026.",
+        "Eingang am Donnerstag, dem 2. April 2026, um 10:00 Uhr: Die Frist bis zum Ablauf des 3. \
+         Werktags nach dem Eingangstag endet mit Ablauf des Donnerstags, des 9. April 2026.",
     ),
     (
         "frist EndOfWerktag 0 2026-01-10T12:00:00+01:00",
-        "Eingang am Samstag, 10. Januar 2026, um 12:00 Uhr: Die Frist bis zum Ablauf des \
-         Eingangstags endet mit Ablauf des Samstags, 10. Januar 2026. Mit 0 Werktagen ist es der \
-         Eingangstag, ob Werktag oder nicht.",
+        "Eingang am Samstag, dem 10. Januar 2026, um 12:00 Uhr: Die Frist bis zum Ablauf des \
+         Eingangstags endet mit Ablauf des Samstags, des 10. Januar 2026. Mit 0 Werktagen ist es \
+         der Eingangstag, ob Werktag oder nicht.",
     ),
     (
         "deadline-at-werktage 2026-01-10T12:00:00+01:00 0",
-        "Eingang am Samstag, 10. Januar 2026, um 12:00 Uhr: Die Frist bis zum Ablauf des \
-         Eingangstags endet mit Ablauf des Samstags, 10. Januar 2026. Mit 0 Werktagen ist es der \
-         Eingangstag, ob Werktag oder nicht.",
+        "Eingang am Samstag, dem 10. Januar 2026, um 12:00 Uhr: Die Frist bis zum Ablauf des \
+         Eingangstags endet mit Ablauf des Samstags, des 10. Januar 2026. Mit 0 Werktagen ist es \
+         der Eingangstag, ob Werktag oder nicht.",
     ),
     (
         "frist sameday 2026-01-10T12:00:00+01:00",
-        "Eingang am Samstag, 10. Januar 2026, um 12:00 Uhr: Die Frist bis zum Ablauf des \
-         Eingangstags endet mit Ablauf des Samstags, 10. Januar 2026.",
+        "Eingang am Samstag, dem 10. Januar 2026, um 12:00 Uhr: Die Frist bis zum Ablauf des \
+         Eingangstags endet mit Ablauf des Samstags, des 10. Januar 2026.",
     ),
     (
         "frist SameDayAt 12:00 2026-01-09T11:59:59+01:00",
-        "Eingang am Freitag, 9. Januar 2026, um 11:59:59 Uhr: Die Frist bis 12:00 Uhr am \
-         Eingangstag endet am Freitag, 9. Januar 2026, um 12:00 Uhr.",
+        "Eingang am Freitag, dem 9. Januar 2026, um 11:59:59 Uhr: Die Frist bis 12:00 Uhr am \
+         Eingangstag endet am Freitag, dem 9. Januar 2026, um 12:00 Uhr.",
     ),
     (
         "frist SameDayAt 12:00 2026-01-10T09:00:00+01:00",
-        "Eingang am Samstag, 10. Januar 2026, um 09:00 Uhr: Die Frist endet am nächsten Werktag, \
-         am Montag, 12. Januar 2026, um 12:00 Uhr. Der Eingangstag ist kein Werktag.",
+        "Eingang am Samstag, dem 10. Januar 2026, um 09:00 Uhr: Die Frist endet am nächsten \
+         Werktag, am Montag, dem 12. Januar 2026, um 12:00 Uhr. Der Eingangstag ist kein Werktag.",
     ),
     (
         "frist SameDayAt 12:00 2026-01-10T13:00:00+01:00",
-        "Eingang am Samstag, 10. Januar 2026, um 13:00 Uhr: Die Frist endet am nächsten Werktag, \
-         am Montag, 12. Januar 2026, um 12:00 Uhr. Der Eingangstag ist kein Werktag.",
+        "Eingang am Samstag, dem 10. Januar 2026, um 13:00 Uhr: Die Frist endet am nächsten \
+         Werktag, am Montag, dem 12. Januar 2026, um 12:00 Uhr. Der Eingangstag ist kein Werktag.",
     ),
     (
         "frist SameDayAt 00:00 2026-04-02T10:00:00+02:00",
-        "Eingang am Donnerstag, 2. April 2026, um 10:00 Uhr: Die Frist endet am nächsten Werktag, \
-         in der Nacht vom 6. auf den 7. April 2026, am Dienstag um 00:00 Uhr. Am Eingangstag war \
-         00:00 Uhr schon erreicht.",
+        "Eingang am Donnerstag, dem 2. April 2026, um 10:00 Uhr: Die Frist endet am nächsten \
+         Werktag, in der Nacht vom 6. auf den 7. April 2026, am Dienstag um 00:00 Uhr. Am \
+         Eingangstag war 00:00 Uhr schon erreicht.",
     ),
 ];
 
@@ -487,49 +479,50 @@ pub const DUE: &[(&str, &str)] = &[
 pub const TOLERANCE: &[(&str, &str)] = &[
     (
         "contrl GasAlocat 2026-04-01T23:14:59.999999999+02:00",
-        "Eingang am Mittwoch, 1. April 2026, um 23:14:59,999999999 Uhr: Die CONTRL auf ALOCAT Gas \
-         ist fällig in der Nacht vom 1. auf den 2. April 2026, am Donnerstag um 00:00 Uhr.\n\
-         Ohne Umstellung wäre sie fällig mit Ablauf des Mittwochs, 1. April 2026. Das liegt im \
-         Zeitraum der Formatumstellung von Dienstag, 31. März 2026, 18:00 Uhr, bis Donnerstag, 2. \
-         April 2026, 00:00 Uhr; darum gilt dessen Ende.",
+        "Eingang am Mittwoch, dem 1. April 2026, um 23:14:59,999999999 Uhr: Die CONTRL auf ALOCAT \
+         Gas ist fällig in der Nacht vom 1. auf den 2. April 2026, am Donnerstag um 00:00 Uhr.\n\
+         Ohne Umstellung wäre sie fällig mit Ablauf des Mittwochs, des 1. April 2026. Das liegt \
+         im Zeitraum der Formatumstellung von Dienstag, dem 31. März 2026, 18:00 Uhr, bis \
+         Donnerstag, den 2. April 2026, 00:00 Uhr; darum gilt dessen Ende.",
     ),
     (
         "contrl Regelfall 2026-10-01T00:00:00+02:00",
-        "Eingang am Donnerstag, 1. Oktober 2026, um 00:00 Uhr: Die CONTRL im Regelfall ist fällig \
-         in der Nacht vom 1. auf den 2. Oktober 2026, am Freitag um 00:00 Uhr.\n\
-         Ohne Umstellung wäre sie fällig am Donnerstag, 1. Oktober 2026, um 06:00 Uhr. Das liegt \
-         im Zeitraum der Formatumstellung von Mittwoch, 30. September 2026, 18:00 Uhr, bis \
-         Freitag, 2. Oktober 2026, 00:00 Uhr; darum gilt dessen Ende.",
+        "Eingang am Donnerstag, dem 1. Oktober 2026, um 00:00 Uhr: Die CONTRL im Regelfall ist \
+         fällig in der Nacht vom 1. auf den 2. Oktober 2026, am Freitag um 00:00 Uhr.\n\
+         Ohne Umstellung wäre sie fällig am Donnerstag, dem 1. Oktober 2026, um 06:00 Uhr. Das \
+         liegt im Zeitraum der Formatumstellung von Mittwoch, dem 30. September 2026, 18:00 Uhr, \
+         bis Freitag, den 2. Oktober 2026, 00:00 Uhr; darum gilt dessen Ende.",
     ),
     (
         "contrl GasAlocat 2026-03-31T23:15:00+02:00",
-        "Eingang am Dienstag, 31. März 2026, um 23:15 Uhr: Die CONTRL auf ALOCAT Gas ist fällig in \
-         der Nacht vom 1. auf den 2. April 2026, am Donnerstag um 00:00 Uhr.\n\
+        "Eingang am Dienstag, dem 31. März 2026, um 23:15 Uhr: Die CONTRL auf ALOCAT Gas ist \
+         fällig in der Nacht vom 1. auf den 2. April 2026, am Donnerstag um 00:00 Uhr.\n\
          Ohne Umstellung wäre sie fällig in der Nacht vom 31. März auf den 1. April 2026, am \
-         Mittwoch um 00:00 Uhr. Das liegt im Zeitraum der Formatumstellung von Dienstag, 31. März \
-         2026, 18:00 Uhr, bis Donnerstag, 2. April 2026, 00:00 Uhr; darum gilt dessen Ende.",
+         Mittwoch um 00:00 Uhr. Das liegt im Zeitraum der Formatumstellung von Dienstag, dem 31. \
+         März 2026, 18:00 Uhr, bis Donnerstag, den 2. April 2026, 00:00 Uhr; darum gilt dessen \
+         Ende.",
     ),
     (
         "contrl Regelfall 2026-04-01T18:00:00+02:00",
-        "Eingang am Mittwoch, 1. April 2026, um 18:00 Uhr: Die CONTRL im Regelfall ist fällig in \
-         der Nacht vom 1. auf den 2. April 2026, am Donnerstag um 00:00 Uhr.\n\
+        "Eingang am Mittwoch, dem 1. April 2026, um 18:00 Uhr: Die CONTRL im Regelfall ist fällig \
+         in der Nacht vom 1. auf den 2. April 2026, am Donnerstag um 00:00 Uhr.\n\
          Dann endet der Zeitraum der Formatumstellung; an dieser Fälligkeit ändert er nichts.",
     ),
     (
         "contrl GasAlocat 2026-10-01T23:15:00+02:00",
-        "Eingang am Donnerstag, 1. Oktober 2026, um 23:15 Uhr: Die CONTRL auf ALOCAT Gas ist \
+        "Eingang am Donnerstag, dem 1. Oktober 2026, um 23:15 Uhr: Die CONTRL auf ALOCAT Gas ist \
          fällig in der Nacht vom 1. auf den 2. Oktober 2026, am Freitag um 00:00 Uhr.\n\
          Dann endet der Zeitraum der Formatumstellung; an dieser Fälligkeit ändert er nichts.",
     ),
     (
         "contrl Regelfall 2026-04-01T18:00:00.000000001+02:00",
-        "Eingang am Mittwoch, 1. April 2026, um 18:00:00,000000001 Uhr: Die CONTRL im Regelfall \
-         ist fällig am Donnerstag, 2. April 2026, um 00:00:00,000000001 Uhr.",
+        "Eingang am Mittwoch, dem 1. April 2026, um 18:00:00,000000001 Uhr: Die CONTRL im \
+         Regelfall ist fällig am Donnerstag, dem 2. April 2026, um 00:00:00,000000001 Uhr.",
     ),
     (
         "contrl Regelfall 2026-05-01T18:00:00+02:00",
-        "Eingang am Freitag, 1. Mai 2026, um 18:00 Uhr: Die CONTRL im Regelfall ist fällig in der \
-         Nacht vom 1. auf den 2. Mai 2026, am Samstag um 00:00 Uhr.",
+        "Eingang am Freitag, dem 1. Mai 2026, um 18:00 Uhr: Die CONTRL im Regelfall ist fällig in \
+         der Nacht vom 1. auf den 2. Mai 2026, am Samstag um 00:00 Uhr.",
     ),
 ];
 
@@ -538,122 +531,125 @@ pub const TOLERANCE: &[(&str, &str)] = &[
 pub const CHANGE_DAYS: &[(&str, &str)] = &[
     (
         "--stichtag=2026-06-06 contrl Regelfall 2026-06-05T12:00:00+02:00",
-        "Eingang am Freitag, 5. Juni 2026, um 12:00 Uhr: Die CONTRL im Regelfall ist fällig in der \
-         Nacht vom 6. auf den 7. Juni 2026, am Sonntag um 00:00 Uhr.\n\
+        "Eingang am Freitag, dem 5. Juni 2026, um 12:00 Uhr: Die CONTRL im Regelfall ist fällig \
+         in der Nacht vom 6. auf den 7. Juni 2026, am Sonntag um 00:00 Uhr.\n\
          Stichtag der Formatumstellung ist Samstag, der 6. Juni 2026; ihr Zeitraum geht von \
-         Freitag, 5. Juni 2026, 18:00 Uhr, bis Sonntag, 7. Juni 2026, 00:00 Uhr.\n\
-         Ohne Umstellung wäre die CONTRL fällig am Freitag, 5. Juni 2026, um 18:00 Uhr. Das liegt \
-         in diesem Zeitraum; darum gilt sein Ende.",
+         Freitag, dem 5. Juni 2026, 18:00 Uhr, bis Sonntag, den 7. Juni 2026, 00:00 Uhr.\n\
+         Ohne Umstellung wäre die CONTRL fällig am Freitag, dem 5. Juni 2026, um 18:00 Uhr. Das \
+         liegt in diesem Zeitraum; darum gilt sein Ende.",
     ),
     (
         "contrl Regelfall --stichtag 2026-06-06 2026-06-05T11:59:59.999999999+02:00",
-        "Eingang am Freitag, 5. Juni 2026, um 11:59:59,999999999 Uhr: Die CONTRL im Regelfall ist \
-         fällig am Freitag, 5. Juni 2026, um 17:59:59,999999999 Uhr.\n\
+        "Eingang am Freitag, dem 5. Juni 2026, um 11:59:59,999999999 Uhr: Die CONTRL im Regelfall \
+         ist fällig am Freitag, dem 5. Juni 2026, um 17:59:59,999999999 Uhr.\n\
          Stichtag der Formatumstellung ist Samstag, der 6. Juni 2026; ihr Zeitraum geht von \
-         Freitag, 5. Juni 2026, 18:00 Uhr, bis Sonntag, 7. Juni 2026, 00:00 Uhr.\n\
+         Freitag, dem 5. Juni 2026, 18:00 Uhr, bis Sonntag, den 7. Juni 2026, 00:00 Uhr.\n\
          An dieser Fälligkeit ändert er nichts.",
     ),
     (
         "contrl GasAlocat 2026-06-05T23:14:59.999999999+02:00 --stichtag 2026-06-06",
-        "Eingang am Freitag, 5. Juni 2026, um 23:14:59,999999999 Uhr: Die CONTRL auf ALOCAT Gas \
-         ist fällig in der Nacht vom 6. auf den 7. Juni 2026, am Sonntag um 00:00 Uhr.\n\
+        "Eingang am Freitag, dem 5. Juni 2026, um 23:14:59,999999999 Uhr: Die CONTRL auf ALOCAT \
+         Gas ist fällig in der Nacht vom 6. auf den 7. Juni 2026, am Sonntag um 00:00 Uhr.\n\
          Stichtag der Formatumstellung ist Samstag, der 6. Juni 2026; ihr Zeitraum geht von \
-         Freitag, 5. Juni 2026, 18:00 Uhr, bis Sonntag, 7. Juni 2026, 00:00 Uhr.\n\
-         Ohne Umstellung wäre die CONTRL fällig mit Ablauf des Freitags, 5. Juni 2026. Das liegt \
-         in diesem Zeitraum; darum gilt sein Ende.",
+         Freitag, dem 5. Juni 2026, 18:00 Uhr, bis Sonntag, den 7. Juni 2026, 00:00 Uhr.\n\
+         Ohne Umstellung wäre die CONTRL fällig mit Ablauf des Freitags, des 5. Juni 2026. Das \
+         liegt in diesem Zeitraum; darum gilt sein Ende.",
     ),
     (
         "contrl Regelfall 2026-06-06T18:00:00+02:00 --stichtag 2026-06-06",
-        "Eingang am Samstag, 6. Juni 2026, um 18:00 Uhr: Die CONTRL im Regelfall ist fällig in der \
-         Nacht vom 6. auf den 7. Juni 2026, am Sonntag um 00:00 Uhr.\n\
+        "Eingang am Samstag, dem 6. Juni 2026, um 18:00 Uhr: Die CONTRL im Regelfall ist fällig \
+         in der Nacht vom 6. auf den 7. Juni 2026, am Sonntag um 00:00 Uhr.\n\
          Stichtag der Formatumstellung ist Samstag, der 6. Juni 2026; ihr Zeitraum geht von \
-         Freitag, 5. Juni 2026, 18:00 Uhr, bis Sonntag, 7. Juni 2026, 00:00 Uhr.\n\
+         Freitag, dem 5. Juni 2026, 18:00 Uhr, bis Sonntag, den 7. Juni 2026, 00:00 Uhr.\n\
          An dieser Fälligkeit ändert er nichts.",
     ),
     (
         "contrl Regelfall 2026-03-31T12:00:00+02:00 --stichtag 2026-06-06",
-        "Eingang am Dienstag, 31. März 2026, um 12:00 Uhr: Die CONTRL im Regelfall ist fällig am \
-         Dienstag, 31. März 2026, um 18:00 Uhr.\n\
+        "Eingang am Dienstag, dem 31. März 2026, um 12:00 Uhr: Die CONTRL im Regelfall ist fällig \
+         am Dienstag, dem 31. März 2026, um 18:00 Uhr.\n\
          Stichtag der Formatumstellung ist Samstag, der 6. Juni 2026; ihr Zeitraum geht von \
-         Freitag, 5. Juni 2026, 18:00 Uhr, bis Sonntag, 7. Juni 2026, 00:00 Uhr.\n\
+         Freitag, dem 5. Juni 2026, 18:00 Uhr, bis Sonntag, den 7. Juni 2026, 00:00 Uhr.\n\
          An dieser Fälligkeit ändert er nichts.\n\
-         Den Zeitraum von Dienstag, 31. März 2026, 18:00 Uhr, bis Donnerstag, 2. April 2026, 00:00 \
-         Uhr, gibt es mit diesem Stichtag nicht.",
+         Den Zeitraum von Dienstag, dem 31. März 2026, 18:00 Uhr, bis Donnerstag, den 2. April \
+         2026, 00:00 Uhr, gibt es mit diesem Stichtag nicht.",
     ),
     (
         "contrl GasAlocat 2026-10-01T23:14:59+02:00 --stichtag 2026-04-01",
-        "Eingang am Donnerstag, 1. Oktober 2026, um 23:14:59 Uhr: Die CONTRL auf ALOCAT Gas ist \
-         fällig am Donnerstag, 1. Oktober 2026, um 23:59:59 Uhr.\n\
+        "Eingang am Donnerstag, dem 1. Oktober 2026, um 23:14:59 Uhr: Die CONTRL auf ALOCAT Gas \
+         ist fällig am Donnerstag, dem 1. Oktober 2026, um 23:59:59 Uhr.\n\
          Stichtag der Formatumstellung ist Mittwoch, der 1. April 2026; ihr Zeitraum geht von \
-         Dienstag, 31. März 2026, 18:00 Uhr, bis Donnerstag, 2. April 2026, 00:00 Uhr.\n\
+         Dienstag, dem 31. März 2026, 18:00 Uhr, bis Donnerstag, den 2. April 2026, 00:00 Uhr.\n\
          An dieser Fälligkeit ändert er nichts.\n\
-         Den Zeitraum von Mittwoch, 30. September 2026, 18:00 Uhr, bis Freitag, 2. Oktober 2026, \
-         00:00 Uhr, gibt es mit diesem Stichtag nicht.",
+         Den Zeitraum von Mittwoch, dem 30. September 2026, 18:00 Uhr, bis Freitag, den 2. \
+         Oktober 2026, 00:00 Uhr, gibt es mit diesem Stichtag nicht.",
     ),
     (
         "contrl GasAlocat 2026-04-01T12:00:00+02:00 --stichtag 2026-03-31",
-        "Eingang am Mittwoch, 1. April 2026, um 12:00 Uhr: Die CONTRL auf ALOCAT Gas ist fällig am \
-         Mittwoch, 1. April 2026, um 12:45 Uhr.\n\
+        "Eingang am Mittwoch, dem 1. April 2026, um 12:00 Uhr: Die CONTRL auf ALOCAT Gas ist \
+         fällig am Mittwoch, dem 1. April 2026, um 12:45 Uhr.\n\
          Stichtag der Formatumstellung ist Dienstag, der 31. März 2026; ihr Zeitraum geht von \
-         Montag, 30. März 2026, 18:00 Uhr, bis Mittwoch, 1. April 2026, 00:00 Uhr.\n\
+         Montag, dem 30. März 2026, 18:00 Uhr, bis Mittwoch, den 1. April 2026, 00:00 Uhr.\n\
          An dieser Fälligkeit ändert er nichts.\n\
-         Den Zeitraum von Dienstag, 31. März 2026, 18:00 Uhr, bis Donnerstag, 2. April 2026, 00:00 \
-         Uhr, gibt es mit diesem Stichtag nicht.",
+         Den Zeitraum von Dienstag, dem 31. März 2026, 18:00 Uhr, bis Donnerstag, den 2. April \
+         2026, 00:00 Uhr, gibt es mit diesem Stichtag nicht.",
     ),
     (
         "contrl GasAlocat 2026-03-31T20:00:00+02:00 --stichtag 2026-03-31",
-        "Eingang am Dienstag, 31. März 2026, um 20:00 Uhr: Die CONTRL auf ALOCAT Gas ist fällig in \
-         der Nacht vom 31. März auf den 1. April 2026, am Mittwoch um 00:00 Uhr.\n\
+        "Eingang am Dienstag, dem 31. März 2026, um 20:00 Uhr: Die CONTRL auf ALOCAT Gas ist \
+         fällig in der Nacht vom 31. März auf den 1. April 2026, am Mittwoch um 00:00 Uhr.\n\
          Stichtag der Formatumstellung ist Dienstag, der 31. März 2026; ihr Zeitraum geht von \
-         Montag, 30. März 2026, 18:00 Uhr, bis Mittwoch, 1. April 2026, 00:00 Uhr.\n\
-         Ohne Umstellung wäre die CONTRL fällig am Dienstag, 31. März 2026, um 20:45 Uhr. Das \
+         Montag, dem 30. März 2026, 18:00 Uhr, bis Mittwoch, den 1. April 2026, 00:00 Uhr.\n\
+         Ohne Umstellung wäre die CONTRL fällig am Dienstag, dem 31. März 2026, um 20:45 Uhr. Das \
          liegt in diesem Zeitraum; darum gilt sein Ende.\n\
-         Den Zeitraum von Dienstag, 31. März 2026, 18:00 Uhr, bis Donnerstag, 2. April 2026, 00:00 \
-         Uhr, gibt es mit diesem Stichtag nicht.",
+         Den Zeitraum von Dienstag, dem 31. März 2026, 18:00 Uhr, bis Donnerstag, den 2. April \
+         2026, 00:00 Uhr, gibt es mit diesem Stichtag nicht.",
     ),
     (
         "contrl Regelfall 2026-03-31T12:00:00+02:00 --stichtag 2026-04-01",
-        "Eingang am Dienstag, 31. März 2026, um 12:00 Uhr: Die CONTRL im Regelfall ist fällig in \
-         der Nacht vom 1. auf den 2. April 2026, am Donnerstag um 00:00 Uhr.\n\
+        "Eingang am Dienstag, dem 31. März 2026, um 12:00 Uhr: Die CONTRL im Regelfall ist fällig \
+         in der Nacht vom 1. auf den 2. April 2026, am Donnerstag um 00:00 Uhr.\n\
          Stichtag der Formatumstellung ist Mittwoch, der 1. April 2026; ihr Zeitraum geht von \
-         Dienstag, 31. März 2026, 18:00 Uhr, bis Donnerstag, 2. April 2026, 00:00 Uhr.\n\
-         Ohne Umstellung wäre die CONTRL fällig am Dienstag, 31. März 2026, um 18:00 Uhr. Das \
+         Dienstag, dem 31. März 2026, 18:00 Uhr, bis Donnerstag, den 2. April 2026, 00:00 Uhr.\n\
+         Ohne Umstellung wäre die CONTRL fällig am Dienstag, dem 31. März 2026, um 18:00 Uhr. Das \
          liegt in diesem Zeitraum; darum gilt sein Ende.",
     ),
     (
         "contrl StromUtilmdOderOrders 2026-10-24T20:30:00+02:00 --stichtag 2026-10-25",
-        "Eingang am Samstag, 24. Oktober 2026, um 20:30 Uhr: Die CONTRL auf UTILMD oder ORDERS \
-         Strom ist fällig in der Nacht vom 25. auf den 26. Oktober 2026, am Montag um 00:00 Uhr.\n\
+        "Eingang am Samstag, dem 24. Oktober 2026, um 20:30 Uhr: Die CONTRL auf UTILMD oder \
+         ORDERS Strom ist fällig in der Nacht vom 25. auf den 26. Oktober 2026, am Montag um \
+         00:00 Uhr.\n\
          Stichtag der Formatumstellung ist Sonntag, der 25. Oktober 2026; ihr Zeitraum geht von \
-         Samstag, 24. Oktober 2026, 18:00 Uhr, bis Montag, 26. Oktober 2026, 00:00 Uhr.\n\
-         Ohne Umstellung wäre die CONTRL fällig am Sonntag, 25. Oktober 2026, um 02:30 Uhr \
+         Samstag, dem 24. Oktober 2026, 18:00 Uhr, bis Montag, den 26. Oktober 2026, 00:00 Uhr.\n\
+         Ohne Umstellung wäre die CONTRL fällig am Sonntag, dem 25. Oktober 2026, um 02:30 Uhr \
          Sommerzeit. Das liegt in diesem Zeitraum; darum gilt sein Ende.",
     ),
     (
         "contrl-due-at-change Regelfall 1996-01-01T12:00:00+01:00 1996-01-02",
-        "Eingang am Montag, 1. Januar 1996, um 12:00 Uhr: Die CONTRL im Regelfall ist fällig in \
-         der Nacht vom 2. auf den 3. Januar 1996, am Mittwoch um 00:00 Uhr.\n\
+        "Eingang am Montag, dem 1. Januar 1996, um 12:00 Uhr: Die CONTRL im Regelfall ist fällig \
+         in der Nacht vom 2. auf den 3. Januar 1996, am Mittwoch um 00:00 Uhr.\n\
          Stichtag der Formatumstellung ist Dienstag, der 2. Januar 1996; ihr Zeitraum geht von \
-         Montag, 1. Januar 1996, 18:00 Uhr, bis Mittwoch, 3. Januar 1996, 00:00 Uhr.\n\
-         Ohne Umstellung wäre die CONTRL fällig am Montag, 1. Januar 1996, um 18:00 Uhr. Das liegt \
-         in diesem Zeitraum; darum gilt sein Ende.",
+         Montag, dem 1. Januar 1996, 18:00 Uhr, bis Mittwoch, den 3. Januar 1996, 00:00 Uhr.\n\
+         Ohne Umstellung wäre die CONTRL fällig am Montag, dem 1. Januar 1996, um 18:00 Uhr. Das \
+         liegt in diesem Zeitraum; darum gilt sein Ende.",
     ),
     (
         "contrl-due-at-change Regelfall 1996-01-01T12:00:00+01:00 2899-12-30",
-        "Eingang am Montag, 1. Januar 1996, um 12:00 Uhr: Die CONTRL im Regelfall ist fällig am \
-         Montag, 1. Januar 1996, um 18:00 Uhr.\n\
+        "Eingang am Montag, dem 1. Januar 1996, um 12:00 Uhr: Die CONTRL im Regelfall ist fällig \
+         am Montag, dem 1. Januar 1996, um 18:00 Uhr.\n\
          Stichtag der Formatumstellung ist Mittwoch, der 30. Dezember 2899; ihr Zeitraum geht von \
-         Dienstag, 29. Dezember 2899, 18:00 Uhr, bis Donnerstag, 31. Dezember 2899, 00:00 Uhr.\n\
+         Dienstag, dem 29. Dezember 2899, 18:00 Uhr, bis Donnerstag, den 31. Dezember 2899, 00:00 \
+         Uhr.\n\
          An dieser Fälligkeit ändert er nichts.",
     ),
     (
         "contrl-due-at-change Regelfall 2899-12-30T12:00:00+01:00 2899-12-30",
-        "Eingang am Mittwoch, 30. Dezember 2899, um 12:00 Uhr: Die CONTRL im Regelfall ist fällig \
-         in der Nacht vom 30. auf den 31. Dezember 2899, am Donnerstag um 00:00 Uhr.\n\
+        "Eingang am Mittwoch, dem 30. Dezember 2899, um 12:00 Uhr: Die CONTRL im Regelfall ist \
+         fällig in der Nacht vom 30. auf den 31. Dezember 2899, am Donnerstag um 00:00 Uhr.\n\
          Stichtag der Formatumstellung ist Mittwoch, der 30. Dezember 2899; ihr Zeitraum geht von \
-         Dienstag, 29. Dezember 2899, 18:00 Uhr, bis Donnerstag, 31. Dezember 2899, 00:00 Uhr.\n\
-         Ohne Umstellung wäre die CONTRL fällig am Mittwoch, 30. Dezember 2899, um 18:00 Uhr. Das \
-         liegt in diesem Zeitraum; darum gilt sein Ende.",
+         Dienstag, dem 29. Dezember 2899, 18:00 Uhr, bis Donnerstag, den 31. Dezember 2899, 00:00 \
+         Uhr.\n\
+         Ohne Umstellung wäre die CONTRL fällig am Mittwoch, dem 30. Dezember 2899, um 18:00 Uhr. \
+         Das liegt in diesem Zeitraum; darum gilt sein Ende.",
     ),
 ];
 
@@ -661,36 +657,36 @@ pub const CHANGE_DAYS: &[(&str, &str)] = &[
 pub const TWICE: &[(&str, &str)] = &[
     (
         "contrl Regelfall 25.10.2026 02:30",
-        "Eingang am Sonntag, 25. Oktober 2026, um 02:30 Uhr Sommerzeit: Die CONTRL im Regelfall \
-         ist fällig am Sonntag, 25. Oktober 2026, um 07:30 Uhr. Dazwischen wird die Uhr um eine \
-         Stunde zurückgestellt.\n\
-         Am Sonntag, 25. Oktober 2026, zeigt die Uhr in Berlin zweimal 02:30 Uhr; gemeint ist die \
-         frühere.",
+        "Eingang am Sonntag, dem 25. Oktober 2026, um 02:30 Uhr Sommerzeit: Die CONTRL im \
+         Regelfall ist fällig am Sonntag, dem 25. Oktober 2026, um 07:30 Uhr. Dazwischen wird die \
+         Uhr um eine Stunde zurückgestellt.\n\
+         Am Sonntag, dem 25. Oktober 2026, zeigt die Uhr in Berlin zweimal 02:30 Uhr; gemeint ist \
+         die frühere.",
     ),
     (
         "contrl Regelfall 2026-10-25T02:30 --stichtag 2026-06-06",
-        "Eingang am Sonntag, 25. Oktober 2026, um 02:30 Uhr Sommerzeit: Die CONTRL im Regelfall \
-         ist fällig am Sonntag, 25. Oktober 2026, um 07:30 Uhr. Dazwischen wird die Uhr um eine \
-         Stunde zurückgestellt.\n\
+        "Eingang am Sonntag, dem 25. Oktober 2026, um 02:30 Uhr Sommerzeit: Die CONTRL im \
+         Regelfall ist fällig am Sonntag, dem 25. Oktober 2026, um 07:30 Uhr. Dazwischen wird die \
+         Uhr um eine Stunde zurückgestellt.\n\
          Stichtag der Formatumstellung ist Samstag, der 6. Juni 2026; ihr Zeitraum geht von \
-         Freitag, 5. Juni 2026, 18:00 Uhr, bis Sonntag, 7. Juni 2026, 00:00 Uhr.\n\
+         Freitag, dem 5. Juni 2026, 18:00 Uhr, bis Sonntag, den 7. Juni 2026, 00:00 Uhr.\n\
          An dieser Fälligkeit ändert er nichts.\n\
-         Am Sonntag, 25. Oktober 2026, zeigt die Uhr in Berlin zweimal 02:30 Uhr; gemeint ist die \
-         frühere.",
+         Am Sonntag, dem 25. Oktober 2026, zeigt die Uhr in Berlin zweimal 02:30 Uhr; gemeint ist \
+         die frühere.",
     ),
     (
         "berlin-date 2026-10-25T02:30",
         "In Berlin ist es dann Sonntag, der 25. Oktober 2026, 02:30 Uhr Sommerzeit.\n\
-         Am Sonntag, 25. Oktober 2026, zeigt die Uhr in Berlin zweimal 02:30 Uhr; gemeint ist die \
-         frühere.",
+         Am Sonntag, dem 25. Oktober 2026, zeigt die Uhr in Berlin zweimal 02:30 Uhr; gemeint ist \
+         die frühere.",
     ),
     (
         "add-hours 25.10.2026 02:30 1",
-        "1 Stunde nach Sonntag, 25. Oktober 2026, 02:30 Uhr Sommerzeit, ist es Sonntag, 25. \
-         Oktober 2026, 02:30 Uhr Winterzeit. Dazwischen wird die Uhr um eine Stunde \
+        "1 Stunde nach Sonntag, dem 25. Oktober 2026, 02:30 Uhr Sommerzeit, ist es Sonntag, der \
+         25. Oktober 2026, 02:30 Uhr Winterzeit. Dazwischen wird die Uhr um eine Stunde \
          zurückgestellt.\n\
-         Am Sonntag, 25. Oktober 2026, zeigt die Uhr in Berlin zweimal 02:30 Uhr; gemeint ist die \
-         frühere.",
+         Am Sonntag, dem 25. Oktober 2026, zeigt die Uhr in Berlin zweimal 02:30 Uhr; gemeint ist \
+         die frühere.",
     ),
     (
         "check-at Korridor 0 2026-10-25T02:30 2026-10-25T00:00 Strom",
@@ -698,7 +694,7 @@ pub const TWICE: &[(&str, &str)] = &[
          25. Oktober 2026.\n\
          Zulässig ist nur Sonntag, der 25. Oktober 2026.\n\
          Der Übertragungstag muss der Termin selbst sein: Sonntag, der 25. Oktober 2026.\n\
-         Am Sonntag, 25. Oktober 2026, zeigt die Uhr in Berlin zweimal 02:30 Uhr; gemeint ist die \
-         frühere.",
+         Am Sonntag, dem 25. Oktober 2026, zeigt die Uhr in Berlin zweimal 02:30 Uhr; gemeint ist \
+         die frühere.",
     ),
 ];

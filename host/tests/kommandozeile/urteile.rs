@@ -660,142 +660,142 @@ const SPANS: &[(&str, &str)] = &[
 const BIS_WANN: &[(&str, &str)] = &[
     (
         "bis-wann LatestWerktageBefore 1 2026-04-07",
-        "Für den Termin Dienstag, 7. April 2026, muss die Nachricht spätestens am Donnerstag, 2. \
-         April 2026, übertragen sein.\n\
+        "Für den Termin am Dienstag, dem 7. April 2026, muss die Nachricht spätestens am \
+         Donnerstag, dem 2. April 2026, übertragen sein.\n\
          Spätester Übertragungstag ist der 1. Werktag vor dem Termin.",
     ),
     (
         "bis-wann LatestWerktageBefore 0 2026-04-05",
-        "Für den Termin Sonntag, 5. April 2026, muss die Nachricht spätestens am Sonntag, 5. April \
-         2026, übertragen sein.\n\
+        "Für den Termin am Sonntag, dem 5. April 2026, muss die Nachricht spätestens am Sonntag, \
+         dem 5. April 2026, übertragen sein.\n\
          Spätester Übertragungstag ist der Termin selbst.",
     ),
     (
         "bis-wann WindowWerktageBefore 8 5 2026-04-24",
-        "Für den Termin Freitag, 24. April 2026, muss die Nachricht von Dienstag, dem 14. April \
-         2026, bis Freitag, den 17. April 2026, übertragen werden.\n\
+        "Für den Termin am Freitag, dem 24. April 2026, muss die Nachricht von Dienstag, dem 14. \
+         April 2026, bis Freitag, den 17. April 2026, übertragen werden.\n\
          Der Übertragungstag muss vom 8. bis zum 5. Werktag vor dem Termin liegen.",
     ),
     (
         "bis-wann WindowWerktageBefore 2 0 2026-04-07",
-        "Für den Termin Dienstag, 7. April 2026, muss die Nachricht von Mittwoch, dem 1. April \
-         2026, bis Dienstag, den 7. April 2026, übertragen werden.\n\
+        "Für den Termin am Dienstag, dem 7. April 2026, muss die Nachricht von Mittwoch, dem 1. \
+         April 2026, bis Dienstag, den 7. April 2026, übertragen werden.\n\
          Der Übertragungstag muss vom 2. Werktag vor dem Termin bis zum Termin selbst liegen.",
     ),
     (
         "bis-wann WindowWerktageBefore 1 1 2026-04-07",
-        "Für den Termin Dienstag, 7. April 2026, muss die Nachricht am Donnerstag, 2. April 2026, \
-         übertragen werden.\n\
+        "Für den Termin am Dienstag, dem 7. April 2026, muss die Nachricht am Donnerstag, dem 2. \
+         April 2026, übertragen werden.\n\
          Der Übertragungstag muss der 1. Werktag vor dem Termin sein.",
     ),
     (
         "bis-wann WindowWerktageBefore 0 5 2026-01-19",
-        "Für den Termin Montag, 19. Januar 2026, gibt es keinen Übertragungstag.\n\
+        "Für den Termin am Montag, dem 19. Januar 2026, gibt es keinen Übertragungstag.\n\
          Frühester Übertragungstag ist der Termin selbst, spätester ist der 5. Werktag vor dem \
          Termin: der Zeitraum endet, bevor er beginnt.",
     ),
     (
         "bis-wann WindowWerktageBefore 1 2 2026-01-19",
-        "Für den Termin Montag, 19. Januar 2026, gibt es keinen Übertragungstag.\n\
-         Frühester Übertragungstag ist der 1. Werktag vor dem Termin, spätester ist der 2. Werktag \
-         vor dem Termin: der Zeitraum endet, bevor er beginnt.",
+        "Für den Termin am Montag, dem 19. Januar 2026, gibt es keinen Übertragungstag.\n\
+         Frühester Übertragungstag ist der 1. Werktag vor dem Termin, spätester ist der 2. \
+         Werktag vor dem Termin: der Zeitraum endet, bevor er beginnt.",
     ),
     (
         "bis-wann LatestWerktageAfter 3 2026-04-02",
-        "Für den Termin Donnerstag, 2. April 2026, muss die Nachricht spätestens am Donnerstag, 9. \
-         April 2026, übertragen sein.\n\
+        "Für den Termin am Donnerstag, dem 2. April 2026, muss die Nachricht spätestens am \
+         Donnerstag, dem 9. April 2026, übertragen sein.\n\
          Spätester Übertragungstag ist der 3. Werktag nach dem Termin.",
     ),
     (
         "bis-wann LatestWerktageAfter 0 2026-04-02",
-        "Für den Termin Donnerstag, 2. April 2026, muss die Nachricht spätestens am Donnerstag, 2. \
-         April 2026, übertragen sein.\n\
+        "Für den Termin am Donnerstag, dem 2. April 2026, muss die Nachricht spätestens am \
+         Donnerstag, dem 2. April 2026, übertragen sein.\n\
          Spätester Übertragungstag ist der Termin selbst.",
     ),
     (
         "bis-wann EarliestWerktageAfter 2 2026-04-13",
-        "Für den Termin Montag, 13. April 2026, muss die Nachricht spätestens am Donnerstag, 9. \
-         April 2026, übertragen sein.\n\
+        "Für den Termin am Montag, dem 13. April 2026, muss die Nachricht spätestens am \
+         Donnerstag, dem 9. April 2026, übertragen sein.\n\
          Frühester Termin ist der 2. Werktag nach dem Übertragungstag.",
     ),
     (
         "bis-wann EarliestWerktageAfter 1 2026-04-07",
-        "Für den Termin Dienstag, 7. April 2026, muss die Nachricht spätestens am Montag, 6. April \
-         2026, übertragen sein.\n\
+        "Für den Termin am Dienstag, dem 7. April 2026, muss die Nachricht spätestens am Montag, \
+         dem 6. April 2026, übertragen sein.\n\
          Frühester Termin ist der 1. Werktag nach dem Übertragungstag.",
     ),
     (
         "bis-wann EarliestWerktageAfter 1 2026-04-06",
-        "Für den Termin Montag, 6. April 2026, muss die Nachricht spätestens am Mittwoch, 1. April \
-         2026, übertragen sein.\n\
+        "Für den Termin am Montag, dem 6. April 2026, muss die Nachricht spätestens am Mittwoch, \
+         dem 1. April 2026, übertragen sein.\n\
          Frühester Termin ist der 1. Werktag nach dem Übertragungstag.",
     ),
     (
         "bis-wann EarliestWerktageAfter 0 2026-04-06",
-        "Für den Termin Montag, 6. April 2026, muss die Nachricht spätestens am Montag, 6. April \
-         2026, übertragen sein.\n\
+        "Für den Termin am Montag, dem 6. April 2026, muss die Nachricht spätestens am Montag, \
+         dem 6. April 2026, übertragen sein.\n\
          Frühester Termin ist der Übertragungstag selbst.",
     ),
     (
         "bis-wann Korridor 5 2026-04-24",
-        "Für den Termin Freitag, 24. April 2026, muss die Nachricht von Freitag, dem 17. April \
-         2026, bis Montag, den 4. Mai 2026, übertragen werden.\n\
+        "Für den Termin am Freitag, dem 24. April 2026, muss die Nachricht von Freitag, dem 17. \
+         April 2026, bis Montag, den 4. Mai 2026, übertragen werden.\n\
          Der Übertragungstag muss vom 5. Werktag vor bis zum 5. Werktag nach dem Termin liegen.",
     ),
     (
         "bis-wann Korridor 0 2026-04-05",
-        "Für den Termin Sonntag, 5. April 2026, muss die Nachricht am Sonntag, 5. April 2026, \
-         übertragen werden.\n\
+        "Für den Termin am Sonntag, dem 5. April 2026, muss die Nachricht am Sonntag, dem 5. \
+         April 2026, übertragen werden.\n\
          Der Übertragungstag muss der Termin selbst sein.",
     ),
     (
         "bis-wann TagVorDemLetztenWerktagVor 2026-01-13",
-        "Für den Termin Dienstag, 13. Januar 2026, muss die Nachricht spätestens am Sonntag, 11. \
-         Januar 2026, übertragen sein.\n\
+        "Für den Termin am Dienstag, dem 13. Januar 2026, muss die Nachricht spätestens am \
+         Sonntag, dem 11. Januar 2026, übertragen sein.\n\
          Spätester Übertragungstag ist der Tag vor dem letzten Werktag vor dem Termin.",
     ),
     (
         "bis-wann LatestMonateBefore 1 2026-03-31",
-        "Für den Termin Dienstag, 31. März 2026, muss die Nachricht spätestens am Samstag, 28. \
-         Februar 2026, übertragen sein.\n\
+        "Für den Termin am Dienstag, dem 31. März 2026, muss die Nachricht spätestens am Samstag, \
+         dem 28. Februar 2026, übertragen sein.\n\
          Der späteste Übertragungstag liegt 1 Monat vor dem Termin.",
     ),
     (
         "bis-wann LatestMonateBefore 3 2026-04-07",
-        "Für den Termin Dienstag, 7. April 2026, muss die Nachricht spätestens am Mittwoch, 7. \
-         Januar 2026, übertragen sein.\n\
+        "Für den Termin am Dienstag, dem 7. April 2026, muss die Nachricht spätestens am \
+         Mittwoch, dem 7. Januar 2026, übertragen sein.\n\
          Der späteste Übertragungstag liegt 3 Monate vor dem Termin.",
     ),
     (
         "bis-wann LatestMonateBefore 0 2026-04-07",
-        "Für den Termin Dienstag, 7. April 2026, muss die Nachricht spätestens am Dienstag, 7. \
-         April 2026, übertragen sein.\n\
+        "Für den Termin am Dienstag, dem 7. April 2026, muss die Nachricht spätestens am \
+         Dienstag, dem 7. April 2026, übertragen sein.\n\
          Spätester Übertragungstag ist der Termin selbst.",
     ),
     (
         "bis-wann LatestMonateUndWerktageBefore 1 5 2026-05-05",
-        "Für den Termin Dienstag, 5. Mai 2026, muss die Nachricht spätestens am Freitag, 27. März \
-         2026, übertragen sein.\n\
+        "Für den Termin am Dienstag, dem 5. Mai 2026, muss die Nachricht spätestens am Freitag, \
+         dem 27. März 2026, übertragen sein.\n\
          Spätester Übertragungstag ist der 5. Werktag vor dem Tag, der 1 Monat vor dem Termin \
          liegt.",
     ),
     (
         "bis-wann LatestMonateUndWerktageBefore 2 1 2026-04-01",
-        "Für den Termin Mittwoch, 1. April 2026, muss die Nachricht spätestens am Freitag, 30. \
-         Januar 2026, übertragen sein.\n\
+        "Für den Termin am Mittwoch, dem 1. April 2026, muss die Nachricht spätestens am Freitag, \
+         dem 30. Januar 2026, übertragen sein.\n\
          Spätester Übertragungstag ist der 1. Werktag vor dem Tag, der 2 Monate vor dem Termin \
          liegt.",
     ),
     (
         "bis-wann LatestMonateUndWerktageBefore 0 2 2026-04-07",
-        "Für den Termin Dienstag, 7. April 2026, muss die Nachricht spätestens am Mittwoch, 1. \
-         April 2026, übertragen sein.\n\
+        "Für den Termin am Dienstag, dem 7. April 2026, muss die Nachricht spätestens am \
+         Mittwoch, dem 1. April 2026, übertragen sein.\n\
          Spätester Übertragungstag ist der 2. Werktag vor dem Termin.",
     ),
     (
         "bis-wann LatestMonateUndWerktageBefore 1 0 2026-04-07",
-        "Für den Termin Dienstag, 7. April 2026, muss die Nachricht spätestens am Samstag, 7. März \
-         2026, übertragen sein.\n\
+        "Für den Termin am Dienstag, dem 7. April 2026, muss die Nachricht spätestens am Samstag, \
+         dem 7. März 2026, übertragen sein.\n\
          Der späteste Übertragungstag liegt 1 Monat vor dem Termin.",
     ),
 ];
@@ -804,32 +804,32 @@ const BIS_WANN: &[(&str, &str)] = &[
 const NOT_UNTIL: &[(&str, &str)] = &[
     (
         "bis-wann LatestWerktageBefore 1 1996-01-02",
-        "Abgelehnt (8): Der späteste Übertragungstag für den Termin Dienstag, 2. Januar 1996, \
-         liegt vor dem 1. Januar 1996, dem ersten Tag des Kalenders.",
+        "Abgelehnt (8): Der späteste Übertragungstag für den Termin am Dienstag, dem 2. Januar \
+         1996, liegt vor dem 1. Januar 1996, dem ersten Tag des Kalenders.",
     ),
     (
         "bis-wann EarliestWerktageAfter 1 1996-01-01",
-        "Abgelehnt (8): Der späteste Übertragungstag für den Termin Montag, 1. Januar 1996, \
-         liegt vor dem 1. Januar 1996, dem ersten Tag des Kalenders.",
+        "Abgelehnt (8): Der späteste Übertragungstag für den Termin am Montag, dem 1. Januar \
+         1996, liegt vor dem 1. Januar 1996, dem ersten Tag des Kalenders.",
     ),
     (
         "bis-wann Korridor 1 1996-01-02",
-        "Abgelehnt (8): Der früheste Übertragungstag für den Termin Dienstag, 2. Januar 1996, \
-         liegt vor dem 1. Januar 1996, dem ersten Tag des Kalenders.",
+        "Abgelehnt (8): Der früheste Übertragungstag für den Termin am Dienstag, dem 2. Januar \
+         1996, liegt vor dem 1. Januar 1996, dem ersten Tag des Kalenders.",
     ),
     (
         "bis-wann WindowWerktageBefore 2 0 1996-01-03",
-        "Abgelehnt (8): Der früheste Übertragungstag für den Termin Mittwoch, 3. Januar 1996, \
-         liegt vor dem 1. Januar 1996, dem ersten Tag des Kalenders.",
+        "Abgelehnt (8): Der früheste Übertragungstag für den Termin am Mittwoch, dem 3. Januar \
+         1996, liegt vor dem 1. Januar 1996, dem ersten Tag des Kalenders.",
     ),
     (
         "bis-wann Korridor 1 2899-12-30",
-        "Abgelehnt (8): Der späteste Übertragungstag für den Termin Mittwoch, 30. Dezember \
+        "Abgelehnt (8): Der späteste Übertragungstag für den Termin am Mittwoch, dem 30. Dezember \
          2899, liegt hinter dem 31. Dezember 2899, dem letzten Tag des Kalenders.",
     ),
     (
         "bis-wann LatestWerktageAfter 2 2899-12-29",
-        "Abgelehnt (8): Der späteste Übertragungstag für den Termin Dienstag, 29. Dezember \
+        "Abgelehnt (8): Der späteste Übertragungstag für den Termin am Dienstag, dem 29. Dezember \
          2899, liegt hinter dem 31. Dezember 2899, dem letzten Tag des Kalenders.",
     ),
     (

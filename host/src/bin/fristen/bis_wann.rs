@@ -1,6 +1,6 @@
 //! Until when a message must be sent for its anchor.
 
-use crate::deutsch::{dem, den, tag};
+use crate::deutsch::{dem, den};
 use crate::sentences::anchor::TERMIN;
 use crate::sentences::rule;
 use crate::uebertragung::Uebertragungstage;
@@ -24,16 +24,16 @@ impl BisWann {
 
     /// The days first, then the rule.
     pub fn text(&self) -> String {
-        let (anchor, rule) = (tag(self.anchor), rule::of(self.shape, &TERMIN));
+        let (anchor, rule) = (dem(self.anchor), rule::of(self.shape, &TERMIN));
         let Uebertragungstage { first, last } = self.days;
         if self.days.is_empty() {
-            return format!("Für den Termin {anchor}, gibt es keinen Übertragungstag.\n{rule}");
+            return format!("Für den Termin am {anchor}, gibt es keinen Übertragungstag.\n{rule}");
         }
         let days = match first {
-            Some(first) if first == last => format!("am {}, übertragen werden", tag(last)),
+            Some(first) if first == last => format!("am {}, übertragen werden", dem(last)),
             Some(first) => format!("von {}, bis {}, übertragen werden", dem(first), den(last)),
-            None => format!("spätestens am {}, übertragen sein", tag(last)),
+            None => format!("spätestens am {}, übertragen sein", dem(last)),
         };
-        format!("Für den Termin {anchor}, muss die Nachricht {days}.\n{rule}")
+        format!("Für den Termin am {anchor}, muss die Nachricht {days}.\n{rule}")
     }
 }

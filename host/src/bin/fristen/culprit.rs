@@ -1,6 +1,6 @@
 //! Which part of a question a call refuses, and why, in German.
 
-use crate::deutsch::{dem, monat, monate, stunden, tag, zeitpunkt};
+use crate::deutsch::{dem, monat, monate, stunden, zeitpunkt};
 use crate::inquiry::Inquiry;
 use crate::uebertragung::opening;
 use mako_fristen_host::{
@@ -37,7 +37,7 @@ pub fn of_anchor(asked: (VorlaufShape, Date), refusal: Refusal) -> String {
 
 /// Only the last day of some shapes lies behind the anchor.
 fn end_leaves((shape, anchor): (VorlaufShape, Date)) -> String {
-    let for_anchor = format!("Übertragungstag für den Termin {}, liegt", tag(anchor));
+    let for_anchor = format!("Übertragungstag für den Termin am {}, liegt", dem(anchor));
     let before = format!("vor dem {FIRST}, dem ersten Tag des Kalenders.");
     if opening(shape, anchor).is_err() {
         return format!("Der früheste {for_anchor} {before}");

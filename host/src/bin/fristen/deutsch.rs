@@ -64,14 +64,19 @@ fn day_and_month(date: Date) -> String {
     format!("{}. {}", date.day, monat(date.month))
 }
 
-/// `am Dienstag, 31. März 2026, um 17:59:59 Uhr`
+/// `am Dienstag, dem 31. März 2026, um 17:59:59 Uhr`
 pub fn am(time: BerlinTime) -> String {
-    format!("am {}, um {}", tag(time.date), uhr(time))
+    format!("am {}, um {}", dem(time.date), uhr(time))
 }
 
 /// `Dienstag, 31. März 2026, 17:59:59 Uhr`
 pub fn zeitpunkt(time: BerlinTime) -> String {
-    format!("{}, {}", tag(time.date), uhr(time))
+    with_clock(time, tag)
+}
+
+/// The same with the day's article: `Dienstag, dem 31. März 2026, 17:59:59 Uhr`
+pub fn with_clock(time: BerlinTime, day: fn(Date) -> String) -> String {
+    format!("{}, {}", day(time.date), uhr(time))
 }
 
 /// As in 'endet …': the end of a day by the day, its beginning by the night, any other instant by
@@ -80,7 +85,7 @@ pub fn faellig(time: BerlinTime) -> String {
     let BerlinTime { date, clock, .. } = time;
     match date.weekday() {
         Some(weekday) if clock == TAGESENDE => {
-            format!("mit Ablauf des {weekday}s, {} {}", day_and_month(date), date.year)
+            format!("mit Ablauf des {weekday}s, des {} {}", day_and_month(date), date.year)
         }
         Some(weekday) if clock == Clock::default() => {
             format!("in der {}, am {weekday} um {}", nacht_auf(date), uhr(time))
@@ -116,14 +121,14 @@ pub fn uhr(time: BerlinTime) -> String {
 
 /// Of an instant that was given by a clock time which the clock shows twice.
 pub fn zweimal(time: BerlinTime) -> String {
-    let (day, uhr) = (tag(time.date), time.clock.uhr());
+    let (day, uhr) = (dem(time.date), time.clock.uhr());
     format!("Am {day}, zeigt die Uhr in Berlin zweimal {uhr}; gemeint ist die frühere.")
 }
 
-/// `Sonntag, 25. Oktober 2026, 00:30 Uhr Weltzeit (UTC)`
+/// `Sonntag, der 25. Oktober 2026, 00:30 Uhr Weltzeit (UTC)`
 pub fn utc(instant: Instant) -> String {
     match instant.utc() {
-        Some((date, clock)) => format!("{}, {} Weltzeit (UTC)", tag(date), clock.uhr()),
+        Some((date, clock)) => format!("{}, {} Weltzeit (UTC)", der(date), clock.uhr()),
         None => instant.to_string(),
     }
 }
@@ -195,10 +200,10 @@ mod tests {
     fn only_midnight_is_a_night_and_only_the_last_instant_the_end() {
         let date = Date::new(2026, 4, 2);
         let just_after = at(date, Clock::new(0, 0, 0, 1));
-        assert_eq!(just_after, "am Donnerstag, 2. April 2026, um 00:00:00,000000001 Uhr");
-        assert_eq!(at(date, TAGESENDE), "mit Ablauf des Donnerstags, 2. April 2026");
+        assert_eq!(just_after, "am Donnerstag, dem 2. April 2026, um 00:00:00,000000001 Uhr");
+        assert_eq!(at(date, TAGESENDE), "mit Ablauf des Donnerstags, des 2. April 2026");
         let just_before = at(date, Clock::new(23, 59, 59, 999_999_998));
-        assert_eq!(just_before, "am Donnerstag, 2. April 2026, um 23:59:59,999999998 Uhr");
+        assert_eq!(just_before, "am Donnerstag, dem 2. April 2026, um 23:59:59,999999998 Uhr");
     }
 
     #[test]

@@ -61,10 +61,10 @@ Fristgerecht von 00:00 bis 13:00 Uhr des letzten Werktags vor dem Zuordnungsbegi
 Zuordnungsbeginn an weder fristgerecht noch verspätet.",
         examples: &[Example::new(
             "ankuendigung 2026-01-09T13:00:00+01:00 2026-01-12",
-            "Fristgerecht: Eingang am Freitag, 9. Januar 2026, um 13:00 Uhr, Zuordnungsbeginn \
+            "Fristgerecht: Eingang am Freitag, dem 9. Januar 2026, um 13:00 Uhr, Zuordnungsbeginn \
              Montag, 12. Januar 2026.\n\
              Fristgerecht ist die Ankündigung am letzten Werktag vor dem Zuordnungsbeginn von \
-             00:00 bis 13:00 Uhr: am Freitag, 9. Januar 2026.",
+             00:00 bis 13:00 Uhr: am Freitag, dem 9. Januar 2026.",
         )],
     },
 ];

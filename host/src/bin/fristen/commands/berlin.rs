@@ -14,9 +14,9 @@ Zeigt die Uhr die Zeit zweimal, so gilt die frühere. Gibt es sie an dem Tag nic
 so wird abgelehnt (6).",
         examples: &[Example::new(
             "berlin-at 2026-10-25 02:30",
-            "Sonntag, 25. Oktober 2026, 02:30 Uhr Sommerzeit in Berlin ist Sonntag, 25. Oktober \
-             2026, 00:30 Uhr Weltzeit (UTC). Die Uhr zeigt diese Zeit zweimal; gemeint ist die \
-             frühere.",
+            "Sonntag, der 25. Oktober 2026, 02:30 Uhr Sommerzeit in Berlin ist Sonntag, der 25. \
+             Oktober 2026, 00:30 Uhr Weltzeit (UTC). Die Uhr zeigt diese Zeit zweimal; gemeint \
+             ist die frühere.",
         )],
     },
     Command {
@@ -29,8 +29,8 @@ so wird abgelehnt (6).",
         meaning: "Der Beginn des Tages in Berlin.",
         examples: &[Example::new(
             "berlin-midnight 2026-03-29",
-            "Sonntag, der 29. März 2026, beginnt in Berlin um 00:00 Uhr; das ist Samstag, 28. März \
-             2026, 23:00 Uhr Weltzeit (UTC).",
+            "Sonntag, der 29. März 2026, beginnt in Berlin um 00:00 Uhr; das ist Samstag, der 28. \
+             März 2026, 23:00 Uhr Weltzeit (UTC).",
         )],
     },
     Command {
@@ -44,7 +44,7 @@ so wird abgelehnt (6).",
         examples: &[Example::new(
             "end-of-day-berlin 2026-03-29",
             "Sonntag, der 29. März 2026, endet in Berlin um 23:59:59,999999999 Uhr; das ist \
-             Sonntag, 29. März 2026, 21:59:59,999999999 Uhr Weltzeit (UTC).",
+             Sonntag, der 29. März 2026, 21:59:59,999999999 Uhr Weltzeit (UTC).",
         )],
     },
     Command {
@@ -59,8 +59,8 @@ Strom beginnt um 00:00 Uhr, Gas um 06:00 Uhr gesetzlicher deutscher Zeit.
 SPARTE ist Strom oder Gas.",
         examples: &[Example::new(
             "tagesbeginn-utc 2026-03-29 Gas",
-            "In der Sparte Gas beginnt Sonntag, der 29. März 2026, in Berlin um 06:00 Uhr; das ist \
-             Sonntag, 29. März 2026, 04:00 Uhr Weltzeit (UTC).",
+            "In der Sparte Gas beginnt Sonntag, der 29. März 2026, in Berlin um 06:00 Uhr; das \
+             ist Sonntag, der 29. März 2026, 04:00 Uhr Weltzeit (UTC).",
         )],
     },
     Command {

@@ -3,12 +3,12 @@ use mako_fristen_host::{Call, Parameter};
 
 /// The output of both examples with a change day.
 const VERLEGT: &str =
-    "Eingang am Freitag, 5. Juni 2026, um 12:00 Uhr: Die CONTRL im Regelfall ist fällig in der \
-     Nacht vom 6. auf den 7. Juni 2026, am Sonntag um 00:00 Uhr.\n\
+    "Eingang am Freitag, dem 5. Juni 2026, um 12:00 Uhr: Die CONTRL im Regelfall ist fällig in \
+     der Nacht vom 6. auf den 7. Juni 2026, am Sonntag um 00:00 Uhr.\n\
      Stichtag der Formatumstellung ist Samstag, der 6. Juni 2026; ihr Zeitraum geht von Freitag, \
-     5. Juni 2026, 18:00 Uhr, bis Sonntag, 7. Juni 2026, 00:00 Uhr.\n\
-     Ohne Umstellung wäre die CONTRL fällig am Freitag, 5. Juni 2026, um 18:00 Uhr. Das liegt in \
-     diesem Zeitraum; darum gilt sein Ende.";
+     dem 5. Juni 2026, 18:00 Uhr, bis Sonntag, den 7. Juni 2026, 00:00 Uhr.\n\
+     Ohne Umstellung wäre die CONTRL fällig am Freitag, dem 5. Juni 2026, um 18:00 Uhr. Das liegt \
+     in diesem Zeitraum; darum gilt sein Ende.";
 
 pub const COMMANDS: [Command; 13] = [
     Command {
@@ -20,7 +20,7 @@ pub const COMMANDS: [Command; 13] = [
         summary: "wann die CONTRL fällig ist",
         meaning: "\
 ANLASS ist Regelfall (6 Stunden), StromUtilmdOderOrders (15 Minuten, bei Eingang an
-einem Samstag 6 Stunden) oder GasAlocat (45 Minuten). Wäre sie vom 31. März,
+einem Samstag 6 Stunden) oder GasAlocat (45 Minuten). Wäre die CONTRL vom 31. März,
 18:00 Uhr, an und vor dem 2. April, 00:00 Uhr, fällig, so ist sie es am 2. April um
 00:00 Uhr; ebenso vom 30. September bis zum 2. Oktober (CONTRL AHB 1.0).
 --stichtag nennt den Tag einer verlegten Formatumstellung. Dann gibt es nur ihren
@@ -28,15 +28,15 @@ Zeitraum: von 18:00 Uhr des Tages davor bis 00:00 Uhr des Tages danach. Dasselbe
 ohne Option: contrl-due-at-change.",
         examples: &[Example::new(
             "contrl Regelfall 2026-03-31T11:59:59+02:00",
-            "Eingang am Dienstag, 31. März 2026, um 11:59:59 Uhr: Die CONTRL im Regelfall ist \
-             fällig am Dienstag, 31. März 2026, um 17:59:59 Uhr.",
+            "Eingang am Dienstag, dem 31. März 2026, um 11:59:59 Uhr: Die CONTRL im Regelfall ist \
+             fällig am Dienstag, dem 31. März 2026, um 17:59:59 Uhr.",
         ), Example::new(
             "contrl Regelfall 31.3.2026 12:00",
-            "Eingang am Dienstag, 31. März 2026, um 12:00 Uhr: Die CONTRL im Regelfall ist fällig \
-             in der Nacht vom 1. auf den 2. April 2026, am Donnerstag um 00:00 Uhr.\n\
-             Ohne Umstellung wäre sie fällig am Dienstag, 31. März 2026, um 18:00 Uhr. Das liegt \
-             im Zeitraum der Formatumstellung von Dienstag, 31. März 2026, 18:00 Uhr, bis \
-             Donnerstag, 2. April 2026, 00:00 Uhr; darum gilt dessen Ende.",
+            "Eingang am Dienstag, dem 31. März 2026, um 12:00 Uhr: Die CONTRL im Regelfall ist \
+             fällig in der Nacht vom 1. auf den 2. April 2026, am Donnerstag um 00:00 Uhr.\n\
+             Ohne Umstellung wäre sie fällig am Dienstag, dem 31. März 2026, um 18:00 Uhr. Das \
+             liegt im Zeitraum der Formatumstellung von Dienstag, dem 31. März 2026, 18:00 Uhr, \
+             bis Donnerstag, den 2. April 2026, 00:00 Uhr; darum gilt dessen Ende.",
         ), Example::new(
             "contrl Regelfall 2026-06-05T12:00:00+02:00 --stichtag 2026-06-06", VERLEGT)],
     },
@@ -70,8 +70,8 @@ verschiebt, „due_before_tolerance“, wann die CONTRL ohne ihn fällig wäre."
 am Sonntag um 12:00 Uhr.",
         examples: &[Example::new(
             "aperak-strom 2026-01-10T10:00:00+01:00",
-            "Eingang am Samstag, 10. Januar 2026, um 10:00 Uhr: Die APERAK auf UTILMD oder ORDERS \
-             Strom ist fällig am Sonntag, 11. Januar 2026, um 12:00 Uhr.",
+            "Eingang am Samstag, dem 10. Januar 2026, um 10:00 Uhr: Die APERAK auf UTILMD oder \
+             ORDERS Strom ist fällig am Sonntag, dem 11. Januar 2026, um 12:00 Uhr.",
         )],
     },
     Command {
@@ -84,8 +84,8 @@ am Sonntag um 12:00 Uhr.",
         meaning: "Um 12:00 Uhr am ersten Werktag nach dem Eingangstag.",
         examples: &[Example::new(
             "aperak-strom-allgemein 2026-04-02T10:00:00+02:00",
-            "Eingang am Donnerstag, 2. April 2026, um 10:00 Uhr: Die APERAK auf eine andere \
-             Nachricht Strom ist fällig am Dienstag, 7. April 2026, um 12:00 Uhr.",
+            "Eingang am Donnerstag, dem 2. April 2026, um 10:00 Uhr: Die APERAK auf eine andere \
+             Nachricht Strom ist fällig am Dienstag, dem 7. April 2026, um 12:00 Uhr.",
         )],
     },
     Command {
@@ -98,8 +98,8 @@ am Sonntag um 12:00 Uhr.",
         meaning: "Um 12:00 Uhr am ersten Werktag nach dem Eingangstag.",
         examples: &[Example::new(
             "aperak-gas-folgeprozess 2026-04-02T10:00:00+02:00",
-            "Eingang am Donnerstag, 2. April 2026, um 10:00 Uhr: Die APERAK im Folgeprozess Gas \
-             ist fällig am Dienstag, 7. April 2026, um 12:00 Uhr.",
+            "Eingang am Donnerstag, dem 2. April 2026, um 10:00 Uhr: Die APERAK im Folgeprozess \
+             Gas ist fällig am Dienstag, dem 7. April 2026, um 12:00 Uhr.",
         )],
     },
     Command {
@@ -112,8 +112,8 @@ am Sonntag um 12:00 Uhr.",
         meaning: "Mit Ablauf des dritten Werktags nach dem Eingangstag.",
         examples: &[Example::new(
             "aperak-gas-initialprozess 2026-04-02T10:00:00+02:00",
-            "Eingang am Donnerstag, 2. April 2026, um 10:00 Uhr: Die APERAK im Initialprozess Gas \
-             ist fällig mit Ablauf des Donnerstags, 9. April 2026.",
+            "Eingang am Donnerstag, dem 2. April 2026, um 10:00 Uhr: Die APERAK im Initialprozess \
+             Gas ist fällig mit Ablauf des Donnerstags, des 9. April 2026.",
         )],
     },
     Command {
@@ -128,8 +128,9 @@ am Sonntag um 12:00 Uhr.",
 Folgeprozess.",
         examples: &[Example::new(
             "aperak-gas 44001 2026-04-02T10:00:00+02:00",
-            "Eingang am Donnerstag, 2. April 2026, um 10:00 Uhr: Die APERAK auf Prüfidentifikator \
-             44001 (Initialprozess Gas) ist fällig mit Ablauf des Donnerstags, 9. April 2026.",
+            "Eingang am Donnerstag, dem 2. April 2026, um 10:00 Uhr: Die APERAK auf \
+             Prüfidentifikator 44001 (Initialprozess Gas) ist fällig mit Ablauf des Donnerstags, \
+             des 9. April 2026.",
         )],
     },
     Command {
@@ -143,8 +144,8 @@ Folgeprozess.",
 N Stunden später, an jedem Tag. Wird die Uhr dazwischen umgestellt, so steht es dabei.",
         examples: &[Example::new(
             "add-hours 2026-03-29T01:30:00+01:00 1",
-            "1 Stunde nach Sonntag, 29. März 2026, 01:30 Uhr, ist es Sonntag, 29. März 2026, 03:30 \
-             Uhr. Dazwischen wird die Uhr um eine Stunde vorgestellt.",
+            "1 Stunde nach Sonntag, dem 29. März 2026, 01:30 Uhr, ist es Sonntag, der 29. März \
+             2026, 03:30 Uhr. Dazwischen wird die Uhr um eine Stunde vorgestellt.",
         )],
     },
     Command {
@@ -157,8 +158,8 @@ N Stunden später, an jedem Tag. Wird die Uhr dazwischen umgestellt, so steht es
         meaning: "Mit 0 das Ende des Eingangstags, ob Werktag oder nicht.",
         examples: &[Example::new(
             "deadline-at-werktage 2026-04-02T10:00:00+02:00 1",
-            "Eingang am Donnerstag, 2. April 2026, um 10:00 Uhr: Die Frist bis zum Ablauf des 1. \
-             Werktags nach dem Eingangstag endet mit Ablauf des Dienstags, 7. April 2026.",
+            "Eingang am Donnerstag, dem 2. April 2026, um 10:00 Uhr: Die Frist bis zum Ablauf des \
+             1. Werktags nach dem Eingangstag endet mit Ablauf des Dienstags, des 7. April 2026.",
         )],
     },
     Command {
@@ -172,8 +173,9 @@ N Stunden später, an jedem Tag. Wird die Uhr dazwischen umgestellt, so steht es
 Das Ende des N-ten Werktags nach dem Eingangstag. Mit 0 das Ende des Eingangstags.",
         examples: &[Example::new(
             "end-of-werktag-after 2026-04-02T10:00:00+02:00 3",
-            "Eingang am Donnerstag, 2. April 2026, um 10:00 Uhr: Die Frist bis zum Ablauf des 3. \
-             Werktags nach dem Eingangstag endet mit Ablauf des Donnerstags, 9. April 2026.",
+            "Eingang am Donnerstag, dem 2. April 2026, um 10:00 Uhr: Die Frist bis zum Ablauf des \
+             3. Werktags nach dem Eingangstag endet mit Ablauf des Donnerstags, des 9. April \
+             2026.",
         )],
     },
     Command {
@@ -186,8 +188,8 @@ Das Ende des N-ten Werktags nach dem Eingangstag. Mit 0 das Ende des Eingangstag
         meaning: "Die Uhrzeit am ersten Werktag nach dem Eingangstag.",
         examples: &[Example::new(
             "next-werktag-at 2026-04-02T10:00:00+02:00 11:00",
-            "Eingang am Donnerstag, 2. April 2026, um 10:00 Uhr: Die Frist bis 11:00 Uhr am 1. \
-             Werktag nach dem Eingangstag endet am Dienstag, 7. April 2026, um 11:00 Uhr.",
+            "Eingang am Donnerstag, dem 2. April 2026, um 10:00 Uhr: Die Frist bis 11:00 Uhr am \
+             1. Werktag nach dem Eingangstag endet am Dienstag, dem 7. April 2026, um 11:00 Uhr.",
         )],
     },
     Command {
@@ -204,8 +206,8 @@ Das Ende des N-ten Werktags nach dem Eingangstag. Mit 0 das Ende des Eingangstag
         meaning: "Die Uhrzeit am N-ten Werktag nach dem Eingangstag; 0 zählt wie 1.",
         examples: &[Example::new(
             "nth-werktag-at 2026-04-02T10:00:00+02:00 2 06:00",
-            "Eingang am Donnerstag, 2. April 2026, um 10:00 Uhr: Die Frist bis 06:00 Uhr am 2. \
-             Werktag nach dem Eingangstag endet am Mittwoch, 8. April 2026, um 06:00 Uhr.",
+            "Eingang am Donnerstag, dem 2. April 2026, um 10:00 Uhr: Die Frist bis 06:00 Uhr am \
+             2. Werktag nach dem Eingangstag endet am Mittwoch, dem 8. April 2026, um 06:00 Uhr.",
         )],
     },
     Command {
@@ -218,13 +220,14 @@ Das Ende des N-ten Werktags nach dem Eingangstag. Mit 0 das Ende des Eingangstag
         meaning: "Wann die Antwort auf eine Nachricht spätestens gegeben sein muss, je nach FORM.",
         examples: &[Example::new(
             "frist EndeDesWerktags 3 2.4.2026 10:00",
-            "Eingang am Donnerstag, 2. April 2026, um 10:00 Uhr: Die Frist bis zum Ablauf des 3. \
-             Werktags nach dem Eingangstag endet mit Ablauf des Donnerstags, 9. April 2026.",
+            "Eingang am Donnerstag, dem 2. April 2026, um 10:00 Uhr: Die Frist bis zum Ablauf des \
+             3. Werktags nach dem Eingangstag endet mit Ablauf des Donnerstags, des 9. April \
+             2026.",
         ), Example::new(
             "frist SameDayAt 12:00 2026-01-09T12:00:00+01:00",
-            "Eingang am Freitag, 9. Januar 2026, um 12:00 Uhr: Die Frist endet am nächsten \
-             Werktag, am Montag, 12. Januar 2026, um 12:00 Uhr. Am Eingangstag war 12:00 Uhr schon \
-             erreicht.",
+            "Eingang am Freitag, dem 9. Januar 2026, um 12:00 Uhr: Die Frist endet am nächsten \
+             Werktag, am Montag, dem 12. Januar 2026, um 12:00 Uhr. Am Eingangstag war 12:00 Uhr \
+             schon erreicht.",
         )],
     },
 ];

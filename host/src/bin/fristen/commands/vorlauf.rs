@@ -97,8 +97,8 @@ Der späteste Übertragungstag für den Termin, bei Zeitfenster und Korridor auc
 früheste. Darunter die Regel. --bytes gibt es hier nicht.",
         examples: &[Example::new(
             "bis-wann WerktageVorher 1 7.4.2026",
-            "Für den Termin Dienstag, 7. April 2026, muss die Nachricht spätestens am Donnerstag, \
-             2. April 2026, übertragen sein.\n\
+            "Für den Termin am Dienstag, dem 7. April 2026, muss die Nachricht spätestens am \
+             Donnerstag, dem 2. April 2026, übertragen sein.\n\
              Spätester Übertragungstag ist der 1. Werktag vor dem Termin.",
         )],
     },

@@ -1,7 +1,7 @@
 use super::anchor::ZUORDNUNGSENDE;
 use super::vorlauf::verdict;
 use crate::ankuendigung::Fenster;
-use crate::deutsch::{am, tag};
+use crate::deutsch::{am, dem, tag};
 use crate::inquiry::Inquiry;
 use crate::usage::quoted_bytes;
 use mako_fristen_host::{AbmeldungVorlauf, BerlinTime, Eeg, Error, Judgement};
@@ -56,6 +56,6 @@ pub fn ankuendigung(inquiry: &Inquiry, in_time: Option<bool>) -> Result<String, 
         "{word}: {what}\n\
          Fristgerecht ist die Ankündigung am letzten Werktag vor dem Zuordnungsbeginn von 00:00 \
          bis 13:00 Uhr: am {}.",
-        tag(window.werktag)
+        dem(window.werktag)
     ))
 }

@@ -1,4 +1,4 @@
-use crate::deutsch::{der, uhr, utc, zeitpunkt};
+use crate::deutsch::{der, uhr, utc, with_clock};
 use crate::inquiry::Inquiry;
 use mako_fristen_host::{BerlinTime, Date, Error, Instant};
 
@@ -8,7 +8,7 @@ pub fn at(instant: Instant) -> Result<String, Error> {
         true => " Die Uhr zeigt diese Zeit zweimal; gemeint ist die frühere.",
         false => "",
     };
-    Ok(format!("{} in Berlin ist {utc}.{twice}", zeitpunkt(time)))
+    Ok(format!("{} in Berlin ist {utc}.{twice}", with_clock(time, der)))
 }
 
 /// Where a day in Berlin begins or ends, as `verb` has it.

@@ -1,5 +1,5 @@
 use crate::corner::Corner;
-use crate::deutsch::{am, der, faellig, stunden, zeitpunkt};
+use crate::deutsch::{am, dem, den, der, faellig, stunden, with_clock};
 use crate::inquiry::Inquiry;
 use crate::umstellung::Umstellung;
 use mako_fristen_host::{
@@ -13,10 +13,12 @@ const IN_HOURS: i64 = 6 * 3600;
 pub fn hours(inquiry: &Inquiry, to: Instant) -> Result<String, Error> {
     let (n, to) = (inquiry.question.n, BerlinTime::of(to)?);
     let from = BerlinTime::of(inquiry.question.instant)?;
-    let (shown, switched) = (zeitpunkt(from), umgestellt(from, to));
+    let (shown, switched) = (with_clock(from, dem), umgestellt(from, to));
     Ok(match n {
         0 => format!("Mit 0 Stunden bleibt es bei {shown}."),
-        n => format!("{} nach {shown}, ist es {}.{switched}", stunden(n), zeitpunkt(to)),
+        n => {
+            format!("{} nach {shown}, ist es {}.{switched}", stunden(n), with_clock(to, der))
+        }
     })
 }
 
@@ -120,8 +122,8 @@ pub fn contrl_change(inquiry: &Inquiry, due: Instant) -> Result<String, Error> {
 
 /// As in 'der Zeitraum …'.
 fn zeitraum(Umstellung { from, to, .. }: Umstellung) -> Result<String, Error> {
-    let (from, to) = (zeitpunkt(BerlinTime::of(from)?), zeitpunkt(BerlinTime::of(to)?));
-    Ok(format!("von {from}, bis {to}"))
+    let (from, to) = (BerlinTime::of(from)?, BerlinTime::of(to)?);
+    Ok(format!("von {}, bis {}", with_clock(from, dem), with_clock(to, den)))
 }
 
 /// Where version one has a window about 1 April or 1 October that this call does not have.
