@@ -1,6 +1,6 @@
 //! Which part of a question a call refuses, and why, in German.
 
-use crate::deutsch::{dem, monat, monate, stunden, tag, zeitpunkt};
+use crate::deutsch::{dem, monat, monate, stunden, zeitpunkt};
 use crate::inquiry::Inquiry;
 use crate::uebertragung::opening;
 use mako_fristen_host::{

@@ -20,7 +20,7 @@ pub const COMMANDS: [Command; 13] = [
         summary: "wann die CONTRL fällig ist",
         meaning: "\
 ANLASS ist Regelfall (6 Stunden), StromUtilmdOderOrders (15 Minuten, bei Eingang an
-einem Samstag 6 Stunden) oder GasAlocat (45 Minuten). Wäre sie vom 31. März,
+einem Samstag 6 Stunden) oder GasAlocat (45 Minuten). Wäre die CONTRL vom 31. März,
 18:00 Uhr, an und vor dem 2. April, 00:00 Uhr, fällig, so ist sie es am 2. April um
 00:00 Uhr; ebenso vom 30. September bis zum 2. Oktober (CONTRL AHB 1.0).
 --stichtag nennt den Tag einer verlegten Formatumstellung. Dann gibt es nur ihren
