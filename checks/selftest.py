@@ -31,7 +31,7 @@ DEEP = "crates/mako_fristen_c/src/unter/tief.rt"
 SPEC = "crates/andere/specs/Zwei.antt"
 PAPER = "docs/host-calls.md"
 HOST = "host/src/ffi.rs"
-README = "README.md"
+README, LIESMICH = "README.md", "LIESMICH.md"
 PROGRAM = "crates/fragen/out/fragen"
 STORED = "crates/fragen/stdout"
 TABLE, ENTRIES = jahresindex.CODE, jahresindex.PROOFS
@@ -109,6 +109,17 @@ Text.
     lines
 
     other
+""",
+    LIESMICH: """# Beispiele
+
+```text
+$ ./fristen zwei
+two
+lines
+
+$ ./fristen eins
+one
+```
 """,
     "fristen": '#!/bin/sh\n[ "$1" = eins ] && echo one || printf "two\\nlines\\n"\n',
     PROGRAM: """#!/usr/bin/env python3
@@ -259,8 +270,11 @@ BAD = [
     ],
     ("lines", "a block without an end", README, added("```\n" + "x" * 121 + "\n"), "README.md: a block"),
     ("lines", "bytes that are no text", LIB, only(b"\xff"), "utf-8"),
-    ("examples", "no examples", README, only("# Example\n\n    ./test\n"), "there is nothing to look at"),
+    ("examples", "no examples", README, only("# Example\n\n    ./test\n"), "README.md: there is no example"),
     ("examples", "no README", README, gone, "README.md"),
+    ("examples", "no front page in German", LIESMICH, gone, "LIESMICH.md"),
+    ("examples", "another in a fenced block", LIESMICH, put("one\n", "1\n"), "LIESMICH.md:8: ./fristen eins: prints"),
+    ("examples", "none below it there", LIESMICH, without("one\n"), "LIESMICH.md:8: ./fristen eins: no output"),
     ("examples", "another output", README, put("    one", "    1"), "README.md:3: ./fristen eins: prints"),
     ("examples", "a line too few", README, without("    lines\n"), "README.md:8: ./fristen zwei: prints"),
     ("examples", "no output", README, without("    one\n"), "README.md:3: ./fristen eins: no output"),

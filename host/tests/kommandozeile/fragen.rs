@@ -12,12 +12,11 @@ const CHECK: &str = "check LatestWerktageBefore 1 2026-01-10 2026-01-12";
 const SPAN: &str = "span LatestWerktageBefore 1 2026-01-10";
 const REFUSED: &str = "span LatestWerktageBefore 1 2899-12-31";
 const SPANNED: &str =
-    "Übertragungstag Samstag, 10. Januar 2026. Spätester Übertragungstag ist der 1. \
-                       Werktag vor dem Termin. Zulässig sind Termine ab Dienstag, dem 13. Januar \
-                       2026.";
+    "Übertragungstag Samstag, 10. Januar 2026: Zulässig sind Termine ab Dienstag, dem 13. Januar \
+     2026. Spätester Übertragungstag ist der 1. Werktag vor dem Termin.";
 
 /// Every operation and shape, answered and refused, by each name of a command.
-const MIXED: &[&str] = &[
+pub const MIXED: &[&str] = &[
     "contrl Regelfall 2026-03-31T12:00:00+02:00",
     "contrl-due-at GasAlocat @1774951199.7",
     "mf_contrl_due_at stromutilmdoderorders 1995-01-01T00:00:00Z",
@@ -69,33 +68,41 @@ fn single(line: &str, number: usize, form: &[&str]) -> String {
 }
 
 #[test]
-fn a_file_in_the_three_forms() {
+fn a_file_in_each_form() {
     let input = format!("# Montag\n\n{SPAN}\n{REFUSED}\n{CHECK}\n");
-    let no_end = "Ein Ergebnis verlässt den Kalender vom 1. Januar 1996 bis zum 31. Dezember 2899.";
+    let no_end = "Die Spanne der zulässigen Termine verlässt den Kalender vom 1. Januar 1996 bis \
+                  zum 31. Dezember 2899.";
     let late =
         "1 Tag zu spät: Übertragungstag Samstag, 10. Januar 2026, Termin Montag, 12. Januar 2026. \
-                Spätester Übertragungstag ist der 1. Werktag vor dem Termin. Es fehlen 0 Werktage; \
-                zu spät ist es um 1 Tag, der kein Werktag ist. Als frühester Termin wird Montag, \
-                der 12. Januar 2026, genannt; zulässig ist er nicht. Zulässig sind Termine ab \
-                Dienstag, dem 13. Januar 2026.";
+         Zulässig sind Termine ab Dienstag, dem 13. Januar 2026. Spätester Übertragungstag ist der \
+         1. Werktag vor dem Termin: Freitag, der 9. Januar 2026. Es fehlt kein Werktag; zu spät \
+         ist es um 1 Tag, der kein Werktag ist. Die Quelle nennt als frühesten Termin Montag, den \
+         12. Januar 2026; zulässig ist er nicht.";
     let sentences =
         [format!("3: {SPANNED}"), format!("4: Abgelehnt (8): {no_end}"), format!("5: {late}")];
     assert_eq!(answers(&[], &input, 2), sentences);
     let json = [
         concat!(
-            r#"{"line":3,"call":"mf_vorlauf_span","arguments":["LatestWerktageBefore","1","#,
-            r#""2026-01-10"],"refusal":null,"kind":0,"kind_name":"From","date":"2026-01-13","#,
-            r#""last_date":null}"#,
+            r#"{"line":3,"version":1,"call":"mf_vorlauf_span","arguments":["LatestWerktageBefore","1","#,
+            r#""2026-01-10"],"read":{"shape":"LatestWerktageBefore","count":1,"count2":null,"#,
+            r#""date":"2026-01-10"},"refusal":null,"kind":0,"kind_name":"From","#,
+            r#""span":{"empty":false,"first":"2026-01-13","last":null}}"#,
         ),
         &format!(
-            "{{\"line\":4,\"call\":\"mf_vorlauf_span\",\"arguments\":[\"LatestWerktageBefore\",\
-             \"1\",\"2899-12-31\"],\"refusal\":{{\"number\":8,\"text\":\"{no_end}\"}}}}"
+            "{{\"line\":4,\"version\":1,\"call\":\"mf_vorlauf_span\",\"arguments\":\
+             [\"LatestWerktageBefore\",\"1\",\"2899-12-31\"],\"read\":{{\"shape\":\
+             \"LatestWerktageBefore\",\"count\":1,\"count2\":null,\"date\":\"2899-12-31\"}},\
+             \"refusal\":{{\"number\":8,\"text\":\"{no_end}\"}},\"kind\":null,\"kind_name\":null,\
+             \"span\":null}}"
         ),
         concat!(
-            r#"{"line":5,"call":"mf_vorlauf_check","arguments":["LatestWerktageBefore","1","#,
-            r#""2026-01-10","2026-01-12"],"refusal":null,"kind":1,"kind_name":"TooLate","count":0,"#,
-            r#""margin":-1,"date":"2026-01-12","date_acceptable":false,"#,
-            r#""span":{"first":"2026-01-13","last":null}}"#,
+            r#"{"line":5,"version":1,"call":"mf_vorlauf_check","arguments":["LatestWerktageBefore","#,
+            r#""1","2026-01-10","2026-01-12"],"read":{"shape":"LatestWerktageBefore","count":1,"#,
+            r#""count2":null,"date":"2026-01-10","date2":"2026-01-12"},"refusal":null,"kind":1,"#,
+            r#""kind_name":"TooLate","in_time":false,"count":0,"margin":-1,"date":"2026-01-12","#,
+            r#""date_acceptable":false,"transmission_day":"2026-01-10","anchor":"2026-01-12","#,
+            r#""span":{"empty":false,"first":"2026-01-13","last":null},"#,
+            r#""transmission_span":{"empty":false,"first":null,"last":"2026-01-09"}}"#,
         ),
     ];
     assert_eq!(answers(&["--json"], &input, 2), json);
@@ -151,10 +158,20 @@ fn nothing_asked_is_nothing_answered() {
 
 #[test]
 fn lines_that_cannot_be_read_are_named_and_the_others_answered() {
-    let cases: [(&[u8], &str); 12] = [
+    let cases: [(&[u8], &str); 13] = [
         (b"gestern", "erwartet contrl, frist, check oder span, nicht „gestern“"),
         (b"tag 2026-01-01", "erwartet contrl, frist, check oder span, nicht „tag“"),
-        (b"Span Korridor 1 2026-01-01", "erwartet contrl, frist, check oder span, nicht „Span“"),
+        (
+            b"spna Korridor 1 2026-01-01",
+            "erwartet contrl, frist, check oder span, nicht „spna“. Meinten Sie span?",
+        ),
+        (
+            b"span Koridor 1 2026-01-01",
+            "FORM [ZAHLEN]: erwartet LatestWerktageBefore, WindowWerktageBefore, \
+             LatestWerktageAfter, EarliestWerktageAfter, Korridor, TagVorDemLetztenWerktagVor, \
+             LatestMonateBefore oder LatestMonateUndWerktageBefore, nicht „Koridor“. Meinten Sie \
+             Korridor? (Aufbau: span FORM [ZAHLEN] ÜBERTRAGUNGSTAG)",
+        ),
         (b"--json", "erwartet contrl, frist, check oder span, nicht „--json“"),
         (b"span", "es fehlt: FORM [ZAHLEN] (Aufbau: span FORM [ZAHLEN] ÜBERTRAGUNGSTAG)"),
         (
@@ -267,13 +284,13 @@ fn records() -> (Vec<u8>, String) {
     let asked = [
         (
             Frage::Contrl { received, anlass: ContrlAnlass::GasAlocat },
-            "contrl GasAlocat @1774951199.7",
+            "contrl GasAlocat @1774951199s7ns",
         ),
         (
             Frage::Frist { shape: FristShape::WerktagAt { werktage: 2, at: noon }, received },
-            "frist WerktagAt 2 12:00 @1774951199.7",
+            "frist WerktagAt 2 12:00 @1774951199s7ns",
         ),
-        (Frage::Frist { shape: no_clock, received }, "frist SameDayAt 24:00 @1774951199.7"),
+        (Frage::Frist { shape: no_clock, received }, "frist SameDayAt 24:00 @1774951199s7ns"),
         (
             check(VorlaufShape::LatestWerktageBefore(1), monday),
             "check LatestWerktageBefore 1 2026-01-10 2026-01-12",
@@ -406,9 +423,10 @@ fn a_file_of_an_unlikely_name() {
 fn bad_usage() {
     for (arguments, expected) in [
         (&["a", "b"][..], "zu viel: „b“"),
-        (&["--roh", "--json"], "erwartet --roh ohne --json und --bytes"),
-        (&["--bytes", "--roh", "-"], "erwartet --roh ohne --json und --bytes"),
-        (&["--json", "--bytes"], "erwartet --json oder --bytes, nicht beide"),
+        (&["--roh", "--json"], "erwartet --roh ohne --json, --kurz, --bytes und --status"),
+        (&["--bytes", "--roh", "-"], "erwartet --roh ohne --json, --kurz, --bytes und --status"),
+        (&["--status", "--roh"], "erwartet --roh ohne --json, --kurz, --bytes und --status"),
+        (&["--json", "--bytes"], "erwartet nur eines von --json, --bytes und --kurz"),
         (&["--eeg", "ja"], "--eeg gehört nicht zu diesem Befehl"),
     ] {
         let complaint = complaint(&[&["fragen"], arguments].concat());

@@ -9,9 +9,6 @@ use std::fs;
 use std::process::Output;
 use std::time::{Duration, Instant};
 
-const NO_DATE: &str =
-    "Abgelehnt (3): Ein angegebenes Datum ist kein Tag vom 1. Januar 1996 bis zum \
-                       31. Dezember 2899.";
 const ONE_UNREAD: &str =
     "fristen: 1 Zeile ließ sich nicht lesen. Mehr: ./fristen portfolio --help\n";
 
@@ -90,12 +87,12 @@ fn a_line_without_dates_keeps_its_place() {
 
 #[test]
 fn a_line_that_cannot_be_read_is_named_and_keeps_its_place() {
-    let no_date =
-        |label, text: &str| format!("{label}: erwartet ein Datum wie 2026-04-02, nicht „{text}“");
+    let expected = "erwartet ein Datum wie 2026-04-02 oder 2.4.2026, nicht";
+    let no_date = |label, text: &str| format!("{label}: {expected} „{text}“");
     let cases: [(&[u8], String); 9] = [
-        (b"morgen", no_date("VON", "morgen")),
+        (b"morgens", no_date("VON", "morgens")),
         (b"Beginn;Ende", no_date("VON", "Beginn")),
-        (b"30.06.2025;30.06.2035", no_date("VON", "30.06.2025")),
+        (b"30.06.2025;30.06.35", no_date("BIS", "30.06.35")),
         (b"2025-06-30;offen", no_date("BIS", "offen")),
         (b"2025-06-30;", "es fehlt: BIS".to_owned()),
         (b";2025-06-30", "es fehlt: VON".to_owned()),
@@ -113,49 +110,75 @@ fn a_line_that_cannot_be_read_is_named_and_keeps_its_place() {
         let output = fed(&["--json"], &input);
         assert_eq!((output.status.code(), complaints(&output)), (Some(64), named));
         let text = expected.replace('\\', "\\\\");
-        let begin = r#"{"line":2,"call":"mf_portfolio","arguments":[],"refusal":null,"count":null"#;
-        assert_eq!(lines(&output)[1], format!("{begin},\"error\":\"{text}\"}}"));
+        let error = format!("\"{text}\"");
+        assert_eq!(lines(&output)[1], object(2, ["null"; 2], ["null", &error, "null"]));
     }
 }
 
 #[test]
 fn a_date_that_is_none_of_the_calendar_is_named_and_keeps_its_place() {
     let rows = [
-        ("2026-02-29", "2026-04-07", "VON 2026-02-29"),
-        ("2026-04-02", "2900-01-01", "BIS 2900-01-01"),
-        ("1995-12-31", "2026-04-31", "VON 1995-12-31, BIS 2026-04-31"),
-        ("9999-99-99", "0000-00-00", "VON 9999-99-99, BIS 0000-00-00"),
+        ("2026-02-29", "2026-04-07", "VON 2026-02-29: der Februar 2026 hat 28 Tage."),
+        ("2026-04-02", "2900-01-01", "BIS 2900-01-01: der Kalender endet am 31. Dezember 2899."),
+        (
+            "1995-12-31",
+            "2026-04-31",
+            "VON 1995-12-31: der Kalender beginnt am 1. Januar 1996; BIS 2026-04-31: der April 2026 \
+             hat 30 Tage.",
+        ),
+        (
+            "9999-99-99",
+            "0000-00-00",
+            "VON 9999-99-99: einen 99. Monat gibt es nicht; BIS 0000-00-00: einen 0. Monat gibt es \
+             nicht.",
+        ),
     ];
     for (from, to, named) in rows {
         let input = format!("2026-04-02,2026-04-07\n{from},{to}\n2026-04-02,2026-04-07\n");
-        let complaint = format!("fristen: Zeile 2: {named}: {NO_DATE}\n");
+        let complaint = format!("fristen: Zeile 2: Abgelehnt (3): {named}\n");
         let output = fed(&[], &input);
         assert_eq!((output.status.code(), complaints(&output)), (Some(2), complaint.clone()));
         assert_eq!(lines(&output), ["1", "", "1"]);
         let output = fed(&["--json"], &input);
         assert_eq!((output.status.code(), complaints(&output)), (Some(2), complaint));
-        let refusal =
-            format!("{{\"number\":3,\"text\":\"{}\"}}", &NO_DATE["Abgelehnt (3): ".len()..]);
-        let object = format!(
-            "{{\"line\":2,\"call\":\"mf_portfolio\",\"arguments\":[\"{from}\",\"{to}\"],\
-             \"refusal\":{refusal},\"count\":null}}"
-        );
+        let refusal = format!("{{\"number\":3,\"text\":\"{named}\"}}");
+        let dates = [format!("\"{from}\""), format!("\"{to}\"")];
+        let object = object(2, [&dates[0], &dates[1]], [&refusal, "null", "null"]);
         assert_eq!(lines(&output)[1], object);
     }
+}
+
+/// A line as JSON: the dates, or null for none; the refusal, the error and the count.
+fn object(line: u32, [from, to]: [&str; 2], [refusal, error, count]: [&str; 3]) -> String {
+    let given = if from == "null" { String::new() } else { format!("{from},{to}") };
+    format!(
+        "{{\"line\":{line},\"version\":1,\"call\":\"mf_portfolio\",\"arguments\":[{given}],\
+         \"read\":{{\"from\":{from},\"to\":{to}}},\"refusal\":{refusal},\"error\":{error},\
+         \"count\":{count}}}"
+    )
 }
 
 #[test]
 fn counts_as_json() {
     let given =
         counts(&["--json"], "VON;BIS\n\"2025-06-30\";\"2035-06-30\"\n\n2026-04-02 2026-04-07");
-    let begin = |line| format!("{{\"line\":{line},\"call\":\"mf_portfolio\",\"arguments\":");
+    let counted = |line, dates, count| object(line, dates, ["null", "null", count]);
     let expected = [
-        begin(1) + "[],\"refusal\":null,\"count\":null}",
-        begin(2) + "[\"2025-06-30\",\"2035-06-30\"],\"refusal\":null,\"count\":2457}",
-        begin(3) + "[],\"refusal\":null,\"count\":null}",
-        begin(4) + "[\"2026-04-02\",\"2026-04-07\"],\"refusal\":null,\"count\":1}",
+        counted(1, ["null"; 2], "null"),
+        counted(2, ["\"2025-06-30\"", "\"2035-06-30\""], "2457"),
+        counted(3, ["null"; 2], "null"),
+        counted(4, ["\"2026-04-02\"", "\"2026-04-07\""], "1"),
     ];
     assert_eq!(given, expected);
+}
+
+/// What is given stands beside what was read of it.
+#[test]
+fn dates_as_they_were_given() {
+    let given = counts(&["--json"], "2.4.2026 ; \"07.04.2026\"");
+    let expected = object(1, ["\"2026-04-02\"", "\"2026-04-07\""], ["null", "null", "1"]);
+    let arguments = "[\"2026-04-02\",\"2026-04-07\"]";
+    assert_eq!(given, [expected.replace(arguments, "[\"2.4.2026\",\"07.04.2026\"]")]);
 }
 
 /// A line that cannot be read goes before a refusal, and that before an answer.
@@ -187,8 +210,9 @@ fn a_complaint_stands_between_the_counts() {
     let lines = ["2026-04-02 2026-04-07", "1", "2026-04-02 2026-02-29", "2025-12-23 2026-01-07"];
     let path = file("dazwischen.csv", lines.join("\n"));
     let expected = format!(
-        "1\nfristen: Zeile 2: VON: erwartet ein Datum wie 2026-04-02, nicht „1“\n\n\
-         fristen: Zeile 3: BIS 2026-02-29: {NO_DATE}\n\n5\n{ONE_UNREAD}"
+        "1\nfristen: Zeile 2: VON: erwartet ein Datum wie 2026-04-02 oder 2.4.2026, nicht „1“\n\n\
+         fristen: Zeile 3: Abgelehnt (3): BIS 2026-02-29: der Februar 2026 hat 28 Tage.\n\n5\n\
+         {ONE_UNREAD}"
     );
     assert_eq!(said("portfolio", &path), (expected, Some(64)));
 }

@@ -1,9 +1,10 @@
 //! Which part of a question a call refuses, and why, in German.
 
-use crate::deutsch::{dem, monat, monate, stunden, tag, zeitpunkt};
+use crate::deutsch::{dem, monat, monate, stunden, zeitpunkt};
 use crate::inquiry::Inquiry;
+use crate::uebertragung::opening;
 use mako_fristen_host::{
-    berlin_date, BerlinTime, Call, Clock, Date, Instant, Parameter, Refusal, Sparte,
+    berlin_date, BerlinTime, Call, Clock, Date, Instant, Parameter, Refusal, Sparte, VorlaufShape,
 };
 
 const FIRST: &str = "1. Januar 1996";
@@ -22,6 +23,31 @@ pub fn of(inquiry: &Inquiry, refusal: Refusal) -> String {
         _ => None,
     };
     found.unwrap_or_else(|| refusal.beschreibung().to_owned())
+}
+
+/// Of the transmission days that an anchor allows.
+pub fn of_anchor(asked: (VorlaufShape, Date), refusal: Refusal) -> String {
+    let found = match refusal {
+        Refusal::NoDate => date_why(asked.1).map(|why| format!("{why}.")),
+        Refusal::LeavesCalendar => Some(end_leaves(asked)),
+        _ => None,
+    };
+    found.unwrap_or_else(|| refusal.beschreibung().to_owned())
+}
+
+/// Only the last day of some shapes lies behind the anchor.
+fn end_leaves((shape, anchor): (VorlaufShape, Date)) -> String {
+    let for_anchor = format!("Übertragungstag für den Termin am {}, liegt", dem(anchor));
+    let before = format!("vor dem {FIRST}, dem ersten Tag des Kalenders.");
+    if opening(shape, anchor).is_err() {
+        return format!("Der früheste {for_anchor} {before}");
+    }
+    match shape {
+        VorlaufShape::LatestWerktageAfter(_) | VorlaufShape::Korridor(_) => {
+            format!("Der späteste {for_anchor} hinter dem {LAST}, dem letzten Tag des Kalenders.")
+        }
+        _ => format!("Der späteste {for_anchor} {before}"),
+    }
 }
 
 /// The dates that are none, each by its name if there are two.
@@ -85,9 +111,7 @@ fn instant_why(instant: Instant) -> Option<String> {
         _ => instant.to_string(),
     };
     if instant.nanos > Instant::LAST.nanos {
-        return Some(format!(
-            "{instant}: eine Sekunde hat 1000000000 Nanosekunden, von 0 an gezählt"
-        ));
+        return Some(format!("{instant}: über 999999999 Nanosekunden beginnt die nächste Sekunde"));
     }
     if instant < Instant::FIRST {
         return Some(format!("{shown}: der Kalender beginnt am {FIRST} um 00:00 Uhr in Berlin"));
@@ -104,7 +128,7 @@ fn clock(Clock { hour, minute, second, nanos }: Clock) -> Option<String> {
         (24.., ..) => "die letzte Stunde ist 23",
         (_, 60.., ..) => "die letzte Minute ist 59",
         (_, _, 60.., _) => "die letzte Sekunde ist 59",
-        (.., 1_000_000_000..) => "eine Sekunde hat 1000000000 Nanosekunden",
+        (.., 1_000_000_000..) => "über 999999999 Nanosekunden beginnt die nächste Sekunde",
         _ => return None,
     };
     Some(format!("{shown}: {why}"))
@@ -122,8 +146,8 @@ fn absent_in(inquiry: &Inquiry) -> Option<String> {
 
 fn absent(date: Date, clock: Clock) -> String {
     format!(
-        "Am {} gibt es {} in Berlin nicht: um 02:00 Uhr wird die Uhr auf 03:00 Uhr vorgestellt.",
-        tag(date),
+        "Am {}, gibt es {} in Berlin nicht: um 02:00 Uhr wird die Uhr auf 03:00 Uhr vorgestellt.",
+        dem(date),
         clock.uhr()
     )
 }
@@ -162,7 +186,7 @@ fn leaves(inquiry: &Inquiry) -> Option<String> {
     let behind = format!("liegt hinter dem {LAST}, dem letzten Tag des Kalenders.");
     let before = format!("liegt vor dem {FIRST}, dem ersten Tag des Kalenders.");
     Some(match inquiry.call {
-        Call::NextWerktag => format!("Der erste Werktag ab {} {behind}", dem(date)),
+        Call::NextWerktag => format!("Der erste Werktag ab {}, {behind}", dem(date)),
         Call::AddWerktage => format!("Der {n}. Werktag nach {}, {behind}", dem(date)),
         Call::SubWerktage => format!("Der {n}. Werktag vor {}, {before}", dem(date)),
         Call::AddMonths => format!("Der Tag {} nach {}, {behind}", monate(n), dem(date)),
@@ -183,7 +207,7 @@ fn leaves(inquiry: &Inquiry) -> Option<String> {
             }
         }
         Call::VorlaufSpan => {
-            format!("Die Spanne der zulässigen Termine reicht über den Kalender ({FIRST} bis {LAST}) hinaus.")
+            format!("Die Spanne der zulässigen Termine verlässt den Kalender vom {FIRST} bis zum {LAST}.")
         }
         _ if inquiry.call.takes(Parameter::VorlaufShape)
             || inquiry.call == Call::AbmeldungCheck =>

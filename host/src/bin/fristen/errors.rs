@@ -1,7 +1,7 @@
 //! Why there is nothing to read out, in German.
 
 use crate::program;
-use mako_fristen_host::{Refusal, Unreadable};
+use mako_fristen_host::{Error, Refusal, Unreadable};
 
 /// The refusal with its number.
 pub fn refused(refusal: Refusal) -> String {
@@ -21,4 +21,13 @@ pub fn unreadable(Unreadable { call, number, answer }: &Unreadable) -> String {
         program::name(),
         call.name()
     )
+}
+
+/// What a further call answers; none if it refuses.
+pub fn unless_refused<T>(answer: Result<T, Error>) -> Result<Option<T>, Error> {
+    match answer {
+        Ok(answer) => Ok(Some(answer)),
+        Err(Error::Refused(_)) => Ok(None),
+        Err(error) => Err(error),
+    }
 }

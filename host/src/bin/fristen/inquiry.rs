@@ -1,5 +1,7 @@
 use crate::command::Command;
 use crate::culprit;
+use crate::errors::unless_refused;
+use crate::uebertragung::Uebertragungstage;
 use mako_fristen_host::{
     berlin_date, ffi, tag_des_beginns, AbmeldungVorlauf, Answer, Call, ContrlAnlass, Date, Eeg,
     Error, Frage, FristShape, Parameter, Question, Refusal, Span, Sparte, VorlaufShape,
@@ -22,6 +24,8 @@ pub struct Inquiry {
     pub notes: Vec<String>,
     /// The names of the instants whose time Berlin's clock shows twice.
     pub twice: Vec<&'static str>,
+    /// The names of those whose time it does not show.
+    pub absent: Vec<&'static str>,
 }
 
 /// A refusal with its sentence.
@@ -42,6 +46,7 @@ impl Inquiry {
             refused: None,
             notes: Vec::new(),
             twice: Vec::new(),
+            absent: Vec::new(),
         }
     }
 
@@ -114,9 +119,15 @@ impl Inquiry {
         AbmeldungVorlauf::fuer(&self.reason, self.eeg()?)
     }
 
-    /// The shape of an answer's Frist.
+    /// The shape of an answer's Frist. The calls that step by Werktage are shapes under other names.
     pub fn frist(&self) -> Result<FristShape, Error> {
-        Ok(self.frist.ok_or(Refusal::UnknownCode)?)
+        let Question { n, clock: at, .. } = self.question;
+        Ok(match self.call {
+            Call::DeadlineAtWerktage | Call::EndOfWerktagAfter => FristShape::EndOfWerktag(n),
+            Call::NextWerktagAt => FristShape::WerktagAt { werktage: 1, at },
+            Call::NthWerktagAt => FristShape::WerktagAt { werktage: n, at },
+            _ => self.frist.ok_or(Refusal::UnknownCode)?,
+        })
     }
 
     /// The shape of a Vorlauffrist. Where there is a verdict, there is a shape.
@@ -147,19 +158,18 @@ impl Inquiry {
     /// The anchors that the transmission day of a verdict allows; none if an end of their span
     /// leaves the calendar.
     pub fn allowed(&self) -> Result<Option<Span>, Error> {
-        match self.shape()?.span(self.transmission_day()?) {
-            Ok(span) => Ok(Some(span)),
-            Err(Error::Refused(Refusal::LeavesCalendar)) => Ok(None),
-            Err(error) => Err(error),
-        }
+        unless_refused(self.shape()?.span(self.transmission_day()?))
+    }
+
+    /// The transmission days that the anchor of a verdict allows; none if an end of them leaves the
+    /// calendar.
+    pub fn transmission_days(&self) -> Result<Option<Uebertragungstage>, Error> {
+        unless_refused(Uebertragungstage::of(self.shape()?, self.anchor()?))
     }
 
     /// Whether an anchor is acceptable: its verdict is Ok. One whose verdict is refused is not.
     pub fn accepts(&self, anchor: Date) -> Result<bool, Error> {
-        match self.shape()?.check(self.transmission_day()?, anchor) {
-            Ok(judgement) => Ok(judgement.verdict == VorlaufVerdict::Ok),
-            Err(Error::Refused(_)) => Ok(false),
-            Err(error) => Err(error),
-        }
+        let judged = unless_refused(self.shape()?.check(self.transmission_day()?, anchor))?;
+        Ok(judged.is_some_and(|judgement| judgement.verdict == VorlaufVerdict::Ok))
     }
 }

@@ -1,6 +1,10 @@
+use mako_fristen_host::Date;
 use std::fmt::{self, Write};
 
-/// A value of JSON. An object keeps the order of its members.
+/// The members of an object, in their order.
+pub type Members = Vec<(&'static str, Json)>;
+
+/// A value of JSON.
 #[derive(Clone, Debug, PartialEq, Eq)]
 pub enum Json {
     Null,
@@ -8,7 +12,46 @@ pub enum Json {
     Number(i64),
     Text(String),
     List(Vec<Json>),
-    Object(Vec<(&'static str, Json)>),
+    Object(Members),
+}
+
+impl From<bool> for Json {
+    fn from(value: bool) -> Json {
+        Json::Bool(value)
+    }
+}
+
+/// Of any number that fits.
+macro_rules! from_number {
+    ($($number:ty)+) => {$(
+        impl From<$number> for Json {
+            fn from(number: $number) -> Json {
+                Json::Number(number.into())
+            }
+        }
+    )+};
+}
+
+from_number!(u8 u16 u32 i32 i64);
+
+impl From<&str> for Json {
+    fn from(text: &str) -> Json {
+        Json::text(text)
+    }
+}
+
+/// As the command line reads it.
+impl From<Date> for Json {
+    fn from(date: Date) -> Json {
+        Json::text(date)
+    }
+}
+
+/// What there is none of is null.
+impl<T: Into<Json>> From<Option<T>> for Json {
+    fn from(value: Option<T>) -> Json {
+        value.map_or(Json::Null, T::into)
+    }
 }
 
 impl Json {
@@ -16,19 +59,16 @@ impl Json {
         Json::Text(text.to_string())
     }
 
-    pub fn number(number: impl Into<i64>) -> Json {
-        Json::Number(number.into())
-    }
-
     pub fn list(members: impl IntoIterator<Item = Json>) -> Json {
         Json::List(members.into_iter().collect())
     }
 
-    /// The object behind one more member.
-    pub fn after(self, name: &'static str, value: Json) -> Json {
+    /// The object of a line of a file: the line's number stands first.
+    pub fn in_line(self, line: u64) -> Json {
         match self {
             Json::Object(members) => {
-                Json::Object([(name, value)].into_iter().chain(members).collect())
+                let line = Json::Number(i64::try_from(line).unwrap_or(i64::MAX));
+                Json::Object([vec![("line", line)], members].concat())
             }
             _ => self,
         }

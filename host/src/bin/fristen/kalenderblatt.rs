@@ -3,7 +3,8 @@
 use crate::deutsch::{monat, werktage};
 use crate::json::Json;
 use crate::reading::is_number;
-use crate::report::{arguments, refusal_json};
+use crate::report::values::weekday;
+use crate::report::Asked;
 use crate::skipped::{is_ostersonntag, Closed};
 use mako_fristen_host::{day_reason, Date, DayReason, Error, Feiertag, Refusal, Weekday};
 use std::ffi::OsString;
@@ -105,11 +106,11 @@ impl Holiday {
     fn json(&self) -> Json {
         let Holiday { date, holiday, reason } = self;
         Json::Object(vec![
-            ("date", Json::text(date)),
-            ("weekday", date.weekday().map_or(Json::Null, Json::text)),
-            ("number", Json::number(holiday.number())),
-            ("name", Json::text(holiday)),
-            ("reason", Json::number(reason.number())),
+            ("date", (*date).into()),
+            ("weekday", weekday(Some(*date))),
+            ("number", holiday.number().into()),
+            ("name", holiday.name().into()),
+            ("reason", reason.number().into()),
         ])
     }
 }
@@ -237,23 +238,10 @@ impl Sheet {
         }
     }
 
-    pub fn json(&self, given: &[OsString]) -> Json {
-        let months = self.months.iter().map(|month| Json::number(month.werktage()));
+    /// The days that are no Werktage.
+    fn closed(&self) -> impl Iterator<Item = Date> + '_ {
         let days = self.months.iter().flat_map(|month| &month.days);
-        let closed =
-            days.filter(|(_, reason)| !reason.is_werktag()).map(|(date, _)| Json::text(date));
-        let holidays = self.holidays.iter().map(Holiday::json);
-        Json::Object(vec![
-            ("call", Json::text("kalender")),
-            ("arguments", arguments(given)),
-            ("refusal", Json::Null),
-            ("year", Json::number(self.year)),
-            ("month", self.month.map_or(Json::Null, Json::number)),
-            ("werktage", Json::number(self.werktage())),
-            ("werktage_by_month", Json::list(months)),
-            ("closed", Json::list(closed)),
-            ("holidays", Json::list(holidays)),
-        ])
+        days.filter(|(_, reason)| !reason.is_werktag()).map(|(date, _)| *date)
     }
 }
 
@@ -283,13 +271,23 @@ fn ostersonntag(year: u16) -> Result<Option<Date>, Error> {
     Ok(None)
 }
 
-/// What the calendar of a refused year is as JSON.
-pub fn refused_json(given: &[OsString], refusal: Refusal) -> Json {
-    Json::Object(vec![
-        ("call", Json::text("kalender")),
-        ("arguments", arguments(given)),
-        ("refusal", refusal_json(refusal)),
-    ])
+/// The sheet as JSON; of a period that is refused there is none.
+pub fn json(period: Period, given: &[OsString], refusal: Json, sheet: Option<&Sheet>) -> Json {
+    let read = vec![("year", period.year.into()), ("month", period.month.into())];
+    let by_month =
+        |sheet: &Sheet| Json::list(sheet.months.iter().map(|month| month.werktage().into()));
+    let closed = |sheet: &Sheet| Json::list(sheet.closed().map(Json::from));
+    let holidays = |sheet: &Sheet| Json::list(sheet.holidays.iter().map(Holiday::json));
+    let content = vec![
+        ("year", sheet.map(|sheet| sheet.year).into()),
+        ("month", sheet.and_then(|sheet| sheet.month).into()),
+        ("werktage", sheet.map(Sheet::werktage).into()),
+        ("werktage_by_month", sheet.map(by_month).into()),
+        ("closed", sheet.map(closed).into()),
+        ("holidays", sheet.map(holidays).into()),
+        ("ostersonntag", sheet.and_then(|sheet| sheet.ostersonntag).into()),
+    ];
+    Asked { call: "kalender", given, read }.answered(refusal, content)
 }
 
 #[cfg(test)]

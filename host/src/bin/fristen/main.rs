@@ -1,9 +1,11 @@
 //! The host calls on the command line, answered in German. `./fristen --help` has all of it.
 
+mod ankuendigung;
 mod arguments;
 mod bis_wann;
 mod command;
 mod commands;
+mod corner;
 mod culprit;
 mod deutsch;
 mod errors;
@@ -12,8 +14,10 @@ mod help;
 mod hints;
 mod input;
 mod inquiry;
+mod ja_nein;
 mod json;
 mod kalenderblatt;
+mod kinds;
 mod labels;
 mod lines;
 mod names;
@@ -28,6 +32,7 @@ mod reply;
 mod report;
 mod run;
 mod sentences;
+mod short;
 mod skipped;
 mod uebertragung;
 mod umstellung;
@@ -40,7 +45,7 @@ use command::{Command, Task};
 use input::Input;
 use kalenderblatt::{Mark, Period, Sheet};
 use mako_fristen_host::{check_archive, Call, Error};
-use outcome::Outcome;
+use outcome::{Outcome, Status};
 use reply::Reply;
 use std::env;
 use std::ffi::{OsStr, OsString};
@@ -101,7 +106,8 @@ fn helped(name: Option<&OsString>) -> Result<Outcome, Usage> {
 fn answered(command: &Command, arguments: &Arguments) -> Result<Outcome, Usage> {
     match command.task {
         Task::Fragen => fragen(arguments),
-        _ if arguments.raw => Err(Usage::new("--roh gibt es zu diesem Befehl nicht")),
+        _ if arguments.raw => Err(not_here("--roh")),
+        _ if arguments.status && !ja_nein::is_of(command.task) => Err(not_here("--status")),
         Task::Ask(call) => called(command, call, arguments),
         Task::Kalender => kalender(arguments),
         Task::BisWann => bis_wann(command, arguments),
@@ -109,14 +115,19 @@ fn answered(command: &Command, arguments: &Arguments) -> Result<Outcome, Usage> 
     }
 }
 
+fn not_here(option: &str) -> Usage {
+    Usage::new(format!("{option} gibt es zu diesem Befehl nicht"))
+}
+
 fn fragen(arguments: &Arguments) -> Result<Outcome, Usage> {
-    let (file, form) = (operands::file(arguments)?, arguments.form);
-    if arguments.raw && form != Form::Sentence {
-        return Err(Usage::new("erwartet --roh ohne --json, --kurz und --bytes"));
+    let file = operands::file(arguments)?;
+    let Arguments { form, status, raw, .. } = *arguments;
+    if raw && (form != Form::Sentence || status) {
+        return Err(Usage::new("erwartet --roh ohne --json, --kurz, --bytes und --status"));
     }
-    Ok(match arguments.raw {
+    Ok(match raw {
         true => opened(file, fragen::records),
-        false => opened(file, |input| fragen::lines(input, form)),
+        false => opened(file, |input| fragen::lines(input, form, status)),
     })
 }
 
@@ -136,52 +147,81 @@ fn opened(file: Option<&OsStr>, answer: impl FnOnce(Input) -> Outcome) -> Outcom
 fn called(command: &Command, call: Call, arguments: &Arguments) -> Result<Outcome, Usage> {
     let inquiry = operands::inquiry(command, call, arguments)?;
     let answer = check_archive().map_err(Error::from).and_then(|()| inquiry.answer());
-    let reply = Reply { form: arguments.form, given: &arguments.given, line: None };
-    Ok(reply.outcome(&inquiry, answer))
+    Ok(reply(arguments).outcome(&inquiry, answer))
+}
+
+fn reply(arguments: &Arguments) -> Reply<'_> {
+    let Arguments { form, status, given, .. } = arguments;
+    Reply { form: *form, status: *status, given, line: None }
 }
 
 fn bis_wann(command: &Command, arguments: &Arguments) -> Result<Outcome, Usage> {
+    if arguments.form == Form::Bytes {
+        return Err(not_here("--bytes"));
+    }
     let asked = operands::shape_and_anchor(command, arguments)?;
     let answer = check_archive().map_err(Error::from).and_then(|()| BisWann::of(asked));
-    Ok(Outcome::of(answer.map(|answer| answer.text()), errors::refused))
+    let none = answer.as_ref().is_ok_and(|answer| answer.days.is_empty());
+    let outcome = reply(arguments).said(
+        answer,
+        BisWann::text,
+        |answer| short::bis_wann(answer.days),
+        |refusal| culprit::of_anchor(asked, refusal),
+        |refusal, answer| {
+            report::bis_wann(asked, &arguments.given, refusal, answer.map(|answer| answer.days))
+        },
+    );
+    Ok(if arguments.status && none { outcome.ending(Status::No) } else { outcome })
 }
 
 /// A sheet for each year or month; without any the one of this year.
 fn kalender(arguments: &Arguments) -> Result<Outcome, Usage> {
     if arguments.form == Form::Bytes {
-        return Err(Usage::new("--bytes gibt es zu diesem Befehl nicht"));
+        return Err(not_here("--bytes"));
     }
     let periods = operands::periods(arguments)?;
     if let Err(unreadable) = check_archive() {
         return Ok(Outcome::unreadable(&unreadable));
     }
     let mark = if is_coloured() { Mark::Colour } else { Mark::Star };
-    let sheets = periods.into_iter().map(|period| sheet(period, arguments, mark));
+    let sheets = periods.into_iter().map(|period| sheet(period, arguments, mark)).collect();
     let between = if arguments.form == Form::Sentence { "\n" } else { "" };
     Ok(Outcome::joined(sheets, between))
 }
 
 fn sheet(period: Period, arguments: &Arguments, mark: Mark) -> Outcome {
-    let (sheet, given) = (Sheet::of(period), &arguments.given);
-    match arguments.form {
-        Form::Json => Outcome::of(sheet.map(|sheet| sheet.json(given)), |refusal| {
-            kalenderblatt::refused_json(given, refusal)
-        }),
-        Form::Short => {
-            let refused = |refusal| errors::refused_as(refusal, &period.why());
-            Outcome::of(sheet.map(|sheet| sheet.werktage().to_string()), refused)
-        }
-        Form::Sentence | Form::Bytes => {
-            Outcome::of(sheet.map(|sheet| sheet.text(mark)), |refusal| {
-                errors::refused_as(refusal, &period.why())
-            })
-        }
-    }
+    reply(arguments).said(
+        Sheet::of(period),
+        |sheet| sheet.text(mark),
+        |sheet| sheet.werktage().to_string(),
+        |_| period.why(),
+        |refusal, sheet| kalenderblatt::json(period, &arguments.given, refusal, sheet),
+    )
 }
 
-/// On a terminal that shows colours, for someone who wants them (no-color.org).
 fn is_coloured() -> bool {
-    let dumb = env::var_os("TERM").is_none_or(|terminal| terminal == "dumb");
-    let unwanted = env::var_os("NO_COLOR").is_some_and(|set| !set.is_empty());
-    io::stdout().is_terminal() && !dumb && !unwanted
+    let variable = |name| env::var_os(name);
+    io::stdout().is_terminal() && shows_colours(variable("TERM"), variable("NO_COLOR"))
+}
+
+/// Whether a terminal does, for someone who wants them (no-color.org).
+fn shows_colours(terminal: Option<OsString>, no_colour: Option<OsString>) -> bool {
+    let dumb = terminal.is_none_or(|terminal| terminal == "dumb");
+    let unwanted = no_colour.is_some_and(|set| !set.is_empty());
+    !dumb && !unwanted
+}
+
+#[cfg(test)]
+mod tests {
+    use super::*;
+
+    #[test]
+    fn a_dumb_terminal_shows_no_colours() {
+        let shows = |terminal: Option<&str>, no_colour: Option<&str>| {
+            shows_colours(terminal.map(OsString::from), no_colour.map(OsString::from))
+        };
+        assert!(shows(Some("xterm-256color"), None) && shows(Some("linux"), Some("")));
+        assert!(!shows(Some("dumb"), None) && !shows(None, None));
+        assert!(!shows(Some("xterm"), Some("1")));
+    }
 }

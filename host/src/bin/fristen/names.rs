@@ -194,6 +194,11 @@ pub fn find<T: Copy>(table: &[Named<T>], word: &str) -> Option<T> {
     table.iter().find(|row| row.names().any(|name| normal(name) == word)).map(|row| row.value)
 }
 
+/// The source's name of a value.
+pub fn name_of<T>(table: &[Named<T>], is: impl Fn(&T) -> bool) -> Option<&'static str> {
+    table.iter().find(|row| is(&row.value)).map(|row| row.name)
+}
+
 /// As in 'erwartet …': the source's names, the last behind an 'oder'.
 pub fn expected<T>(table: &[Named<T>]) -> String {
     let names: Vec<&str> = table.iter().map(|row| row.name).collect();

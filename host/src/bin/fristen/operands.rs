@@ -143,6 +143,7 @@ fn instant(
         }
         Err(refused) => {
             inquiry.refused.get_or_insert(refused);
+            inquiry.absent.push(label);
             Ok(Instant::default())
         }
     }

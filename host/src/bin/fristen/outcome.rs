@@ -1,7 +1,6 @@
 use crate::output::Output;
 use crate::{errors, program};
-use mako_fristen_host::{Error, Refusal, Unreadable};
-use std::fmt::Display;
+use mako_fristen_host::{Error, Unreadable};
 use std::io::{self, Write};
 use std::process::ExitCode;
 
@@ -22,50 +21,49 @@ pub enum Status {
     OutputFailed = 74,
 }
 
-/// What the program prints, and the status it ends with.
+/// What the program prints, and the status it ends with. Each text ends with its line.
 #[derive(Debug)]
 pub struct Outcome {
+    /// An answer or a refusal, to the standard output.
     text: String,
-    status: Status,
-    /// Whether the text goes to the standard error.
-    complaint: bool,
+    /// To the standard error.
+    complaint: String,
     /// What goes there before it.
     notes: Vec<String>,
+    status: Status,
 }
 
 impl Outcome {
-    /// What is said, as a line or more; of a refusal what `refused` says.
-    pub fn of<T: Display>(said: Result<T, Error>, refused: impl FnOnce(Refusal) -> T) -> Outcome {
-        let line = |text: T, status| Outcome { status, ..Outcome::answer(format!("{text}\n")) };
-        match said {
-            Ok(text) => line(text, Status::Answered),
-            Err(Error::Refused(refusal)) => line(refused(refusal), Status::Refused),
-            Err(Error::Unreadable(unreadable)) => Outcome::unreadable(&unreadable),
-        }
-    }
-
-    /// `text` ends with its line.
     pub fn answer(text: String) -> Outcome {
-        Outcome { text, status: Status::Answered, complaint: false, notes: Vec::new() }
+        let status = Status::Answered;
+        Outcome { text, complaint: String::new(), notes: Vec::new(), status }
     }
 
     /// Everything is said already.
     pub fn silent(status: Status) -> Outcome {
-        Outcome::complaint(String::new(), status)
+        Outcome::answer(String::new()).ending(status)
     }
 
-    /// `text` ends with its line.
-    pub fn complaint(text: String, status: Status) -> Outcome {
-        Outcome { status, complaint: true, ..Outcome::answer(text) }
+    pub fn complaint(complaint: String, status: Status) -> Outcome {
+        Outcome::silent(status).complaining(complaint)
     }
 
-    /// `text` ends with its line.
     pub fn usage(text: String) -> Outcome {
         Outcome::complaint(text, Status::Usage)
     }
 
     pub fn unreadable(unreadable: &Unreadable) -> Outcome {
         Outcome::complaint(format!("{}\n", errors::unreadable(unreadable)), Status::Unreadable)
+    }
+
+    /// Where there is no answer that it could stand in.
+    pub fn of_error(error: Error) -> Outcome {
+        match error {
+            Error::Refused(refusal) => {
+                Outcome::complaint(format!("{}\n", errors::refused(refusal)), Status::Refused)
+            }
+            Error::Unreadable(unreadable) => Outcome::unreadable(&unreadable),
+        }
     }
 
     /// After an output that failed, with the status until then. A reader that has gone away has
@@ -78,13 +76,17 @@ impl Outcome {
         Outcome::complaint(text, Status::OutputFailed)
     }
 
-    /// One after the other, with the status of the worst.
-    pub fn joined(outcomes: impl Iterator<Item = Outcome>, between: &str) -> Outcome {
+    /// One after the other, with the status of the worst. Of several each has its place, if only an
+    /// empty line.
+    pub fn joined(outcomes: Vec<Outcome>, between: &str) -> Outcome {
+        let several = outcomes.len() > 1;
         let mut joined = Outcome::silent(Status::Answered);
-        joined.complaint = false;
-        for Outcome { text, status, .. } in outcomes {
+        for Outcome { text, complaint, notes, status } in outcomes {
             let between = if joined.text.is_empty() { "" } else { between };
-            joined.text.extend([between, &text]);
+            let text = if text.is_empty() && several { "\n" } else { &text };
+            joined.text.extend([between, text]);
+            joined.complaint.push_str(&complaint);
+            joined.notes.extend(notes);
             joined.status = joined.status.max(status);
         }
         joined
@@ -95,21 +97,24 @@ impl Outcome {
         Outcome { notes, ..self }
     }
 
+    pub fn complaining(self, complaint: String) -> Outcome {
+        Outcome { complaint, ..self }
+    }
+
     /// With this status instead.
     pub fn ending(self, status: Status) -> Outcome {
         Outcome { status, ..self }
     }
 
-    pub fn status(&self) -> Status {
-        self.status
+    pub fn notes(&self) -> &[String] {
+        &self.notes
     }
 
-    /// The text of an answer or a refusal, and which of them it is.
-    pub fn reply(&self) -> Option<(&str, Status)> {
-        (!self.complaint).then_some((&self.text, self.status))
+    /// The text and the complaint of an answer or a refusal, and which of them it is.
+    pub fn reply(&self) -> Option<(&str, &str, Status)> {
+        (self.status < Status::Usage).then_some((&self.text, &self.complaint, self.status))
     }
 
-    /// An answer and a refusal to the standard output, a complaint to the standard error.
     pub fn print(&self) -> ExitCode {
         for note in &self.notes {
             // A note that cannot be written changes no answer.
@@ -118,15 +123,13 @@ impl Outcome {
                 &format!("{}: Hinweis: {note}.\n", program::name()),
             );
         }
-        let written = match self.complaint {
-            false => write(&mut Output::standard(), &self.text),
-            true => write(&mut io::stderr().lock(), &self.text),
-        };
+        let written = write(&mut Output::standard(), &self.text)
+            .and_then(|()| write(&mut io::stderr().lock(), &self.complaint));
         let status = written.map_or_else(
             |error| {
                 let failed = Outcome::unwritten(&error, self.status);
                 // Nothing is left to be done if this fails too.
-                let _ = write(&mut io::stderr().lock(), &failed.text);
+                let _ = write(&mut io::stderr().lock(), &failed.complaint);
                 failed.status
             },
             |()| self.status,
@@ -135,7 +138,11 @@ impl Outcome {
     }
 }
 
+/// Where there is nothing to write, it does not matter whether it could be.
 fn write(to: &mut impl Write, text: &str) -> io::Result<()> {
+    if text.is_empty() {
+        return Ok(());
+    }
     to.write_all(text.as_bytes())?;
     to.flush()
 }
@@ -148,24 +155,24 @@ mod tests {
     #[test]
     fn an_answer_that_cannot_be_read_is_neither_an_answer_nor_a_refusal() {
         let answer = Answer::default().with_kind(23);
-        let said = answer.read(Call::IsWerktag).map(|reason: DayReason| reason.to_string());
-        let outcome = Outcome::of(said, errors::refused);
+        let read = answer.read(Call::IsWerktag).map(|reason: DayReason| reason.to_string());
+        let Err(Error::Unreadable(unreadable)) = read else { panic!("{read:?}") };
+        let outcome = Outcome::unreadable(&unreadable);
         let bytes = format!("0017{}", "00".repeat(30));
         let text = format!(
             "fristen: Die Antwort von mf_is_werktag ist nicht lesbar (Nummer 0, Bytes {bytes}).\n\
              Programm und Bibliothek sind nicht vom selben Stand.\n"
         );
         assert_eq!(outcome.reply(), None);
-        assert_eq!((outcome.text, outcome.status as u8), (text, 70));
+        assert_eq!((outcome.text, outcome.complaint), (String::new(), text));
+        assert_eq!(outcome.status as u8, 70);
     }
 
     #[test]
     fn an_answer_and_a_refusal() {
-        let outcome = |said| Outcome::of(said, errors::refused);
-        let answered = outcome(Ok("Ja.".to_owned()));
-        assert_eq!(answered.reply(), Some(("Ja.\n", Status::Answered)));
-        let refused = outcome(Err(Refusal::AnswerLength.into()));
-        let text = "Abgelehnt (1): Die Antwort ist nicht 32 Bytes lang.\n";
-        assert_eq!(refused.reply(), Some((text, Status::Refused)));
+        let outcome = Outcome::answer("Ja.\n".to_owned());
+        assert_eq!(outcome.reply(), Some(("Ja.\n", "", Status::Answered)));
+        let outcome = Outcome::complaint("Abgelehnt (1).\n".to_owned(), Status::Refused);
+        assert_eq!(outcome.reply(), Some(("", "Abgelehnt (1).\n", Status::Refused)));
     }
 }

@@ -10,39 +10,38 @@ use crate::json::Json;
 use crate::lines::Line;
 use crate::outcome::{Outcome, Status};
 use crate::program;
-use crate::report::refusal_json;
+use crate::report::{refusal_json, Asked};
 use crate::run::Run;
 use crate::usage::Usage;
-use line::{Pair, Reader, LABELS};
+use line::{Given, Pair, Reader, LABELS};
 use mako_fristen_host::{portfolio, Error, Refusal, MOST_PAIRS, OUT_OF_RANGE};
 
 /// Counts each line as it comes, in the form.
 pub fn lines(input: Input, form: Form) -> Outcome {
     let mut run = Run::new(&input, "portfolio", "Paare gezählt");
-    let mut reader = Reader::default();
+    let mut reader = Reader::new(form == Form::Json);
     let read = |line: &Line| Some((line.number, reader.read(line)));
     let ended = run.lines(input, MOST_PAIRS, read, |run, batch| answer(run, batch, form));
     run.outcome(ended)
 }
 
-/// Lines with their numbers: the pair, if there is one, or why they cannot be read.
-type Batch = Vec<(u64, Result<Option<Pair>, Usage>)>;
+/// Lines with their numbers: their dates, if there are any, or why they cannot be read.
+type Batch = Vec<(u64, Result<Option<Given>, Usage>)>;
 
 /// Each line has its own, so that both can stand side by side.
 fn answer(run: &mut Run, batch: &mut Batch, form: Form) -> Result<(), Outcome> {
     // What has no pair keeps its place with what is no date, whose count is not read.
-    let or_none = |read: &Result<Option<Pair>, _>| read.as_ref().ok().copied().flatten();
-    let pairs: Vec<Pair> =
-        batch.iter().map(|(_, read)| or_none(read).unwrap_or_default()).collect();
+    let pair = |read: &Result<Option<Given>, _>| Some(read.as_ref().ok()?.as_ref()?.pair);
+    let pairs: Vec<Pair> = batch.iter().map(|(_, read)| pair(read).unwrap_or_default()).collect();
     for ((line, read), count) in batch.drain(..).zip(portfolio(&pairs)) {
         let place = Place { line, form };
         match (read, count) {
-            (Ok(Some(pair)), Ok(count)) => {
-                run.say(place.counted(pair, count).as_bytes(), 1, Status::Answered)?;
+            (Ok(Some(given)), Ok(count)) => {
+                run.say(place.counted(&given, count).as_bytes(), 1, Status::Answered)?;
             }
-            (Ok(Some(pair)), Err(Error::Refused(refusal))) => {
-                run.name_line(&place.complaint(pair, refusal), Status::Refused)?;
-                run.say(place.refused(pair, refusal).as_bytes(), 1, Status::Refused)?;
+            (Ok(Some(given)), Err(Error::Refused(refusal))) => {
+                run.name_line(&place.complaint(given.pair, refusal), Status::Refused)?;
+                run.say(place.refused(&given, refusal).as_bytes(), 1, Status::Refused)?;
             }
             (Ok(Some(_)), Err(Error::Unreadable(unreadable))) => {
                 return Err(Outcome::unreadable(&unreadable));
@@ -71,56 +70,56 @@ struct Place {
 }
 
 impl Place {
-    fn counted(self, pair: Pair, count: u32) -> String {
+    fn counted(self, given: &Given, count: u32) -> String {
         match self.form {
-            Form::Json => self.json(Some(pair), Json::Null, Json::number(count), None),
+            Form::Json => self.json(Some(given), Json::Null, Json::Null, count.into()),
             Form::Bytes => entry(count),
             Form::Sentence | Form::Short => format!("{count}\n"),
         }
     }
 
-    fn refused(self, pair: Pair, refusal: Refusal) -> String {
+    fn refused(self, given: &Given, refusal: Refusal) -> String {
+        let why = refusal_json(refusal, &no_date(given.pair));
         match self.form {
             Form::Bytes => entry(OUT_OF_RANGE),
-            _ => self.without_count(Some(pair), refusal_json(refusal), None),
+            _ => self.without_count(Some(given), why, Json::Null),
         }
     }
 
     fn unread(self, usage: &Usage) -> String {
-        self.without_count(None, Json::Null, Some(&usage.message))
+        self.without_count(None, Json::Null, usage.message.as_str().into())
     }
 
     fn empty(self) -> String {
-        self.without_count(None, Json::Null, None)
+        self.without_count(None, Json::Null, Json::Null)
     }
 
-    fn without_count(self, pair: Option<Pair>, refusal: Json, error: Option<&str>) -> String {
+    fn without_count(self, given: Option<&Given>, refusal: Json, error: Json) -> String {
         match self.form {
-            Form::Json => self.json(pair, refusal, Json::Null, error),
+            Form::Json => self.json(given, refusal, error, Json::Null),
             _ => "\n".to_owned(),
         }
     }
 
-    fn json(self, pair: Option<Pair>, refusal: Json, count: Json, error: Option<&str>) -> String {
-        let dates = pair.into_iter().flat_map(|(from, to)| [from, to]);
-        let error = error.map(|error| ("error", Json::text(error)));
-        let members = [
-            ("line", Json::number(i64::try_from(self.line).unwrap_or(i64::MAX))),
-            ("call", Json::text("mf_portfolio")),
-            ("arguments", Json::list(dates.map(Json::text))),
-            ("refusal", refusal),
-            ("count", count),
-        ];
-        format!("{}\n", Json::Object(members.into_iter().chain(error).collect()))
+    fn json(self, given: Option<&Given>, refusal: Json, error: Json, count: Json) -> String {
+        let (from, to) = given.map(|given| given.pair).unzip();
+        let read = vec![("from", from.into()), ("to", to.into())];
+        let words = given.map_or(&[][..], |given| &given.words);
+        let asked = Asked { call: "mf_portfolio", given: words, read };
+        let json = asked.answered(refusal, vec![("error", error), ("count", count)]);
+        format!("{}\n", json.in_line(self.line))
     }
 
-    /// Which date it is, and why it has no count.
-    fn complaint(self, (from, to): Pair, refusal: Refusal) -> String {
-        let given = LABELS.into_iter().zip([from, to]);
-        let why = |(label, date)| Some(format!("{label} {}", date_why(date)?));
-        let outside: Vec<_> = given.filter_map(why).collect();
-        let sentence = format!("{}.", outside.join("; "));
-        let refused = errors::refused_as(refusal, &sentence);
+    fn complaint(self, pair: Pair, refusal: Refusal) -> String {
+        let refused = errors::refused_as(refusal, &no_date(pair));
         format!("{}: Zeile {}: {refused}\n", program::name(), self.line)
     }
+}
+
+/// Which date has no count, and why.
+fn no_date((from, to): Pair) -> String {
+    let given = LABELS.into_iter().zip([from, to]);
+    let why = |(label, date)| Some(format!("{label} {}", date_why(date)?));
+    let outside: Vec<_> = given.filter_map(why).collect();
+    format!("{}.", outside.join("; "))
 }

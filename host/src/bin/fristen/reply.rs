@@ -1,58 +1,114 @@
 use crate::arguments::Form;
-use crate::errors;
 use crate::inquiry::Inquiry;
 use crate::json::Json;
-use crate::outcome::Outcome;
-use crate::{report, sentences};
+use crate::outcome::{Outcome, Status};
+use crate::report::{self, refusal_json};
+use crate::{errors, ja_nein, program, sentences, short};
 use mako_fristen_host::{Answer, Error, Refusal};
 use std::ffi::OsString;
 
-/// How an inquiry is answered.
+/// How a question is answered.
 #[derive(Clone, Copy, Debug)]
 pub struct Reply<'a> {
     pub form: Form,
-    /// The arguments of the inquiry, as given.
+    /// Whether yes or no is to be a status too.
+    pub status: bool,
+    /// The arguments, as given.
     pub given: &'a [OsString],
-    /// Where it stands in a file. The reply is then one line, which begins with the number.
+    /// Where the question stands in a file. The reply is then one line that begins with the number.
     pub line: Option<u64>,
 }
 
 impl Reply<'_> {
     pub fn outcome(&self, inquiry: &Inquiry, answer: Result<Answer, Error>) -> Outcome {
-        let said = answer.and_then(|answer| self.answered(inquiry, &answer));
-        Outcome::of(said, |refusal| self.refused(inquiry, refusal)).noted(inquiry.notes.clone())
-    }
-
-    fn answered(&self, inquiry: &Inquiry, answer: &Answer) -> Result<String, Error> {
-        Ok(match self.form {
-            Form::Sentence => self.text(sentences::of(inquiry, answer)?),
-            Form::Json => self.json(report::answered(inquiry, self.given, answer)?),
-            Form::Bytes | Form::Short => self.text(format!("{answer:x}")),
-        })
-    }
-
-    fn refused(&self, inquiry: &Inquiry, refusal: Refusal) -> String {
-        match self.form {
-            Form::Sentence => {
-                self.text(errors::refused_as(refusal, &inquiry.beschreibung(refusal)))
+        let said = match answer.and_then(|answer| self.answered(inquiry, &answer)) {
+            Err(Error::Refused(refusal)) => {
+                self.refused(refusal, &inquiry.beschreibung(refusal), |refusal| {
+                    report::refused(inquiry, self.given, refusal)
+                })
             }
-            Form::Json => self.json(report::refused(inquiry, self.given, refusal)),
-            Form::Bytes | Form::Short => self.text(format!("{:x}", Answer::refused(refusal))),
-        }
+            said => said,
+        };
+        said.unwrap_or_else(Outcome::of_error).noted(inquiry.notes.clone())
     }
 
-    fn text(&self, text: String) -> String {
+    fn answered(&self, inquiry: &Inquiry, answer: &Answer) -> Result<Outcome, Error> {
+        let text = match self.form {
+            Form::Sentence => self.text(&sentences::of(inquiry, answer)?),
+            Form::Json => self.json(report::answered(inquiry, self.given, answer)?),
+            Form::Bytes => self.text(&format!("{answer:x}")),
+            Form::Short => self.text(&short::of(inquiry, answer)?),
+        };
+        let status = match self.status {
+            true => ja_nein::status(inquiry.call, answer)?,
+            false => Status::Answered,
+        };
+        Ok(Outcome::answer(text).ending(status))
+    }
+
+    /// Of a command that is no call: its sentence, its bare value, the sentence of its refusal, and
+    /// the object of either. There are no bytes.
+    pub fn said<T>(
+        &self,
+        answer: Result<T, Error>,
+        sentence: impl FnOnce(&T) -> String,
+        short: impl FnOnce(&T) -> String,
+        refused: impl FnOnce(Refusal) -> String,
+        json: impl FnOnce(Json, Option<&T>) -> Json,
+    ) -> Outcome {
+        let said = match answer {
+            Ok(answer) => Ok(Outcome::answer(match self.form {
+                Form::Json => self.json(json(Json::Null, Some(&answer))),
+                Form::Short => self.text(&short(&answer)),
+                Form::Sentence | Form::Bytes => self.text(&sentence(&answer)),
+            })),
+            Err(Error::Refused(refusal)) => {
+                self.refused(refusal, &refused(refusal), |refusal| Ok(json(refusal, None)))
+            }
+            Err(error) => Err(error),
+        };
+        said.unwrap_or_else(Outcome::of_error)
+    }
+
+    /// The refusal with its sentence; `json` has the rest of the object.
+    fn refused(
+        &self,
+        refusal: Refusal,
+        sentence: &str,
+        json: impl FnOnce(Json) -> Result<Json, Error>,
+    ) -> Result<Outcome, Error> {
+        let said = errors::refused_as(refusal, sentence);
+        let text = match self.form {
+            Form::Sentence => self.text(&said),
+            Form::Json => self.json(json(refusal_json(refusal, sentence))?),
+            Form::Bytes => self.text(&format!("{:x}", Answer::refused(refusal))),
+            Form::Short => return Ok(self.without_value(&said)),
+        };
+        Ok(Outcome::answer(text).ending(Status::Refused))
+    }
+
+    /// Where a value is expected, nothing else may stand.
+    fn without_value(&self, said: &str) -> Outcome {
+        let name = program::name();
+        let (place, complaint) = match self.line {
+            Some(line) => (self.text(""), format!("{name}: Zeile {line}: {said}\n")),
+            None => (String::new(), format!("{name}: {said}\n")),
+        };
+        Outcome::answer(place).complaining(complaint).ending(Status::Refused)
+    }
+
+    fn text(&self, text: &str) -> String {
         match self.line {
-            Some(line) => format!("{line}: {}", text.replace('\n', " ")),
-            None => text,
+            Some(line) if text.is_empty() => format!("{line}:\n"),
+            Some(line) => format!("{line}: {}\n", text.replace('\n', " ")),
+            None => format!("{text}\n"),
         }
     }
 
     fn json(&self, json: Json) -> String {
-        let line = self.line.map(|line| i64::try_from(line).unwrap_or(i64::MAX));
-        match line {
-            Some(line) => json.after("line", Json::number(line)).to_string(),
-            None => json.to_string(),
+        match self.line {
+            Some(line) => format!("{}\n", json.in_line(line)),
+            None => format!("{json}\n"),
         }
     }
 }

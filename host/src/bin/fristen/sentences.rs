@@ -2,25 +2,42 @@
 //! answered call took.
 
 mod abmeldung;
+pub mod anchor;
 mod berlin;
 mod fristen;
 mod kalender;
+pub mod rule;
+mod skipped;
 mod vorlauf;
 
-pub use kalender::also;
+pub use kalender::cut_day;
 
+use crate::deutsch::zweimal;
 use crate::inquiry::Inquiry;
-use mako_fristen_host::{Answer, Call, Error, FristShape};
+use mako_fristen_host::{Answer, BerlinTime, Call, Error, Parameter};
 
 /// One or more sentences, a line each where they are long.
 pub fn of(inquiry: &Inquiry, answer: &Answer) -> Result<String, Error> {
-    let (call, n, at) = (inquiry.call, inquiry.question.n, inquiry.question.clock);
-    let werktag_at = |werktage| FristShape::WerktagAt { werktage, at };
+    let lines = [vec![said(inquiry, answer)?], twice(inquiry)?].concat();
+    Ok(lines.join("\n"))
+}
+
+/// Of each instant that was given by a time which Berlin's clock shows twice: which of both it is.
+fn twice(inquiry: &Inquiry) -> Result<Vec<String>, Error> {
+    let (first, second) = (inquiry.question.instant, inquiry.question.instant2);
+    let instants = [(Parameter::Instant, first), (Parameter::SecondInstant, second)];
+    let twice = |(parameter, _): &_| inquiry.twice.contains(&inquiry.label(*parameter));
+    let twice = instants.into_iter().filter(twice);
+    twice.map(|(_, instant)| Ok(zweimal(BerlinTime::of(instant)?))).collect()
+}
+
+fn said(inquiry: &Inquiry, answer: &Answer) -> Result<String, Error> {
+    let call = inquiry.call;
     match call {
         Call::IsWerktag => kalender::day(inquiry, answer.read(call)?),
-        Call::NextWerktag => Ok(kalender::next(inquiry, answer.read(call)?)),
-        Call::AddWerktage => Ok(kalender::step(inquiry, answer.read(call)?, "nach")),
-        Call::SubWerktage => Ok(kalender::step(inquiry, answer.read(call)?, "vor")),
+        Call::NextWerktag => kalender::next(inquiry, answer.read(call)?),
+        Call::AddWerktage => kalender::step(inquiry, answer.read(call)?, "nach"),
+        Call::SubWerktage => kalender::step(inquiry, answer.read(call)?, "vor"),
         Call::WerktageBetween => Ok(kalender::between(inquiry, answer.read(call)?)),
         Call::AddMonths => Ok(kalender::months(inquiry, answer.read(call)?, "nach")),
         Call::SubtractMonths => Ok(kalender::months(inquiry, answer.read(call)?, "vor")),
@@ -40,12 +57,11 @@ pub fn of(inquiry: &Inquiry, answer: &Answer) -> Result<String, Error> {
         | Call::AperakGasInitialprozessDueAt
         | Call::AperakGasDueAt => fristen::gas(inquiry, answer.read(call)?),
         Call::AddHours => fristen::hours(inquiry, answer.read(call)?),
-        Call::DeadlineAtWerktage | Call::EndOfWerktagAfter => {
-            fristen::shaped(inquiry, answer.read(call)?, FristShape::EndOfWerktag(n))
-        }
-        Call::NextWerktagAt => fristen::shaped(inquiry, answer.read(call)?, werktag_at(1)),
-        Call::NthWerktagAt => fristen::shaped(inquiry, answer.read(call)?, werktag_at(n)),
-        Call::FristDueAt => fristen::shaped(inquiry, answer.read(call)?, inquiry.frist()?),
+        Call::DeadlineAtWerktage
+        | Call::EndOfWerktagAfter
+        | Call::NextWerktagAt
+        | Call::NthWerktagAt
+        | Call::FristDueAt => fristen::shaped(inquiry, answer.read(call)?),
         Call::VorlaufCheck | Call::VorlaufCheckAt => vorlauf::judged(inquiry, answer.read(call)?),
         Call::VorlaufSpan => vorlauf::spanned(inquiry, answer.read(call)?),
         Call::AbmeldungFuer => abmeldung::heading(inquiry, answer.read(call)?),

@@ -1,6 +1,7 @@
 //! The days that a step passes over.
 
-use mako_fristen_host::{day_reason, Date, DayReason, Error, Feiertag};
+use crate::inquiry::Inquiry;
+use mako_fristen_host::{day_reason, Call, Date, DayReason, Error, Feiertag};
 
 /// What a day that is no Werktag is called: a holiday by its name, on a weekend too, and the Sunday
 /// before Ostermontag, which is none of the list.
@@ -25,6 +26,15 @@ impl Closed {
         Ok(Some(Feiertag::on(date)?.map_or(weekend, Closed::Holiday)))
     }
 
+    /// What a day on a weekend is besides, which the day test does not say.
+    pub fn also(date: Date, reason: DayReason) -> Result<Option<Closed>, Error> {
+        let closed = match reason {
+            DayReason::Samstag | DayReason::Sonntag => Closed::on(date)?,
+            DayReason::Werktag | DayReason::Feiertag(_) => None,
+        };
+        Ok(closed.filter(|closed| !matches!(closed, Closed::Samstag | Closed::Sonntag)))
+    }
+
     pub fn name(self) -> &'static str {
         match self {
             Closed::Holiday(holiday) => holiday.name(),
@@ -41,6 +51,14 @@ pub fn is_ostersonntag(sunday: Date) -> Result<bool, Error> {
         Some(monday) => Ok(day_reason(monday)? == DayReason::Feiertag(Feiertag::Ostermontag)),
         None => Ok(false),
     }
+}
+
+/// What a step by Werktage has passed over. The first Werktag from a date on passes over the date
+/// too.
+pub fn by(inquiry: &Inquiry, to: Date) -> Result<Vec<(Closed, u32)>, Error> {
+    let date = inquiry.question.date;
+    let before = date.plus_days(-1).filter(|_| inquiry.call == Call::NextWerktag);
+    between(before.unwrap_or(date), to)
 }
 
 /// The closed days between two dates, without both, in their order: each kind with how many of it.

@@ -1,6 +1,6 @@
 use mako_fristen_host::{
-    berlin_at, berlin_midnight, contrl_due_at_change, Clock, ContrlAnlass, Date, Error, Instant,
-    Question, Refusal,
+    berlin_at, berlin_date, berlin_midnight, contrl_due_at_change, Clock, ContrlAnlass, Date,
+    Error, Instant, Question, Refusal,
 };
 
 /// The clock time on the day before the change day from which the window runs.
@@ -21,9 +21,23 @@ pub struct Umstellung {
 }
 
 impl Umstellung {
-    /// Of a question that is answered.
+    /// Of a question with a change day that is answered.
     pub fn of(question: &Question) -> Result<Umstellung, Error> {
-        let beside = |days| question.date.plus_days(days).ok_or(Refusal::LeavesCalendar);
+        Umstellung::on(question.date, question)
+    }
+
+    /// Of a question without one: the Formatumstellung that has moved its due instant to the end of
+    /// its window, the midnight behind the change day. None if none has.
+    pub fn that_moved(question: &Question, due: Instant) -> Result<Option<Umstellung>, Error> {
+        if otherwise(question)? == due {
+            return Ok(None);
+        }
+        let stichtag = berlin_date(due)?.plus_days(-1).ok_or(Refusal::LeavesCalendar)?;
+        Umstellung::on(stichtag, question).map(Some)
+    }
+
+    fn on(stichtag: Date, question: &Question) -> Result<Umstellung, Error> {
+        let beside = |days| stichtag.plus_days(days).ok_or(Refusal::LeavesCalendar);
         let from = berlin_at(beside(-1)?, BEGINN)?;
         let to = berlin_midnight(beside(1)?)?;
         Ok(Umstellung { from, to, otherwise: otherwise(question)? })

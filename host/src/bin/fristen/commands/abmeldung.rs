@@ -12,11 +12,15 @@ pub const COMMANDS: [Command; 3] = [
         operands: &[GRUND, EEG],
         options: &[],
         summary: "welche Vorlauffrist eine Abmeldung durch den Netzbetreiber hat",
-        meaning: "GRUND ist der Transaktionsgrund; nur ZQ7, genau so geschrieben, ist die\n\
-                  Deaktivierung. --eeg sagt, ob es eine EEG-Marktlokation oder eine Tranche einer\n\
-                  solchen ist.",
-        examples: &[Example::new("abmeldung-fuer ZQ7 --eeg unbekannt", "Grund „ZQ7“: Die Frist ist die des Prüfschritts 120: „Liegt das Eingangsdatum der \
-                 Abmeldung nach dem 5. WT des Monats, in dem die Zuordnungsermächtigung endet?“")],
+        meaning: "\
+GRUND ist der Transaktionsgrund; nur ZQ7, genau so geschrieben, ist die
+Deaktivierung. --eeg sagt, ob es eine EEG-Marktlokation oder eine Tranche einer
+solchen ist.",
+        examples: &[Example::new(
+            "abmeldung-fuer ZQ7 --eeg unbekannt",
+            "Grund „ZQ7“: Die Frist ist die des Prüfschritts 120: „Liegt das Eingangsdatum der \
+             Abmeldung nach dem 5. WT des Monats, in dem die Zuordnungsermächtigung endet?“",
+        )],
     },
     Command {
         name: "abmeldung",
@@ -30,14 +34,18 @@ pub const COMMANDS: [Command; 3] = [
         ],
         options: &[],
         summary: "ob eine Abmeldung durch den Netzbetreiber rechtzeitig kam",
-        meaning:
-            "Das Urteil nach der Vorlauffrist, die abmeldung-fuer nennt, mit den Tagen, die noch\n\
-                  Luft sind oder zu spät; „margin“ in --json wie bei check. Hat der Fall keine, so gibt\n\
-                  es kein Urteil und „margin“ ist null; das heißt nicht, dass die Frist gewahrt ist.",
-        examples: &[Example::new("abmeldung ZT0 --eeg nein 2026-01-08 2026-01-12", "Grund „ZT0“, keine EEG-Marktlokation: Spätester Übertragungstag ist der Tag vor \
-                 dem letzten Werktag vor dem Zuordnungsende.\n\
-                 Frist gewahrt, kein Tag Luft: Übertragungstag Donnerstag, 8. Januar 2026, \
-                 Zuordnungsende Montag, 12. Januar 2026.")],
+        meaning: "\
+Das Urteil nach der Vorlauffrist, die abmeldung-fuer nennt, mit den Tagen, die noch
+Luft sind oder zu spät; „margin“ in --json wie bei check. Hat der Fall keine, so gibt
+es kein Urteil und „margin“ ist null; das heißt nicht, dass die Frist gewahrt ist.",
+        examples: &[Example::new(
+            "abmeldung ZT0 --eeg nein 2026-01-08 2026-01-12",
+            "Frist gewahrt, kein Tag Luft: Übertragungstag Donnerstag, 8. Januar 2026, \
+             Zuordnungsende Montag, 12. Januar 2026, Grund „ZT0“, keine EEG-Marktlokation.\n\
+             Zulässig ist ein Zuordnungsende ab Samstag, dem 10. Januar 2026.\n\
+             Spätester Übertragungstag ist der Tag vor dem letzten Werktag vor dem Zuordnungsende: \
+             Donnerstag, der 8. Januar 2026.",
+        )],
     },
     Command {
         name: "ankuendigung",
@@ -47,12 +55,16 @@ pub const COMMANDS: [Command; 3] = [
         options: &[],
         summary: "ob die Ankündigung der Zuordnung des E/G von 00:00 bis 13:00 Uhr des letzten \
                   Werktags davor kam",
-        meaning:
-            "Fristgerecht von 00:00 bis 13:00 Uhr des letzten Werktags vor dem Zuordnungsbeginn\n\
-                  (GPKE Teil 2 Kap. 2.3.2.2 Nr. 1). Vom Zuordnungsbeginn an weder noch.",
-        examples: &[Example::new("ankuendigung 2026-01-09T13:00:00+01:00 2026-01-12", "Fristgerecht: Eingang am Freitag, 9. Januar 2026, um 13:00 Uhr, Zuordnungsbeginn \
-                 Montag, 12. Januar 2026.\n\
-                 Frühester Übertragungszeitpunkt ist 00:00 Uhr und spätester 13:00 Uhr des letzten \
-                 Werktags vor dem Zuordnungsbeginn: Freitag, 9. Januar 2026.")],
+        meaning: "\
+Fristgerecht von 00:00 bis 13:00 Uhr des letzten Werktags vor dem Zuordnungsbeginn
+(GPKE Teil 2 Kap. 2.3.2.2 Nr. 1), vorher zu früh, nachher zu spät. Vom
+Zuordnungsbeginn an weder fristgerecht noch verspätet.",
+        examples: &[Example::new(
+            "ankuendigung 2026-01-09T13:00:00+01:00 2026-01-12",
+            "Fristgerecht: Eingang am Freitag, dem 9. Januar 2026, um 13:00 Uhr, Zuordnungsbeginn \
+             Montag, 12. Januar 2026.\n\
+             Fristgerecht ist die Ankündigung am letzten Werktag vor dem Zuordnungsbeginn von \
+             00:00 bis 13:00 Uhr: am Freitag, dem 9. Januar 2026.",
+        )],
     },
 ];

@@ -9,14 +9,14 @@ pub const COMMANDS: [Command; 6] = [
         operands: &[(Parameter::Date, "DATUM"), (Parameter::Clock, "UHRZEIT")],
         options: &[],
         summary: "der Zeitpunkt einer Uhrzeit in Berlin",
-        meaning:
-            "Zeigt die Uhr die Zeit zweimal, so gilt die frühere. Gibt es sie an dem Tag nicht,\n\
-                  so wird abgelehnt (6).",
+        meaning: "\
+Zeigt die Uhr die Zeit zweimal, so gilt die frühere. Gibt es sie an dem Tag nicht,
+so wird abgelehnt (6).",
         examples: &[Example::new(
             "berlin-at 2026-10-25 02:30",
-            "In Berlin Sonntag, 25. Oktober 2026, 02:30 Uhr Sommerzeit (MESZ); das ist \
-                 Sonntag, 25. Oktober 2026, 00:30 Uhr UTC. Die Uhr zeigt diese Zeit zweimal; es \
-                 gilt die frühere.",
+            "Sonntag, der 25. Oktober 2026, 02:30 Uhr Sommerzeit in Berlin ist Sonntag, der 25. \
+             Oktober 2026, 00:30 Uhr Weltzeit (UTC). Die Uhr zeigt diese Zeit zweimal; gemeint \
+             ist die frühere.",
         )],
     },
     Command {
@@ -29,8 +29,8 @@ pub const COMMANDS: [Command; 6] = [
         meaning: "Der Beginn des Tages in Berlin.",
         examples: &[Example::new(
             "berlin-midnight 2026-03-29",
-            "Sonntag, der 29. März 2026, beginnt in Berlin um 00:00 Uhr; das ist Samstag, \
-                 28. März 2026, 23:00 Uhr UTC.",
+            "Sonntag, der 29. März 2026, beginnt in Berlin um 00:00 Uhr; das ist Samstag, der 28. \
+             März 2026, 23:00 Uhr Weltzeit (UTC).",
         )],
     },
     Command {
@@ -44,7 +44,7 @@ pub const COMMANDS: [Command; 6] = [
         examples: &[Example::new(
             "end-of-day-berlin 2026-03-29",
             "Sonntag, der 29. März 2026, endet in Berlin um 23:59:59,999999999 Uhr; das ist \
-                 Sonntag, 29. März 2026, 21:59:59,999999999 Uhr UTC.",
+             Sonntag, der 29. März 2026, 21:59:59,999999999 Uhr Weltzeit (UTC).",
         )],
     },
     Command {
@@ -54,12 +54,13 @@ pub const COMMANDS: [Command; 6] = [
         operands: &[(Parameter::Date, "DATUM"), (Parameter::Sparte, "SPARTE")],
         options: &[],
         summary: "wann der Tag in der Sparte Strom oder Gas beginnt",
-        meaning: "Strom beginnt um 00:00 Uhr, Gas um 06:00 Uhr gesetzlicher deutscher Zeit.\n\
-                  SPARTE ist Strom oder Gas.",
+        meaning: "\
+Strom beginnt um 00:00 Uhr, Gas um 06:00 Uhr gesetzlicher deutscher Zeit.
+SPARTE ist Strom oder Gas.",
         examples: &[Example::new(
             "tagesbeginn-utc 2026-03-29 Gas",
-            "In der Sparte Gas beginnt Sonntag, der 29. März 2026, in Berlin um 06:00 Uhr; \
-                 das ist Sonntag, 29. März 2026, 04:00 Uhr UTC.",
+            "In der Sparte Gas beginnt Sonntag, der 29. März 2026, in Berlin um 06:00 Uhr; das \
+             ist Sonntag, der 29. März 2026, 04:00 Uhr Weltzeit (UTC).",
         )],
     },
     Command {
@@ -82,12 +83,12 @@ pub const COMMANDS: [Command; 6] = [
         operands: &[(Parameter::Instant, "ZEITPUNKT"), (Parameter::Sparte, "SPARTE")],
         options: &[],
         summary: "welcher Tag in der Sparte Strom oder Gas dann beginnt",
-        meaning:
-            "Die Umkehrung von tagesbeginn-utc. Beginnt dann kein Tag, so wird abgelehnt (7).\n\
-                  SPARTE ist Strom oder Gas.",
+        meaning: "\
+Die Umkehrung von tagesbeginn-utc. Beginnt dann kein Tag, so wird abgelehnt (7).
+SPARTE ist Strom oder Gas.",
         examples: &[Example::new(
             "tag-des-beginns 2026-03-29T04:00:00Z Gas",
-            "In der Sparte Gas beginnt zu diesem Zeitpunkt Sonntag, der 29. März 2026.",
+            "In der Sparte Gas beginnt dann, um 06:00 Uhr in Berlin, Sonntag, der 29. März 2026.",
         )],
     },
 ];

@@ -2,13 +2,13 @@ use crate::command::{Command, Example, Task};
 use mako_fristen_host::{Call, Parameter};
 
 /// The output of both examples with a change day.
-const VERLEGT: &str = "\
-Eingang am Freitag, 5. Juni 2026, um 12:00 Uhr: Die CONTRL im Regelfall ist fällig am Sonntag, \
-7. Juni 2026, um 00:00 Uhr (contrl-delivery-window).
-Stichtag der Formatumstellung ist Samstag, der 6. Juni 2026; ihr Zeitraum geht von Freitag, \
-5. Juni 2026, 18:00 Uhr, bis Sonntag, 7. Juni 2026, 00:00 Uhr.
-Ohne Umstellung wäre die CONTRL fällig am Freitag, 5. Juni 2026, um 18:00 Uhr; das liegt in diesem \
-Zeitraum, also gilt sein Ende.";
+const VERLEGT: &str =
+    "Eingang am Freitag, dem 5. Juni 2026, um 12:00 Uhr: Die CONTRL im Regelfall ist fällig in \
+     der Nacht vom 6. auf den 7. Juni 2026, am Sonntag um 00:00 Uhr.\n\
+     Stichtag der Formatumstellung ist Samstag, der 6. Juni 2026; ihr Zeitraum geht von Freitag, \
+     dem 5. Juni 2026, 18:00 Uhr, bis Sonntag, den 7. Juni 2026, 00:00 Uhr.\n\
+     Ohne Umstellung wäre die CONTRL fällig am Freitag, dem 5. Juni 2026, um 18:00 Uhr. Das liegt \
+     in diesem Zeitraum; darum gilt sein Ende.";
 
 pub const COMMANDS: [Command; 13] = [
     Command {
@@ -18,15 +18,27 @@ pub const COMMANDS: [Command; 13] = [
         operands: &[(Parameter::Anlass, "ANLASS"), (Parameter::Instant, "EINGANG")],
         options: &["[--stichtag DATUM]"],
         summary: "wann die CONTRL fällig ist",
-        meaning: "ANLASS ist Regelfall (6 Stunden), StromUtilmdOderOrders (15 Minuten, bei Eingang an\n\
-                  einem Samstag 6 Stunden) oder GasAlocat (45 Minuten). Was vom 31. März oder\n\
-                  30. September 18:00 Uhr an fällig wäre und vor dem 2. April oder 2. Oktober\n\
-                  00:00 Uhr, ist es dann (CONTRL AHB 1.0).\n\
-                  --stichtag nennt den Tag einer verlegten Formatumstellung. Dann gibt es nur einen\n\
-                  Zeitraum: Was von 18:00 Uhr des Vortags an fällig wäre und vor 00:00 Uhr des\n\
-                  Folgetags, ist es dann. Dasselbe ohne Option: contrl-due-at-change.",
-        examples: &[Example::new("contrl Regelfall 2026-03-31T11:59:59+02:00", "Eingang am Dienstag, 31. März 2026, um 11:59:59 Uhr: Die CONTRL im Regelfall ist \
-                 fällig am Dienstag, 31. März 2026, um 17:59:59 Uhr (contrl-delivery-window)."), Example::new("contrl Regelfall 2026-06-05T12:00:00+02:00 --stichtag 2026-06-06", VERLEGT)],
+        meaning: "\
+ANLASS ist Regelfall (6 Stunden), StromUtilmdOderOrders (15 Minuten, bei Eingang an
+einem Samstag 6 Stunden) oder GasAlocat (45 Minuten). Wäre die CONTRL vom 31. März,
+18:00 Uhr, an und vor dem 2. April, 00:00 Uhr, fällig, so ist sie es am 2. April um
+00:00 Uhr; ebenso vom 30. September bis zum 2. Oktober (CONTRL AHB 1.0).
+--stichtag nennt den Tag einer verlegten Formatumstellung. Dann gibt es nur ihren
+Zeitraum: von 18:00 Uhr des Tages davor bis 00:00 Uhr des Tages danach. Dasselbe
+ohne Option: contrl-due-at-change.",
+        examples: &[Example::new(
+            "contrl Regelfall 2026-03-31T11:59:59+02:00",
+            "Eingang am Dienstag, dem 31. März 2026, um 11:59:59 Uhr: Die CONTRL im Regelfall ist \
+             fällig am Dienstag, dem 31. März 2026, um 17:59:59 Uhr.",
+        ), Example::new(
+            "contrl Regelfall 31.3.2026 12:00",
+            "Eingang am Dienstag, dem 31. März 2026, um 12:00 Uhr: Die CONTRL im Regelfall ist \
+             fällig in der Nacht vom 1. auf den 2. April 2026, am Donnerstag um 00:00 Uhr.\n\
+             Ohne Umstellung wäre sie fällig am Dienstag, dem 31. März 2026, um 18:00 Uhr. Das \
+             liegt im Zeitraum der Formatumstellung von Dienstag, dem 31. März 2026, 18:00 Uhr, \
+             bis Donnerstag, den 2. April 2026, 00:00 Uhr; darum gilt dessen Ende.",
+        ), Example::new(
+            "contrl Regelfall 2026-06-05T12:00:00+02:00 --stichtag 2026-06-06", VERLEGT)],
     },
     Command {
         name: "contrl-due-at-change",
@@ -39,10 +51,12 @@ pub const COMMANDS: [Command; 13] = [
         ],
         options: &[],
         summary: "dasselbe mit dem Stichtag einer verlegten Formatumstellung",
-        meaning: "Die Antwort von contrl mit --stichtag. Den Zeitraum um den Stichtag hat „window“ in\n\
-                  --json; „from“ gehört dazu, „to“ nicht mehr. „moved“ sagt, ob er die Fälligkeit\n\
-                  verschiebt, „due_before_tolerance“, wann die CONTRL ohne ihn fällig wäre.",
-        examples: &[Example::new("contrl-due-at-change Regelfall 2026-06-05T12:00:00+02:00 2026-06-06", VERLEGT)],
+        meaning: "\
+Die Antwort von contrl mit --stichtag. Den Zeitraum um den Stichtag hat „window“ in
+--json; „from“ gehört dazu, „to“ nicht mehr. „moved“ sagt, ob er die Fälligkeit
+verschiebt, „due_before_tolerance“, wann die CONTRL ohne ihn fällig wäre.",
+        examples: &[Example::new(
+            "contrl-due-at-change Regelfall 2026-06-05T12:00:00+02:00 2026-06-06", VERLEGT)],
     },
     Command {
         name: "aperak-strom",
@@ -51,11 +65,14 @@ pub const COMMANDS: [Command; 13] = [
         operands: &[(Parameter::Instant, "EINGANG")],
         options: &[],
         summary: "wann die APERAK auf UTILMD oder ORDERS Strom fällig ist",
-        meaning: "45 Minuten nach Eingang, auch an Sonn- und Feiertagen; bei Eingang an einem Samstag\n\
-                  am Sonntag um 12:00 Uhr.",
-        examples: &[Example::new("aperak-strom 2026-01-10T10:00:00+01:00", "Eingang am Samstag, 10. Januar 2026, um 10:00 Uhr: Die APERAK auf UTILMD oder \
-                 ORDERS Strom ist fällig am Sonntag, 11. Januar 2026, um 12:00 Uhr \
-                 (aperak-strom-45min-window).")],
+        meaning: "\
+45 Minuten nach Eingang, auch an Sonn- und Feiertagen; bei Eingang an einem Samstag
+am Sonntag um 12:00 Uhr.",
+        examples: &[Example::new(
+            "aperak-strom 2026-01-10T10:00:00+01:00",
+            "Eingang am Samstag, dem 10. Januar 2026, um 10:00 Uhr: Die APERAK auf UTILMD oder \
+             ORDERS Strom ist fällig am Sonntag, dem 11. Januar 2026, um 12:00 Uhr.",
+        )],
     },
     Command {
         name: "aperak-strom-allgemein",
@@ -64,10 +81,12 @@ pub const COMMANDS: [Command; 13] = [
         operands: &[(Parameter::Instant, "EINGANG")],
         options: &[],
         summary: "wann die APERAK auf eine andere Nachricht Strom fällig ist",
-        meaning: "Um 12:00 Uhr des ersten Werktags nach dem Eingangstag.",
-        examples: &[Example::new("aperak-strom-allgemein 2026-04-02T10:00:00+02:00", "Eingang am Donnerstag, 2. April 2026, um 10:00 Uhr: Die APERAK auf eine andere \
-                 Nachricht Strom ist fällig am Dienstag, 7. April 2026, um 12:00 Uhr \
-                 (aperak-strom-naechster-wt-1200).")],
+        meaning: "Um 12:00 Uhr am ersten Werktag nach dem Eingangstag.",
+        examples: &[Example::new(
+            "aperak-strom-allgemein 2026-04-02T10:00:00+02:00",
+            "Eingang am Donnerstag, dem 2. April 2026, um 10:00 Uhr: Die APERAK auf eine andere \
+             Nachricht Strom ist fällig am Dienstag, dem 7. April 2026, um 12:00 Uhr.",
+        )],
     },
     Command {
         name: "aperak-gas-folgeprozess",
@@ -76,10 +95,12 @@ pub const COMMANDS: [Command; 13] = [
         operands: &[(Parameter::Instant, "EINGANG")],
         options: &[],
         summary: "wann die APERAK im Folgeprozess Gas fällig ist",
-        meaning: "Um 12:00 Uhr des ersten Werktags nach dem Eingangstag.",
-        examples: &[Example::new("aperak-gas-folgeprozess 2026-04-02T10:00:00+02:00", "Eingang am Donnerstag, 2. April 2026, um 10:00 Uhr: Die APERAK im Folgeprozess Gas \
-                 ist fällig am Dienstag, 7. April 2026, um 12:00 Uhr \
-                 (aperak-gas-folgeprozess-naechster-wt-1200).")],
+        meaning: "Um 12:00 Uhr am ersten Werktag nach dem Eingangstag.",
+        examples: &[Example::new(
+            "aperak-gas-folgeprozess 2026-04-02T10:00:00+02:00",
+            "Eingang am Donnerstag, dem 2. April 2026, um 10:00 Uhr: Die APERAK im Folgeprozess \
+             Gas ist fällig am Dienstag, dem 7. April 2026, um 12:00 Uhr.",
+        )],
     },
     Command {
         name: "aperak-gas-initialprozess",
@@ -89,9 +110,11 @@ pub const COMMANDS: [Command; 13] = [
         options: &[],
         summary: "wann die APERAK im Initialprozess Gas fällig ist",
         meaning: "Mit Ablauf des dritten Werktags nach dem Eingangstag.",
-        examples: &[Example::new("aperak-gas-initialprozess 2026-04-02T10:00:00+02:00", "Eingang am Donnerstag, 2. April 2026, um 10:00 Uhr: Die APERAK im Initialprozess \
-                 Gas ist fällig mit Ablauf des Donnerstags, 9. April 2026 \
-                 (aperak-gas-initialprozess-3-werktage).")],
+        examples: &[Example::new(
+            "aperak-gas-initialprozess 2026-04-02T10:00:00+02:00",
+            "Eingang am Donnerstag, dem 2. April 2026, um 10:00 Uhr: Die APERAK im Initialprozess \
+             Gas ist fällig mit Ablauf des Donnerstags, des 9. April 2026.",
+        )],
     },
     Command {
         name: "aperak-gas",
@@ -100,11 +123,15 @@ pub const COMMANDS: [Command; 13] = [
         operands: &[(Parameter::Pid, "PID"), (Parameter::Instant, "EINGANG")],
         options: &[],
         summary: "wann die APERAK auf eine Nachricht Gas fällig ist",
-        meaning: "44001, 44016, 44039 und 44042 sind Initialprozesse, jede andere Zahl ist ein\n\
-                  Folgeprozess.",
-        examples: &[Example::new("aperak-gas 44001 2026-04-02T10:00:00+02:00", "Eingang am Donnerstag, 2. April 2026, um 10:00 Uhr: Die APERAK auf \
-                 Prüfidentifikator 44001 (Initialprozess Gas) ist fällig mit Ablauf des \
-                 Donnerstags, 9. April 2026 (aperak-gas-initialprozess-3-werktage).")],
+        meaning: "\
+44001, 44016, 44039 und 44042 sind Initialprozesse, jede andere Zahl ist ein
+Folgeprozess.",
+        examples: &[Example::new(
+            "aperak-gas 44001 2026-04-02T10:00:00+02:00",
+            "Eingang am Donnerstag, dem 2. April 2026, um 10:00 Uhr: Die APERAK auf \
+             Prüfidentifikator 44001 (Initialprozess Gas) ist fällig mit Ablauf des Donnerstags, \
+             des 9. April 2026.",
+        )],
     },
     Command {
         name: "add-hours",
@@ -113,10 +140,13 @@ pub const COMMANDS: [Command; 13] = [
         operands: &[(Parameter::Instant, "ZEITPUNKT"), (Parameter::Count, "N")],
         options: &[],
         summary: "der Zeitpunkt N Stunden später",
-        meaning: "N Stunden später, an jedem Tag. Beim Wechsel der Uhren geht die Berliner Uhr eine\n\
-                  Stunde anders.",
-        examples: &[Example::new("add-hours 2026-03-29T01:30:00+01:00 1", "1 Stunde nach Sonntag, 29. März 2026, 01:30 Uhr, ist es Sonntag, 29. März 2026, \
-                 03:30 Uhr.")],
+        meaning: "\
+N Stunden später, an jedem Tag. Wird die Uhr dazwischen umgestellt, so steht es dabei.",
+        examples: &[Example::new(
+            "add-hours 2026-03-29T01:30:00+01:00 1",
+            "1 Stunde nach Sonntag, dem 29. März 2026, 01:30 Uhr, ist es Sonntag, der 29. März \
+             2026, 03:30 Uhr. Dazwischen wird die Uhr um eine Stunde vorgestellt.",
+        )],
     },
     Command {
         name: "deadline-at-werktage",
@@ -125,9 +155,12 @@ pub const COMMANDS: [Command; 13] = [
         operands: &[(Parameter::Instant, "EINGANG"), (Parameter::Count, "N")],
         options: &[],
         summary: "das Ende des N-ten Werktags nach dem Eingangstag",
-        meaning: "Das Ende des N-ten Werktags nach dem Eingangstag; mit 0 das Ende des Eingangstags.",
-        examples: &[Example::new("deadline-at-werktage 2026-04-02T10:00:00+02:00 1", "Eingang am Donnerstag, 2. April 2026, um 10:00 Uhr: Die Frist bis zum Ablauf des \
-                 1. Werktags nach Eingang endet mit Ablauf des Dienstags, 7. April 2026.")],
+        meaning: "Mit 0 das Ende des Eingangstags, ob Werktag oder nicht.",
+        examples: &[Example::new(
+            "deadline-at-werktage 2026-04-02T10:00:00+02:00 1",
+            "Eingang am Donnerstag, dem 2. April 2026, um 10:00 Uhr: Die Frist bis zum Ablauf des \
+             1. Werktags nach dem Eingangstag endet mit Ablauf des Dienstags, des 7. April 2026.",
+        )],
     },
     Command {
         name: "end-of-werktag-after",
@@ -136,9 +169,14 @@ pub const COMMANDS: [Command; 13] = [
         operands: &[(Parameter::Instant, "EINGANG"), (Parameter::Count, "N")],
         options: &[],
         summary: "dasselbe wie deadline-at-werktage, unter dem anderen Namen der Quelle",
-        meaning: "Das Ende des N-ten Werktags nach dem Eingangstag; mit 0 das Ende des Eingangstags.",
-        examples: &[Example::new("end-of-werktag-after 2026-04-02T10:00:00+02:00 3", "Eingang am Donnerstag, 2. April 2026, um 10:00 Uhr: Die Frist bis zum Ablauf des \
-                 3. Werktags nach Eingang endet mit Ablauf des Donnerstags, 9. April 2026.")],
+        meaning: "\
+Das Ende des N-ten Werktags nach dem Eingangstag. Mit 0 das Ende des Eingangstags.",
+        examples: &[Example::new(
+            "end-of-werktag-after 2026-04-02T10:00:00+02:00 3",
+            "Eingang am Donnerstag, dem 2. April 2026, um 10:00 Uhr: Die Frist bis zum Ablauf des \
+             3. Werktags nach dem Eingangstag endet mit Ablauf des Donnerstags, des 9. April \
+             2026.",
+        )],
     },
     Command {
         name: "next-werktag-at",
@@ -148,9 +186,11 @@ pub const COMMANDS: [Command; 13] = [
         options: &[],
         summary: "die Uhrzeit am ersten Werktag nach dem Eingangstag",
         meaning: "Die Uhrzeit am ersten Werktag nach dem Eingangstag.",
-        examples: &[Example::new("next-werktag-at 2026-04-02T10:00:00+02:00 11:00", "Eingang am Donnerstag, 2. April 2026, um 10:00 Uhr: Die Frist bis 11:00 Uhr des \
-                 1. Werktags nach dem Übertragungstag endet am Dienstag, 7. April 2026, um \
-                 11:00 Uhr.")],
+        examples: &[Example::new(
+            "next-werktag-at 2026-04-02T10:00:00+02:00 11:00",
+            "Eingang am Donnerstag, dem 2. April 2026, um 10:00 Uhr: Die Frist bis 11:00 Uhr am \
+             1. Werktag nach dem Eingangstag endet am Dienstag, dem 7. April 2026, um 11:00 Uhr.",
+        )],
     },
     Command {
         name: "nth-werktag-at",
@@ -164,9 +204,11 @@ pub const COMMANDS: [Command; 13] = [
         options: &[],
         summary: "die Uhrzeit am N-ten Werktag nach dem Eingangstag",
         meaning: "Die Uhrzeit am N-ten Werktag nach dem Eingangstag; 0 zählt wie 1.",
-        examples: &[Example::new("nth-werktag-at 2026-04-02T10:00:00+02:00 2 06:00", "Eingang am Donnerstag, 2. April 2026, um 10:00 Uhr: Die Frist bis 06:00 Uhr des \
-                 2. Werktags nach dem Übertragungstag endet am Mittwoch, 8. April 2026, um \
-                 06:00 Uhr.")],
+        examples: &[Example::new(
+            "nth-werktag-at 2026-04-02T10:00:00+02:00 2 06:00",
+            "Eingang am Donnerstag, dem 2. April 2026, um 10:00 Uhr: Die Frist bis 06:00 Uhr am \
+             2. Werktag nach dem Eingangstag endet am Mittwoch, dem 8. April 2026, um 06:00 Uhr.",
+        )],
     },
     Command {
         name: "frist",
@@ -175,11 +217,17 @@ pub const COMMANDS: [Command; 13] = [
         operands: &[(Parameter::Shape, "FORM [N] [UHRZEIT]"), (Parameter::Instant, "EINGANG")],
         options: &[],
         summary: "wann eine Antwort fällig ist",
-        meaning: "WerktagAt ist die Uhrzeit am N-ten Werktag nach dem Eingangstag, EndOfWerktag sein\n\
-                  Ende. SameDayAt ist die Uhrzeit am Eingangstag, wenn er ein Werktag ist und sie\n\
-                  noch bevorsteht, sonst am nächsten Werktag. SameDay ist das Ende des Eingangstags.",
-        examples: &[Example::new("frist SameDayAt 12:00 2026-01-09T12:00:00+01:00", "Eingang am Freitag, 9. Januar 2026, um 12:00 Uhr: Die Frist bis 12:00 Uhr am \
-                 Übertragungstag endet am Montag, 12. Januar 2026, um 12:00 Uhr. Die \
-                 Uhrzeit war bei Eingang erreicht: es gilt der nächste Werktag.")],
+        meaning: "Wann die Antwort auf eine Nachricht spätestens gegeben sein muss, je nach FORM.",
+        examples: &[Example::new(
+            "frist EndeDesWerktags 3 2.4.2026 10:00",
+            "Eingang am Donnerstag, dem 2. April 2026, um 10:00 Uhr: Die Frist bis zum Ablauf des \
+             3. Werktags nach dem Eingangstag endet mit Ablauf des Donnerstags, des 9. April \
+             2026.",
+        ), Example::new(
+            "frist SameDayAt 12:00 2026-01-09T12:00:00+01:00",
+            "Eingang am Freitag, dem 9. Januar 2026, um 12:00 Uhr: Die Frist endet am nächsten \
+             Werktag, am Montag, dem 12. Januar 2026, um 12:00 Uhr. Am Eingangstag war 12:00 Uhr \
+             schon erreicht.",
+        )],
     },
 ];

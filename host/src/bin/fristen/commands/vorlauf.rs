@@ -8,27 +8,38 @@ pub const COMMANDS: [Command; 4] = [
         name: "check",
         german: Some("pruefen"),
         task: Task::Ask(Call::VorlaufCheck),
-        operands: &[
-            FORM,
-            (Parameter::Date, "ÜBERTRAGUNGSTAG"),
-            (Parameter::SecondDate, "TERMIN"),
-        ],
+        operands: &[FORM, (Parameter::Date, "ÜBERTRAGUNGSTAG"), (Parameter::SecondDate, "TERMIN")],
         options: &[],
         summary: "ob eine Nachricht für ihren Termin rechtzeitig kam",
-        meaning: "Das Urteil über Übertragungstag und Termin: gewahrt, zu spät oder zu früh, mit den\n\
-                  Tagen, die noch Luft sind oder zu spät. Bei „zu spät“ auch mit den fehlenden\n\
-                  Werktagen und dem Termin, den die Quelle als frühesten nennt; der ist nicht immer\n\
-                  zulässig, darum folgen die zulässigen Termine.\n\
-                  „margin“ in --json: die Tage vom Übertragungstag bis zum spätesten, negativ nach\n\
-                  diesem; bei EarliestWerktageAfter vom frühesten Termin bis zum Termin, negativ\n\
-                  vor jenem. In --bytes das 29. bis 32. Byte, im Zweierkomplement, das\n\
-                  niederwertigste zuerst.",
-        examples: &[Example::new("check LatestWerktageBefore 1 2026-01-10 2026-01-12", "\
-1 Tag zu spät: Übertragungstag Samstag, 10. Januar 2026, Termin Montag, 12. Januar 2026.
-Spätester Übertragungstag ist der 1. Werktag vor dem Termin.
-Es fehlen 0 Werktage; zu spät ist es um 1 Tag, der kein Werktag ist.
-Als frühester Termin wird Montag, der 12. Januar 2026, genannt; zulässig ist er nicht.
-Zulässig sind Termine ab Dienstag, dem 13. Januar 2026.")],
+        meaning: "\
+Das Urteil über Übertragungstag und Termin: gewahrt, zu spät oder zu früh, mit den
+Tagen, die noch Luft sind oder zu spät. Dann, welche Termine der Übertragungstag
+zulässt, und an welchen Tagen für den Termin übertragen werden muss. Bei „zu
+spät“ auch die fehlenden Werktage und der Termin, den die Quelle als frühesten
+nennt; der ist nicht immer zulässig. Ist er der erste zulässige, so fehlt er.
+„margin“ in --json: die Tage vom Übertragungstag bis zum spätesten, negativ nach
+diesem; bei EarliestWerktageAfter vom frühesten Termin bis zum Termin, negativ
+vor jenem. In --bytes das 29. bis 32. Byte, im Zweierkomplement, das
+niederwertigste zuerst.",
+        examples: &[Example::new(
+            "check LatestWerktageBefore 1 2026-01-10 2026-01-12",
+            "1 Tag zu spät: Übertragungstag Samstag, 10. Januar 2026, Termin Montag, 12. Januar \
+             2026.\n\
+             Zulässig sind Termine ab Dienstag, dem 13. Januar 2026.\n\
+             Spätester Übertragungstag ist der 1. Werktag vor dem Termin: Freitag, der 9. Januar \
+             2026.\n\
+             Es fehlt kein Werktag; zu spät ist es um 1 Tag, der kein Werktag ist.\n\
+             Die Quelle nennt als frühesten Termin Montag, den 12. Januar 2026; zulässig ist er \
+             nicht.",
+        ), Example::new(
+            "check Zeitfenster 5 2 13.4.2026 24.4.2026",
+            "Zu früh: Übertragungstag Montag, 13. April 2026, Termin Freitag, 24. April 2026.\n\
+             Zulässig sind Termine von Mittwoch, dem 15. April 2026, bis Montag, den 20. April \
+             2026.\n\
+             Der Übertragungstag muss vom 5. bis zum 2. Werktag vor dem Termin liegen: von \
+             Freitag, dem 17. April 2026, bis Mittwoch, den 22. April 2026.\n\
+             Der Zeitraum beginnt erst in 4 Werktagen.",
+        )],
     },
     Command {
         name: "check-at",
@@ -42,15 +53,20 @@ Zulässig sind Termine ab Dienstag, dem 13. Januar 2026.")],
         ],
         options: &[],
         summary: "dasselbe mit Zeitpunkten",
-        meaning: "Das Urteil wie bei check, mit den Tagen, die noch Luft sind oder zu spät. Der\n\
-                  Übertragungstag ist der Tag in Berlin; der Termin ist als Beginn seines Tages in\n\
-                  der Sparte gegeben, sonst wird abgelehnt (7). SPARTE ist Strom oder Gas.",
-        examples: &[Example::new("check-at TagVorDemLetztenWerktagVor 2026-01-08T10:00:00+01:00 \
-                  2026-01-09T00:00:00+01:00 Strom", "\
-1 Tag zu spät: Übertragungstag Donnerstag, 8. Januar 2026, Termin Freitag, 9. Januar 2026.
-Spätester Übertragungstag ist der Tag vor dem letzten Werktag vor dem Termin.
-Es fehlt 1 Werktag.
-Als frühester Termin wird Samstag, der 10. Januar 2026, genannt; zulässig sind Termine ab diesem Tag.")],
+        meaning: "\
+Das Urteil wie bei check, mit den Tagen, die noch Luft sind oder zu spät. Der
+Übertragungstag ist der Tag in Berlin; der Termin ist als Beginn seines Tages in
+der Sparte gegeben, sonst wird abgelehnt (7). SPARTE ist Strom oder Gas.",
+        examples: &[Example::new(
+            "check-at TagVorDemLetztenWerktagVor 2026-01-08T10:00:00+01:00 \
+             2026-01-09T00:00:00+01:00 Strom",
+            "1 Tag zu spät: Übertragungstag Donnerstag, 8. Januar 2026, Termin Freitag, 9. Januar \
+             2026.\n\
+             Zulässig sind Termine ab Samstag, dem 10. Januar 2026.\n\
+             Spätester Übertragungstag ist der Tag vor dem letzten Werktag vor dem Termin: \
+             Mittwoch, der 7. Januar 2026.\n\
+             Es fehlt 1 Werktag.",
+        )],
     },
     Command {
         name: "span",
@@ -59,10 +75,15 @@ Als frühester Termin wird Samstag, der 10. Januar 2026, genannt; zulässig sind
         operands: &[FORM, (Parameter::Date, "ÜBERTRAGUNGSTAG")],
         options: &[],
         summary: "welche Termine eine Nachricht des Tages nennen darf",
-        meaning: "Die zulässigen Termine: alle ab einem Tag, alle von einem bis zu einem, oder keiner.",
-        examples: &[Example::new("span LatestMonateBefore 1 2026-01-31", "\
-Übertragungstag Samstag, 31. Januar 2026. Spätester Übertragungstag liegt 1 Monat vor dem Termin.
-Zulässig sind Termine ab Sonntag, dem 1. März 2026.")],
+        meaning: "\
+Die zulässigen Termine: alle ab einem Tag, alle von einem bis zu einem anderen, nur
+einer oder keiner. Darunter die Regel.",
+        examples: &[Example::new(
+            "span LatestMonateBefore 1 2026-01-31",
+            "Übertragungstag Samstag, 31. Januar 2026: Zulässig sind Termine ab Sonntag, dem 1. \
+             März 2026.\n\
+             Der späteste Übertragungstag liegt 1 Monat vor dem Termin.",
+        )],
     },
     Command {
         name: "bis-wann",
@@ -71,8 +92,14 @@ Zulässig sind Termine ab Sonntag, dem 1. März 2026.")],
         operands: &[FORM, (Parameter::SecondDate, "TERMIN")],
         options: &[],
         summary: "bis wann eine Nachricht für ihren Termin übertragen sein muss",
-        meaning: "Der späteste Übertragungstag für den Termin, bei Zeitfenster und Korridor auch der\n\
-                  früheste. --bytes gibt es hier nicht.",
-        examples: &[Example::new("bis-wann WerktageVorher 1 2026-04-07", "")],
+        meaning: "\
+Der späteste Übertragungstag für den Termin, bei Zeitfenster und Korridor auch der
+früheste. Darunter die Regel. --bytes gibt es hier nicht.",
+        examples: &[Example::new(
+            "bis-wann WerktageVorher 1 7.4.2026",
+            "Für den Termin am Dienstag, dem 7. April 2026, muss die Nachricht spätestens am \
+             Donnerstag, dem 2. April 2026, übertragen sein.\n\
+             Spätester Übertragungstag ist der 1. Werktag vor dem Termin.",
+        )],
     },
 ];

@@ -2,7 +2,7 @@ use crate::arguments::Arguments;
 use crate::command::{questions, Command};
 use crate::inquiry::Inquiry;
 use crate::lines::Line;
-use crate::usage::{quoted, Usage};
+use crate::usage::{perhaps, quoted, Usage};
 use crate::{names, operands};
 use mako_fristen_host::{Call, Frage};
 use std::ffi::{OsStr, OsString};
@@ -32,7 +32,11 @@ fn find(name: &str) -> Result<(&'static Command, Call), Usage> {
     questions().find(|(command, _)| command.is_named(name)).ok_or_else(|| {
         let all: Vec<_> = questions().map(|(command, _)| command.name).collect();
         let expected = names::one_of(&all);
-        Usage::new(format!("erwartet {expected}, nicht {}", quoted(OsStr::new(name))))
+        let (name, known) =
+            (OsStr::new(name), questions().flat_map(|(command, _)| command.names()));
+        let known: Vec<String> = known.collect();
+        let meant = perhaps(name, known.iter().map(String::as_str));
+        Usage::new(format!("erwartet {expected}, nicht {}{meant}", quoted(name)))
     })
 }
 
@@ -71,6 +75,11 @@ mod tests {
             "mf_vorlauf_check TagVorDemLetztenWerktagVor 2026-01-08 2026-01-10",
             "vorlauf-span LatestMonateUndWerktageBefore 2 1 2026-01-05",
             "span Korridor 4294967295 9999-99-99",
+            "Contrl GasAlocat 2026-01-10 12:00",
+            "contrl GasAlocat heute 12:00:00,5",
+            "pruefen werktagevorher 1 10.01.2026 12.1.2026",
+            "SPANNE MonateVorher 1 heute",
+            "frist SelberTagUm 9:30 2026-01-10T12:00+0100",
         ];
         for line in lines {
             let asked = whole(line.as_bytes()).expect("a question").expect("one that is read");
@@ -104,7 +113,11 @@ mod tests {
 
     #[test]
     fn a_line_that_cannot_be_read_says_what_was_expected() {
-        let cases: [(&[u8], &str); 5] = [
+        let cases: [(&[u8], &str); 6] = [
+            (
+                b"chekc Korridor 1 2026-01-01 2026-01-02",
+                "erwartet contrl, frist, check oder span, nicht „chekc“. Meinten Sie check?",
+            ),
             (b"tag 2026-01-01", "erwartet contrl, frist, check oder span, nicht „tag“"),
             (b"\xc4ndern", "erwartet Text in UTF-8, nicht „\u{fffd}ndern“"),
             (
@@ -115,7 +128,8 @@ mod tests {
             (b"contrl Regelfall", "es fehlt: EINGANG (Aufbau: contrl ANLASS EINGANG)"),
             (
                 b"span Korridor 1 2026-01-01\r 5",
-                "ÜBERTRAGUNGSTAG: erwartet ein Datum wie 2026-04-02, nicht „2026-01-01\\u{d}“ \
+                "ÜBERTRAGUNGSTAG: erwartet ein Datum wie 2026-04-02 oder 2.4.2026, nicht \
+                 „2026-01-01\\u{d}“ \
                  (Aufbau: span FORM [ZAHLEN] ÜBERTRAGUNGSTAG)",
             ),
         ];

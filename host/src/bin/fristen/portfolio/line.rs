@@ -2,10 +2,18 @@ use crate::lines::Line;
 use crate::operands;
 use crate::usage::Usage;
 use mako_fristen_host::Date;
-use std::ffi::OsStr;
+use std::ffi::{OsStr, OsString};
 use std::mem;
 
 pub type Pair = (Date, Date);
+
+/// The two dates of a line.
+#[derive(Debug, PartialEq, Eq)]
+pub struct Given {
+    pub pair: Pair,
+    /// As they stand there, if they are kept.
+    pub words: Vec<OsString>,
+}
 
 /// The names of the two dates.
 pub const LABELS: [&str; 2] = ["VON", "BIS"];
@@ -19,12 +27,18 @@ const MARKS: [char; 2] = [',', ';'];
 pub struct Reader {
     /// Whether a line came that is neither blank nor a comment.
     begun: bool,
+    /// Whether the words are kept.
+    keeps_words: bool,
 }
 
 impl Reader {
+    pub fn new(keeps_words: bool) -> Reader {
+        Reader { keeps_words, begun: false }
+    }
+
     /// The two dates of a line, or why it cannot be read. None if it is blank, a comment, or, as the
     /// first of the others, without any digit.
-    pub fn read(&mut self, line: &Line) -> Result<Option<Pair>, Usage> {
+    pub fn read(&mut self, line: &Line) -> Result<Option<Given>, Usage> {
         if line.is_passed_over() {
             return Ok(None);
         }
@@ -32,21 +46,24 @@ impl Reader {
         if first && !line.cut && !line.text.iter().any(u8::is_ascii_digit) {
             return Ok(None);
         }
-        pair(line.read()?).map(Some)
+        let (pair, words) = pair(line.read()?)?;
+        let words = words.into_iter().filter(|_| self.keeps_words).map(OsString::from);
+        Ok(Some(Given { pair, words: words.collect() }))
     }
 }
 
-fn pair(mut text: &str) -> Result<Pair, Usage> {
-    let pair = (date(LABELS[0], &mut text)?, date(LABELS[1], &mut text)?);
+fn pair(mut text: &str) -> Result<(Pair, [&str; 2]), Usage> {
+    let words = [field(&mut text), field(&mut text)];
+    let pair = (date(LABELS[0], words[0])?, date(LABELS[1], words[1])?);
     // A table may end its lines with empty fields.
     match text.trim_matches(separates) {
-        "" => Ok(pair),
+        "" => Ok((pair, words)),
         rest => Err(operands::too_much(OsStr::new(rest))),
     }
 }
 
-fn date(label: &str, text: &mut &str) -> Result<Date, Usage> {
-    match field(text) {
+fn date(label: &str, field: &str) -> Result<Date, Usage> {
+    match field {
         "" => Err(operands::missing(label)),
         field => operands::date(label, OsStr::new(field)),
     }
@@ -78,6 +95,7 @@ fn quoted(text: &str) -> Option<(&str, &str)> {
 #[cfg(test)]
 mod tests {
     use super::*;
+    use crate::reading;
 
     const BEGIN: Date = Date::new(2025, 6, 30);
     const END: Date = Date::new(2035, 6, 30);
@@ -88,8 +106,9 @@ mod tests {
 
     /// Of a line behind the first.
     fn read(text: &str) -> Result<Option<Pair>, String> {
-        let mut reader = Reader { begun: true };
-        reader.read(&line(text.as_bytes())).map_err(|usage| usage.message)
+        let mut reader = Reader { begun: true, keeps_words: false };
+        let read = reader.read(&line(text.as_bytes())).map_err(|usage| usage.message)?;
+        Ok(read.map(|given| given.pair))
     }
 
     #[test]
@@ -105,6 +124,7 @@ mod tests {
             "2025-06-30 , \"2035-06-30\" ",
             "2025-06-30;2035-06-30;",
             "2025-06-30,2035-06-30, ,;",
+            "30.06.2025;30.6.2035",
         ];
         for text in lines {
             assert_eq!(read(text), Ok(Some((BEGIN, END))), "{text}");
@@ -115,8 +135,7 @@ mod tests {
 
     #[test]
     fn a_line_that_cannot_be_read_says_what_was_expected() {
-        let no_date =
-            |label, text| format!("{label}: erwartet ein Datum wie 2026-04-02, nicht „{text}“");
+        let no_date = |label, text| format!("{label}: erwartet {}, nicht „{text}“", reading::DATE);
         let cases = [
             ("2025-06-30", "es fehlt: BIS".to_owned()),
             ("2025-06-30;", "es fehlt: BIS".to_owned()),
@@ -125,7 +144,6 @@ mod tests {
             (";", "es fehlt: VON".to_owned()),
             ("\"\";2035-06-30", "es fehlt: VON".to_owned()),
             ("Beginn;Ende", no_date("VON", "Beginn")),
-            ("30.06.2025;30.06.2035", no_date("VON", "30.06.2025")),
             ("2025-06-30;2035-6-30", no_date("BIS", "2035-6-30")),
             ("2025-06-30-2035-06-30", no_date("VON", "2025-06-30-2035-06-30")),
             ("\"2025-06-30", no_date("VON", "\"2025-06-30")),
@@ -137,6 +155,20 @@ mod tests {
         ];
         for (text, expected) in cases {
             assert_eq!(read(text), Err(expected), "{text}");
+        }
+    }
+
+    /// As they stand there, without their quotation marks.
+    #[test]
+    fn the_words_are_kept_for_who_wants_them() {
+        let text = b"\"30.6.2025\" ; 2035-06-30;";
+        for (keeps_words, expected) in [(true, vec!["30.6.2025", "2035-06-30"]), (false, vec![])] {
+            let read = Reader::new(keeps_words).read(&line(text)).map_err(|usage| usage.message);
+            let given = read.expect("it is read").expect("it has two dates");
+            assert_eq!(
+                (given.pair, given.words),
+                ((BEGIN, END), expected.into_iter().map(OsString::from).collect())
+            );
         }
     }
 

@@ -1,49 +1,61 @@
-use super::vorlauf::{verdict, ZUORDNUNGSENDE};
-use crate::deutsch::{am, tag};
+use super::anchor::ZUORDNUNGSENDE;
+use super::vorlauf::verdict;
+use crate::ankuendigung::Fenster;
+use crate::deutsch::{am, dem, tag};
 use crate::inquiry::Inquiry;
 use crate::usage::quoted_bytes;
-use mako_fristen_host::{sub_werktage, AbmeldungVorlauf, BerlinTime, Eeg, Error, Judgement};
+use mako_fristen_host::{AbmeldungVorlauf, BerlinTime, Eeg, Error, Judgement};
 
 /// The reason, the mark where it matters, and the case.
 pub fn heading(inquiry: &Inquiry, case: AbmeldungVorlauf) -> Result<String, Error> {
+    Ok(format!("{}: {}", reason(inquiry, case)?, case.beschreibung()))
+}
+
+fn reason(inquiry: &Inquiry, case: AbmeldungVorlauf) -> Result<String, Error> {
     let malo = match (case, inquiry.eeg()?) {
         (AbmeldungVorlauf::AnPruefschritt120, _) => "",
         (_, Eeg::No) => ", keine EEG-Marktlokation",
         (_, Eeg::Yes) => ", EEG-Marktlokation",
-        (_, Eeg::Unknown) => ", unbestimmt",
+        (_, Eeg::Unknown) => ", unbekannt, ob EEG-Marktlokation",
     };
-    Ok(format!("Grund {}{malo}: {}", quoted_bytes(&inquiry.reason), case.beschreibung()))
+    Ok(format!("Grund {}{malo}", quoted_bytes(&inquiry.reason)))
 }
 
 pub fn judged(inquiry: &Inquiry, judged: Option<Judgement>) -> Result<String, Error> {
-    let heading = heading(inquiry, inquiry.abmeldung()?)?;
+    let case = inquiry.abmeldung()?;
     let (from, to) = (tag(inquiry.question.date), tag(inquiry.question.date2));
-    let days = format!("Übertragungstag {from}, Zuordnungsende {to}.");
-    Ok(match judged {
-        Some(given) => format!("{heading}\n{}", verdict(inquiry, given, &ZUORDNUNGSENDE, &days)?),
-        None => format!("{heading}\nKein Urteil, also auch nicht „Frist gewahrt“: {days}"),
-    })
+    let reason = reason(inquiry, case)?;
+    let what = format!("Übertragungstag {from}, Zuordnungsende {to}, {reason}.");
+    match judged {
+        Some(given) => verdict(inquiry, given, &ZUORDNUNGSENDE, &what),
+        None => Ok(format!(
+            "Kein Urteil, also auch nicht „Frist gewahrt“: {what}\n{}",
+            case.beschreibung()
+        )),
+    }
 }
 
 pub fn ankuendigung(inquiry: &Inquiry, in_time: Option<bool>) -> Result<String, Error> {
-    let received = am(BerlinTime::of(inquiry.question.instant)?);
-    let begin = inquiry.question.date;
-    let what = format!("Eingang {received}, Zuordnungsbeginn {}.", tag(begin));
-    let word = match in_time {
-        Some(false) => "Nicht fristgerecht",
-        Some(true) => "Fristgerecht",
-        None => {
-            return Ok(format!(
-                "Weder fristgerecht noch verspätet: {what}\n\
-                 Der Zuordnungsbeginn liegt nicht in der Zukunft; dann gilt „Unverzüglich“, und ab \
-                 wann, steht in keiner Nachricht."
-            ))
-        }
+    let (received, begin) = (inquiry.question.instant, inquiry.question.date);
+    let what =
+        format!("Eingang {}, Zuordnungsbeginn {}.", am(BerlinTime::of(received)?), tag(begin));
+    let Some(in_time) = in_time else {
+        return Ok(format!(
+            "Weder fristgerecht noch verspätet: {what}\n\
+             Der Zuordnungsbeginn liegt nicht in der Zukunft; dann gilt „unverzüglich“, und ab \
+             wann, steht in keiner Nachricht."
+        ));
     };
-    let letzter_wt = tag(sub_werktage(begin, 1)?);
+    let window = Fenster::vor(begin)?;
+    let word = match in_time {
+        true => "Fristgerecht",
+        false if window.is_early(received) => "Zu früh",
+        false => "Zu spät",
+    };
     Ok(format!(
         "{word}: {what}\n\
-         Frühester Übertragungszeitpunkt ist 00:00 Uhr und spätester 13:00 Uhr des letzten \
-         Werktags vor dem Zuordnungsbeginn: {letzter_wt}."
+         Fristgerecht ist die Ankündigung am letzten Werktag vor dem Zuordnungsbeginn von 00:00 \
+         bis 13:00 Uhr: am {}.",
+        dem(window.werktag)
     ))
 }

@@ -1,12 +1,14 @@
-use crate::deutsch::{der, uhr, utc, zeitpunkt};
+use crate::deutsch::{der, uhr, utc, with_clock};
 use crate::inquiry::Inquiry;
 use mako_fristen_host::{BerlinTime, Date, Error, Instant};
 
 pub fn at(instant: Instant) -> Result<String, Error> {
     let (time, utc) = (BerlinTime::of(instant)?, utc(instant));
-    let twice =
-        if time.repeated { " Die Uhr zeigt diese Zeit zweimal; es gilt die frühere." } else { "" };
-    Ok(format!("In Berlin {}; das ist {utc}.{twice}", zeitpunkt(time)))
+    let twice = match time.repeated {
+        true => " Die Uhr zeigt diese Zeit zweimal; gemeint ist die frühere.",
+        false => "",
+    };
+    Ok(format!("{} in Berlin ist {utc}.{twice}", with_clock(time, der)))
 }
 
 /// Where a day in Berlin begins or ends, as `verb` has it.
@@ -28,6 +30,6 @@ pub fn day(inquiry: &Inquiry, date: Date) -> Result<String, Error> {
 }
 
 pub fn day_begun(inquiry: &Inquiry, date: Date) -> Result<String, Error> {
-    let sparte = inquiry.sparte()?;
-    Ok(format!("In der Sparte {sparte} beginnt zu diesem Zeitpunkt {}.", der(date)))
+    let (sparte, uhr) = (inquiry.sparte()?, uhr(BerlinTime::of(inquiry.question.instant)?));
+    Ok(format!("In der Sparte {sparte} beginnt dann, um {uhr} in Berlin, {}.", der(date)))
 }

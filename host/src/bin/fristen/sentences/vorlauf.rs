@@ -1,68 +1,43 @@
-use crate::deutsch::{dem, den, der, tag, tage, werktage, werktagen};
+use super::anchor::{Anchor, TERMIN};
+use super::rule;
+use crate::deutsch::{keine_werktage, tag, tage, werktage, werktagen};
 use crate::inquiry::Inquiry;
-use mako_fristen_host::{Date, Error, Judgement, Span, VorlaufShape, VorlaufVerdict};
-
-/// What the anchor is called, with the words of its gender and number.
-pub struct Anchor {
-    earliest: &'static str,
-    it: &'static str,
-    the_earliest: &'static str,
-    are_allowed: &'static str,
-    none: &'static str,
-    span: &'static str,
-}
-
-const TERMIN: Anchor = Anchor {
-    earliest: "frühester Termin",
-    it: "er",
-    the_earliest: "der früheste",
-    are_allowed: "sind Termine",
-    none: "kein Termin",
-    span: "Die Spanne der zulässigen Termine",
-};
-
-pub const ZUORDNUNGSENDE: Anchor = Anchor {
-    earliest: "frühestes Zuordnungsende",
-    it: "es",
-    the_earliest: "das früheste",
-    are_allowed: "ist ein Zuordnungsende",
-    none: "kein Zuordnungsende",
-    span: "Die Spanne der zulässigen Zuordnungsenden",
-};
+use crate::uebertragung::{opening, Uebertragungstage};
+use mako_fristen_host::{Date, Error, Judgement, Refusal, Span, VorlaufShape, VorlaufVerdict};
 
 pub fn spanned(inquiry: &Inquiry, span: Span) -> Result<String, Error> {
-    let (from, rule) = (tag(inquiry.transmission_day()?), inquiry.shape()?.beschreibung());
-    Ok(format!("Übertragungstag {from}. {rule}\n{}", TERMIN.allowed(span)))
+    let (from, allowed) = (tag(inquiry.transmission_day()?), TERMIN.allowed(Some(span)));
+    Ok(format!("Übertragungstag {from}: {allowed}\n{}", rule::of(inquiry.shape()?, &TERMIN)))
 }
 
 pub fn judged(inquiry: &Inquiry, given: Judgement) -> Result<String, Error> {
     let (from, to) = (tag(inquiry.transmission_day()?), tag(inquiry.anchor()?));
-    let rule = inquiry.shape()?.beschreibung();
-    let what = format!("Übertragungstag {from}, Termin {to}.\n{rule}");
-    verdict(inquiry, given, &TERMIN, &what)
+    verdict(inquiry, given, &TERMIN, &format!("Übertragungstag {from}, Termin {to}."))
 }
 
-/// The verdict with its margin, `what` was judged, and for a `TooLate` what is missing and which
-/// dates are allowed.
+/// A line each: the verdict with its margin and `what` was judged, which dates are allowed, the
+/// rule with its days, how many Werktage are missing, and the original's date.
 pub fn verdict(
     inquiry: &Inquiry,
-    Judgement { verdict, margin }: Judgement,
+    given: Judgement,
     anchor: &Anchor,
     what: &str,
 ) -> Result<String, Error> {
-    let (shape, days) = (inquiry.shape()?, margin.unsigned_abs());
-    Ok(match verdict {
-        VorlaufVerdict::Ok => format!("Frist gewahrt, {}: {what}", to_spare(shape, days)),
-        VorlaufVerdict::TooEarly { excess_wt } => {
-            let (early, latest) = (too_early(excess_wt), latest(shape, margin));
-            format!("Zu früh: {what}\n{early}\n{latest}")
-        }
+    let shape = inquiry.shape()?;
+    let mut lines = vec![
+        format!("{}: {what}", heading(shape, given)),
+        anchor.allowed(inquiry.allowed()?),
+        ruled(inquiry, shape, given.margin, anchor)?,
+    ];
+    match given.verdict {
+        VorlaufVerdict::Ok => {}
+        VorlaufVerdict::TooEarly { excess_wt } => lines.push(too_early(inquiry, excess_wt)?),
         VorlaufVerdict::TooLate { shortfall_wt, earliest_possible } => {
-            let (late, missing) = (too_late(shape, days), missing(shape, days, shortfall_wt));
-            let earliest = anchor.earliest(earliest_possible, inquiry)?;
-            format!("{late}: {what}\n{missing}\n{earliest}")
+            lines.push(missing(shape, given.margin.unsigned_abs(), shortfall_wt));
+            lines.extend(anchor.named(earliest_possible, inquiry)?);
         }
-    })
+    }
+    Ok(lines.join("\n"))
 }
 
 /// Whether the margin is the anchor's and not the transmission day's. No deregistration has such a
@@ -71,8 +46,20 @@ fn is_of_the_termin(shape: VorlaufShape) -> bool {
     matches!(shape, VorlaufShape::EarliestWerktageAfter(_))
 }
 
-fn to_spare(shape: VorlaufShape, days: u32) -> String {
-    match (is_of_the_termin(shape), days) {
+fn heading(shape: VorlaufShape, Judgement { verdict, margin }: Judgement) -> String {
+    let days = margin.unsigned_abs();
+    match (verdict, is_of_the_termin(shape)) {
+        (VorlaufVerdict::TooEarly { .. }, _) => "Zu früh".to_owned(),
+        (VorlaufVerdict::TooLate { .. }, false) => format!("{} zu spät", tage(days)),
+        (VorlaufVerdict::TooLate { .. }, true) => {
+            format!("Zu spät, der Termin liegt {} zu früh", tage(days))
+        }
+        (VorlaufVerdict::Ok, of_termin) => format!("Frist gewahrt, {}", to_spare(of_termin, days)),
+    }
+}
+
+fn to_spare(of_the_termin: bool, days: u32) -> String {
+    match (of_the_termin, days) {
         (false, 0) => "kein Tag Luft".to_owned(),
         (false, _) => format!("noch {} Luft", tage(days)),
         (true, 0) => "zum frühesten Termin".to_owned(),
@@ -80,90 +67,44 @@ fn to_spare(shape: VorlaufShape, days: u32) -> String {
     }
 }
 
-fn too_late(shape: VorlaufShape, days: u32) -> String {
-    match is_of_the_termin(shape) {
-        false => format!("{} zu spät", tage(days)),
-        true => format!("Zu spät, der Termin liegt {} zu früh", tage(days)),
+/// The first Termin is as far from the one given as the margin says.
+fn ruled(
+    inquiry: &Inquiry,
+    shape: VorlaufShape,
+    margin: i32,
+    anchor: &Anchor,
+) -> Result<String, Error> {
+    let given = inquiry.anchor()?;
+    if is_of_the_termin(shape) {
+        let first = given.plus_days(-i64::from(margin)).ok_or(Refusal::LeavesCalendar)?;
+        return Ok(rule::with_day(shape, anchor, first));
     }
+    Ok(rule::with_days(shape, anchor, Uebertragungstage::of(shape, given)?))
 }
 
 /// Where no Werktag is missing, by how many days: none of them is one.
 fn missing(shape: VorlaufShape, days: u32, n: u32) -> String {
-    let verb = if n == 1 { "fehlt" } else { "fehlen" };
-    let missing = format!("Es {verb} {}", werktage(n));
-    if n > 0 {
-        return format!("{missing}.");
-    }
-    let by = match is_of_the_termin(shape) {
-        false => "zu spät ist es um",
-        true => "zu früh liegt der Termin um",
-    };
-    let none = if days == 1 { "der kein Werktag ist" } else { "die keine Werktage sind" };
-    format!("{missing}; {by} {}, {none}.", tage(days))
-}
-
-fn too_early(n: u32) -> String {
+    let after_the_anchor =
+        matches!(shape, VorlaufShape::LatestWerktageAfter(_) | VorlaufShape::Korridor(_));
+    let none = keine_werktage(days);
     match n {
-        0 => "Bis zum Beginn des Zeitraums sind es 0 Werktage: zu früh nur um Tage, die keine \
-              Werktage sind."
-            .to_owned(),
-        _ => format!("Der Zeitraum beginnt erst in {}.", werktagen(n)),
+        0 if after_the_anchor => format!("Zu spät ist es um {none}."),
+        0 if is_of_the_termin(shape) => {
+            format!("Es fehlt kein Werktag; zu früh liegt der Termin um {none}.")
+        }
+        0 => format!("Es fehlt kein Werktag; zu spät ist es um {none}."),
+        _ if after_the_anchor => format!("Zu spät ist es um {}.", werktage(n)),
+        1 => "Es fehlt 1 Werktag.".to_owned(),
+        _ => format!("Es fehlen {}.", werktage(n)),
     }
 }
 
-/// Where the latest transmission day lies from one that is too early.
-fn latest(shape: VorlaufShape, margin: i32) -> String {
-    let days = tage(margin.unsigned_abs());
-    let latest = match margin {
-        1 => format!("Bis zum spätesten Übertragungstag ist es noch {days}"),
-        2.. => format!("Bis zum spätesten Übertragungstag sind es noch {days}"),
-        0 => "Der Übertragungstag ist zugleich der späteste".to_owned(),
-        _ => format!("Der Übertragungstag liegt zugleich {days} nach dem spätesten"),
-    };
-    let window = match shape {
-        VorlaufShape::WindowWerktageBefore { earliest, latest } if earliest < latest => {
-            ": der Zeitraum endet, bevor er beginnt"
-        }
-        _ => "",
-    };
-    format!("{latest}{window}.")
-}
-
-impl Anchor {
-    /// The date that the original names, which need not be acceptable, and the dates that are.
-    fn earliest(&self, named: Date, inquiry: &Inquiry) -> Result<String, Error> {
-        let Anchor { it, the_earliest, are_allowed, span, .. } = self;
-        let named_as = format!("Als {} wird {}, genannt", self.earliest, der(named));
-        let accepted = inquiry.accepts(named)?;
-        let judged = format!("zulässig ist {it}{}", if accepted { "" } else { " nicht" });
-        Ok(match inquiry.allowed()? {
-            None => format!("{named_as}; {judged}. {span} verlässt den Kalender."),
-            Some(Span::From(first)) if accepted && first == named => {
-                format!("{named_as}; zulässig {are_allowed} ab diesem Tag.")
-            }
-            Some(allowed) => {
-                let first = matches!(allowed, Span::Between(first, _) if first == named);
-                let later = if accepted && !first {
-                    format!(", {the_earliest} ist {it} nicht")
-                } else {
-                    String::new()
-                };
-                format!("{named_as}; {judged}{later}.\n{}", self.allowed(allowed))
-            }
-        })
+fn too_early(inquiry: &Inquiry, n: u32) -> Result<String, Error> {
+    if n > 0 {
+        return Ok(format!("Der Zeitraum beginnt erst in {}.", werktagen(n)));
     }
-
-    fn allowed(&self, span: Span) -> String {
-        let are_allowed = self.are_allowed;
-        match span {
-            Span::From(first) => format!("Zulässig {are_allowed} ab {}.", dem(first)),
-            Span::Between(first, last) if first == last => {
-                format!("Zulässig ist nur {}.", der(first))
-            }
-            Span::Between(first, last) => {
-                format!("Zulässig {are_allowed} von {}, bis {}.", dem(first), den(last))
-            }
-            Span::Empty => format!("Zulässig ist {}.", self.none),
-        }
-    }
+    let first = opening(inquiry.shape()?, inquiry.anchor()?)?.and_then(Date::day_number);
+    let days = first.zip(inquiry.transmission_day()?.day_number());
+    let days = days.and_then(|(first, day)| u32::try_from(first - day).ok());
+    Ok(format!("Zu früh ist es um {}.", keine_werktage(days.unwrap_or_default())))
 }

@@ -1,0 +1,1013 @@
+//! What `check`, `check-at`, `span`, `bis-wann` and `abmeldung` say. The days are counted by a
+//! calendar of 2026 with the holidays of document 01: 6 January, 3 and 6 April, 1 May.
+
+use super::{assert_prints, printed, words};
+
+/// Case E first; with Werktage that are missing or none, and each number that has its own words.
+const BEFORE: &[(&str, &str)] = &[
+    (
+        "check LatestWerktageBefore 1 2026-01-10 2026-01-12",
+        "1 Tag zu spät: Übertragungstag Samstag, 10. Januar 2026, Termin Montag, 12. Januar \
+         2026.\n\
+         Zulässig sind Termine ab Dienstag, dem 13. Januar 2026.\n\
+         Spätester Übertragungstag ist der 1. Werktag vor dem Termin: Freitag, der 9. Januar \
+         2026.\n\
+         Es fehlt kein Werktag; zu spät ist es um 1 Tag, der kein Werktag ist.\n\
+         Die Quelle nennt als frühesten Termin Montag, den 12. Januar 2026; zulässig ist er nicht.",
+    ),
+    (
+        "check LatestWerktageBefore 1 2026-04-06 2026-04-07",
+        "4 Tage zu spät: Übertragungstag Montag, 6. April 2026, Termin Dienstag, 7. April 2026.\n\
+         Zulässig sind Termine ab Mittwoch, dem 8. April 2026.\n\
+         Spätester Übertragungstag ist der 1. Werktag vor dem Termin: Donnerstag, der 2. April \
+         2026.\n\
+         Es fehlt kein Werktag; zu spät ist es um 4 Tage, die keine Werktage sind.\n\
+         Die Quelle nennt als frühesten Termin Dienstag, den 7. April 2026; zulässig ist er nicht.",
+    ),
+    (
+        "check LatestWerktageBefore 1 2026-01-09 2026-01-09",
+        "1 Tag zu spät: Übertragungstag Freitag, 9. Januar 2026, Termin Freitag, 9. Januar 2026.\n\
+         Zulässig sind Termine ab Samstag, dem 10. Januar 2026.\n\
+         Spätester Übertragungstag ist der 1. Werktag vor dem Termin: Donnerstag, der 8. Januar \
+         2026.\n\
+         Es fehlt 1 Werktag.\n\
+         Die Quelle nennt als frühesten Termin Montag, den 12. Januar 2026; zulässig ist er, der \
+         früheste ist er nicht.",
+    ),
+    (
+        "check LatestWerktageBefore 5 2026-01-08 2026-01-12",
+        "6 Tage zu spät: Übertragungstag Donnerstag, 8. Januar 2026, Termin Montag, 12. Januar \
+         2026.\n\
+         Zulässig sind Termine ab Donnerstag, dem 15. Januar 2026.\n\
+         Spätester Übertragungstag ist der 5. Werktag vor dem Termin: Freitag, der 2. Januar \
+         2026.\n\
+         Es fehlen 3 Werktage.",
+    ),
+    (
+        "check LatestWerktageBefore 0 2026-01-13 2026-01-12",
+        "1 Tag zu spät: Übertragungstag Dienstag, 13. Januar 2026, Termin Montag, 12. Januar \
+         2026.\n\
+         Zulässig sind Termine ab Dienstag, dem 13. Januar 2026.\n\
+         Spätester Übertragungstag ist der Termin selbst: Montag, der 12. Januar 2026.\n\
+         Es fehlt 1 Werktag.",
+    ),
+    (
+        "check LatestWerktageBefore 1 2026-01-09 2026-01-12",
+        "Frist gewahrt, kein Tag Luft: Übertragungstag Freitag, 9. Januar 2026, Termin Montag, 12. \
+         Januar 2026.\n\
+         Zulässig sind Termine ab Samstag, dem 10. Januar 2026.\n\
+         Spätester Übertragungstag ist der 1. Werktag vor dem Termin: Freitag, der 9. Januar 2026.",
+    ),
+    (
+        "check LatestWerktageBefore 1 2026-04-01 2026-04-07",
+        "Frist gewahrt, noch 1 Tag Luft: Übertragungstag Mittwoch, 1. April 2026, Termin Dienstag, \
+         7. April 2026.\n\
+         Zulässig sind Termine ab Donnerstag, dem 2. April 2026.\n\
+         Spätester Übertragungstag ist der 1. Werktag vor dem Termin: Donnerstag, der 2. April \
+         2026.",
+    ),
+    (
+        "check LatestWerktageBefore 0 2026-01-10 2026-01-12",
+        "Frist gewahrt, noch 2 Tage Luft: Übertragungstag Samstag, 10. Januar 2026, Termin Montag, \
+         12. Januar 2026.\n\
+         Zulässig sind Termine ab Samstag, dem 10. Januar 2026.\n\
+         Spätester Übertragungstag ist der Termin selbst: Montag, der 12. Januar 2026.",
+    ),
+];
+
+/// Opened, closed and not yet opened; of one day, to the anchor itself, and closed before it opens.
+const WINDOWS: &[(&str, &str)] = &[
+    (
+        "check WindowWerktageBefore 5 2 2026-04-13 2026-04-24",
+        "Zu früh: Übertragungstag Montag, 13. April 2026, Termin Freitag, 24. April 2026.\n\
+         Zulässig sind Termine von Mittwoch, dem 15. April 2026, bis Montag, den 20. April 2026.\n\
+         Der Übertragungstag muss vom 5. bis zum 2. Werktag vor dem Termin liegen: von Freitag, \
+         dem 17. April 2026, bis Mittwoch, den 22. April 2026.\n\
+         Der Zeitraum beginnt erst in 4 Werktagen.",
+    ),
+    (
+        "check WindowWerktageBefore 5 2 2026-04-20 2026-04-24",
+        "Frist gewahrt, noch 2 Tage Luft: Übertragungstag Montag, 20. April 2026, Termin Freitag, \
+         24. April 2026.\n\
+         Zulässig sind Termine von Mittwoch, dem 22. April 2026, bis Montag, den 27. April 2026.\n\
+         Der Übertragungstag muss vom 5. bis zum 2. Werktag vor dem Termin liegen: von Freitag, \
+         dem 17. April 2026, bis Mittwoch, den 22. April 2026.",
+    ),
+    (
+        "check WindowWerktageBefore 5 2 2026-01-13 2026-01-13",
+        "4 Tage zu spät: Übertragungstag Dienstag, 13. Januar 2026, Termin Dienstag, 13. Januar \
+         2026.\n\
+         Zulässig sind Termine von Donnerstag, dem 15. Januar 2026, bis Dienstag, den 20. Januar \
+         2026.\n\
+         Der Übertragungstag muss vom 5. bis zum 2. Werktag vor dem Termin liegen: von Montag, dem \
+         5. Januar 2026, bis Freitag, den 9. Januar 2026.\n\
+         Es fehlen 2 Werktage.",
+    ),
+    (
+        "check WindowWerktageBefore 1 1 2026-01-10 2026-01-12",
+        "1 Tag zu spät: Übertragungstag Samstag, 10. Januar 2026, Termin Montag, 12. Januar \
+         2026.\n\
+         Zulässig ist kein Termin.\n\
+         Der Übertragungstag muss der 1. Werktag vor dem Termin sein: Freitag, der 9. Januar \
+         2026.\n\
+         Es fehlt kein Werktag; zu spät ist es um 1 Tag, der kein Werktag ist.\n\
+         Die Quelle nennt als frühesten Termin Montag, den 12. Januar 2026; zulässig ist er nicht.",
+    ),
+    (
+        "check WindowWerktageBefore 1 1 2026-01-09 2026-01-12",
+        "Frist gewahrt, kein Tag Luft: Übertragungstag Freitag, 9. Januar 2026, Termin Montag, 12. \
+         Januar 2026.\n\
+         Zulässig sind Termine von Samstag, dem 10. Januar 2026, bis Montag, den 12. Januar \
+         2026.\n\
+         Der Übertragungstag muss der 1. Werktag vor dem Termin sein: Freitag, der 9. Januar 2026.",
+    ),
+    (
+        "check WindowWerktageBefore 3 0 2026-04-08 2026-04-09",
+        "Frist gewahrt, noch 1 Tag Luft: Übertragungstag Mittwoch, 8. April 2026, Termin \
+         Donnerstag, 9. April 2026.\n\
+         Zulässig sind Termine von Mittwoch, dem 8. April 2026, bis Montag, den 13. April 2026.\n\
+         Der Übertragungstag muss vom 3. Werktag vor dem Termin bis zum Termin selbst liegen: von \
+         Donnerstag, dem 2. April 2026, bis Donnerstag, den 9. April 2026.",
+    ),
+    (
+        "check WindowWerktageBefore 0 0 2026-01-10 2026-01-11",
+        "Zu früh: Übertragungstag Samstag, 10. Januar 2026, Termin Sonntag, 11. Januar 2026.\n\
+         Zulässig ist nur Samstag, der 10. Januar 2026.\n\
+         Der Übertragungstag muss der Termin selbst sein: Sonntag, der 11. Januar 2026.\n\
+         Zu früh ist es um 1 Tag, der kein Werktag ist.",
+    ),
+    (
+        "check WindowWerktageBefore 0 0 2026-04-03 2026-04-05",
+        "Zu früh: Übertragungstag Freitag, 3. April 2026, Termin Sonntag, 5. April 2026.\n\
+         Zulässig ist nur Freitag, der 3. April 2026.\n\
+         Der Übertragungstag muss der Termin selbst sein: Sonntag, der 5. April 2026.\n\
+         Zu früh ist es um 2 Tage, die keine Werktage sind.",
+    ),
+    (
+        "check WindowWerktageBefore 0 5 2026-01-09 2026-01-19",
+        "Zu früh: Übertragungstag Freitag, 9. Januar 2026, Termin Montag, 19. Januar 2026.\n\
+         Zulässig ist kein Termin.\n\
+         Frühester Übertragungstag ist der Termin selbst, Montag, der 19. Januar 2026, spätester \
+         ist der 5. Werktag vor dem Termin, Montag, der 12. Januar 2026: der Zeitraum endet, bevor \
+         er beginnt.\n\
+         Der Zeitraum beginnt erst in 6 Werktagen.",
+    ),
+    (
+        "check WindowWerktageBefore 0 5 2026-01-09 2026-01-16",
+        "Zu früh: Übertragungstag Freitag, 9. Januar 2026, Termin Freitag, 16. Januar 2026.\n\
+         Zulässig ist kein Termin.\n\
+         Frühester Übertragungstag ist der Termin selbst, Freitag, der 16. Januar 2026, spätester \
+         ist der 5. Werktag vor dem Termin, Freitag, der 9. Januar 2026: der Zeitraum endet, bevor \
+         er beginnt.\n\
+         Der Zeitraum beginnt erst in 5 Werktagen.",
+    ),
+    (
+        "check WindowWerktageBefore 2 5 2026-01-13 2026-01-16",
+        "Zu früh: Übertragungstag Dienstag, 13. Januar 2026, Termin Freitag, 16. Januar 2026.\n\
+         Zulässig ist kein Termin.\n\
+         Frühester Übertragungstag ist der 2. Werktag vor dem Termin, Mittwoch, der 14. Januar \
+         2026, spätester ist der 5. Werktag vor dem Termin, Freitag, der 9. Januar 2026: der \
+         Zeitraum endet, bevor er beginnt.\n\
+         Der Zeitraum beginnt erst in 1 Werktag.",
+    ),
+    (
+        "check WindowWerktageBefore 0 1 2026-04-07 2026-04-07",
+        "5 Tage zu spät: Übertragungstag Dienstag, 7. April 2026, Termin Dienstag, 7. April \
+         2026.\n\
+         Zulässig ist kein Termin.\n\
+         Frühester Übertragungstag ist der Termin selbst, Dienstag, der 7. April 2026, spätester \
+         ist der 1. Werktag vor dem Termin, Donnerstag, der 2. April 2026: der Zeitraum endet, \
+         bevor er beginnt.\n\
+         Es fehlt 1 Werktag.\n\
+         Die Quelle nennt als frühesten Termin Mittwoch, den 8. April 2026; zulässig ist er nicht.",
+    ),
+    (
+        "check WindowWerktageBefore 1 2 2026-04-06 2026-04-08",
+        "Zu früh: Übertragungstag Montag, 6. April 2026, Termin Mittwoch, 8. April 2026.\n\
+         Zulässig ist kein Termin.\n\
+         Frühester Übertragungstag ist der 1. Werktag vor dem Termin, Dienstag, der 7. April 2026, \
+         spätester ist der 2. Werktag vor dem Termin, Donnerstag, der 2. April 2026: der Zeitraum \
+         endet, bevor er beginnt.\n\
+         Der Zeitraum beginnt erst in 1 Werktag.",
+    ),
+];
+
+/// Behind the anchor nothing is missing.
+const AFTER: &[(&str, &str)] = &[
+    (
+        "check LatestWerktageAfter 3 2026-04-09 2026-04-02",
+        "Frist gewahrt, kein Tag Luft: Übertragungstag Donnerstag, 9. April 2026, Termin \
+         Donnerstag, 2. April 2026.\n\
+         Zulässig sind Termine ab Donnerstag, dem 2. April 2026.\n\
+         Spätester Übertragungstag ist der 3. Werktag nach dem Termin: Donnerstag, der 9. April \
+         2026.",
+    ),
+    (
+        "check LatestWerktageAfter 3 2026-04-10 2026-04-02",
+        "1 Tag zu spät: Übertragungstag Freitag, 10. April 2026, Termin Donnerstag, 2. April \
+         2026.\n\
+         Zulässig sind Termine ab Dienstag, dem 7. April 2026.\n\
+         Spätester Übertragungstag ist der 3. Werktag nach dem Termin: Donnerstag, der 9. April \
+         2026.\n\
+         Zu spät ist es um 1 Werktag.\n\
+         Die Quelle nennt als frühesten Termin Donnerstag, den 2. April 2026; zulässig ist er \
+         nicht.",
+    ),
+    (
+        "check LatestWerktageAfter 3 2026-04-14 2026-04-02",
+        "5 Tage zu spät: Übertragungstag Dienstag, 14. April 2026, Termin Donnerstag, 2. April \
+         2026.\n\
+         Zulässig sind Termine ab Donnerstag, dem 9. April 2026.\n\
+         Spätester Übertragungstag ist der 3. Werktag nach dem Termin: Donnerstag, der 9. April \
+         2026.\n\
+         Zu spät ist es um 3 Werktage.\n\
+         Die Quelle nennt als frühesten Termin Donnerstag, den 2. April 2026; zulässig ist er \
+         nicht.",
+    ),
+    (
+        "check LatestWerktageAfter 1 2026-04-11 2026-04-09",
+        "1 Tag zu spät: Übertragungstag Samstag, 11. April 2026, Termin Donnerstag, 9. April \
+         2026.\n\
+         Zulässig sind Termine ab Freitag, dem 10. April 2026.\n\
+         Spätester Übertragungstag ist der 1. Werktag nach dem Termin: Freitag, der 10. April \
+         2026.\n\
+         Zu spät ist es um 1 Tag, der kein Werktag ist.\n\
+         Die Quelle nennt als frühesten Termin Donnerstag, den 9. April 2026; zulässig ist er \
+         nicht.",
+    ),
+    (
+        "check LatestWerktageAfter 0 2026-04-06 2026-04-02",
+        "4 Tage zu spät: Übertragungstag Montag, 6. April 2026, Termin Donnerstag, 2. April \
+         2026.\n\
+         Zulässig sind Termine ab Montag, dem 6. April 2026.\n\
+         Spätester Übertragungstag ist der Termin selbst: Donnerstag, der 2. April 2026.\n\
+         Zu spät ist es um 4 Tage, die keine Werktage sind.\n\
+         Die Quelle nennt als frühesten Termin Donnerstag, den 2. April 2026; zulässig ist er \
+         nicht.",
+    ),
+    (
+        "check LatestWerktageAfter 0 2026-04-01 2026-04-02",
+        "Frist gewahrt, noch 1 Tag Luft: Übertragungstag Mittwoch, 1. April 2026, Termin \
+         Donnerstag, 2. April 2026.\n\
+         Zulässig sind Termine ab Mittwoch, dem 1. April 2026.\n\
+         Spätester Übertragungstag ist der Termin selbst: Donnerstag, der 2. April 2026.",
+    ),
+    (
+        "check Korridor 2 2026-04-21 2026-04-24",
+        "Zu früh: Übertragungstag Dienstag, 21. April 2026, Termin Freitag, 24. April 2026.\n\
+         Zulässig sind Termine von Freitag, dem 17. April 2026, bis Donnerstag, den 23. April \
+         2026.\n\
+         Der Übertragungstag muss vom 2. Werktag vor bis zum 2. Werktag nach dem Termin liegen: \
+         von Mittwoch, dem 22. April 2026, bis Dienstag, den 28. April 2026.\n\
+         Der Zeitraum beginnt erst in 1 Werktag.",
+    ),
+    (
+        "check Korridor 2 2026-04-17 2026-04-24",
+        "Zu früh: Übertragungstag Freitag, 17. April 2026, Termin Freitag, 24. April 2026.\n\
+         Zulässig sind Termine von Mittwoch, dem 15. April 2026, bis Dienstag, den 21. April \
+         2026.\n\
+         Der Übertragungstag muss vom 2. Werktag vor bis zum 2. Werktag nach dem Termin liegen: \
+         von Mittwoch, dem 22. April 2026, bis Dienstag, den 28. April 2026.\n\
+         Der Zeitraum beginnt erst in 3 Werktagen.",
+    ),
+    (
+        "check Korridor 2 2026-04-24 2026-04-24",
+        "Frist gewahrt, noch 4 Tage Luft: Übertragungstag Freitag, 24. April 2026, Termin Freitag, \
+         24. April 2026.\n\
+         Zulässig sind Termine von Mittwoch, dem 22. April 2026, bis Dienstag, den 28. April \
+         2026.\n\
+         Der Übertragungstag muss vom 2. Werktag vor bis zum 2. Werktag nach dem Termin liegen: \
+         von Mittwoch, dem 22. April 2026, bis Dienstag, den 28. April 2026.",
+    ),
+    (
+        "check Korridor 2 2026-04-29 2026-04-24",
+        "1 Tag zu spät: Übertragungstag Mittwoch, 29. April 2026, Termin Freitag, 24. April \
+         2026.\n\
+         Zulässig sind Termine von Montag, dem 27. April 2026, bis Montag, den 4. Mai 2026.\n\
+         Der Übertragungstag muss vom 2. Werktag vor bis zum 2. Werktag nach dem Termin liegen: \
+         von Mittwoch, dem 22. April 2026, bis Dienstag, den 28. April 2026.\n\
+         Zu spät ist es um 1 Werktag.\n\
+         Die Quelle nennt als frühesten Termin Mittwoch, den 22. April 2026; zulässig ist er \
+         nicht.",
+    ),
+    (
+        "check Korridor 2 2026-05-02 2026-04-24",
+        "4 Tage zu spät: Übertragungstag Samstag, 2. Mai 2026, Termin Freitag, 24. April 2026.\n\
+         Zulässig sind Termine von Mittwoch, dem 29. April 2026, bis Dienstag, den 5. Mai 2026.\n\
+         Der Übertragungstag muss vom 2. Werktag vor bis zum 2. Werktag nach dem Termin liegen: \
+         von Mittwoch, dem 22. April 2026, bis Dienstag, den 28. April 2026.\n\
+         Zu spät ist es um 2 Werktage.\n\
+         Die Quelle nennt als frühesten Termin Mittwoch, den 22. April 2026; zulässig ist er \
+         nicht.",
+    ),
+    (
+        "check Korridor 1 2026-05-01 2026-04-29",
+        "1 Tag zu spät: Übertragungstag Freitag, 1. Mai 2026, Termin Mittwoch, 29. April 2026.\n\
+         Zulässig sind Termine von Donnerstag, dem 30. April 2026, bis Montag, den 4. Mai 2026.\n\
+         Der Übertragungstag muss vom 1. Werktag vor bis zum 1. Werktag nach dem Termin liegen: \
+         von Dienstag, dem 28. April 2026, bis Donnerstag, den 30. April 2026.\n\
+         Zu spät ist es um 1 Tag, der kein Werktag ist.\n\
+         Die Quelle nennt als frühesten Termin Dienstag, den 28. April 2026; zulässig ist er \
+         nicht.",
+    ),
+    (
+        "check Korridor 0 2026-01-10 2026-01-11",
+        "Zu früh: Übertragungstag Samstag, 10. Januar 2026, Termin Sonntag, 11. Januar 2026.\n\
+         Zulässig ist nur Samstag, der 10. Januar 2026.\n\
+         Der Übertragungstag muss der Termin selbst sein: Sonntag, der 11. Januar 2026.\n\
+         Zu früh ist es um 1 Tag, der kein Werktag ist.",
+    ),
+    (
+        "check Korridor 0 2026-04-03 2026-04-05",
+        "Zu früh: Übertragungstag Freitag, 3. April 2026, Termin Sonntag, 5. April 2026.\n\
+         Zulässig ist nur Freitag, der 3. April 2026.\n\
+         Der Übertragungstag muss der Termin selbst sein: Sonntag, der 5. April 2026.\n\
+         Zu früh ist es um 2 Tage, die keine Werktage sind.",
+    ),
+    (
+        "check Korridor 0 2026-01-11 2026-01-11",
+        "Frist gewahrt, kein Tag Luft: Übertragungstag Sonntag, 11. Januar 2026, Termin Sonntag, \
+         11. Januar 2026.\n\
+         Zulässig ist nur Sonntag, der 11. Januar 2026.\n\
+         Der Übertragungstag muss der Termin selbst sein: Sonntag, der 11. Januar 2026.",
+    ),
+    (
+        "check Korridor 0 2026-01-11 2026-01-09",
+        "2 Tage zu spät: Übertragungstag Sonntag, 11. Januar 2026, Termin Freitag, 9. Januar \
+         2026.\n\
+         Zulässig ist nur Sonntag, der 11. Januar 2026.\n\
+         Der Übertragungstag muss der Termin selbst sein: Freitag, der 9. Januar 2026.\n\
+         Zu spät ist es um 2 Tage, die keine Werktage sind.\n\
+         Die Quelle nennt als frühesten Termin Freitag, den 9. Januar 2026; zulässig ist er nicht.",
+    ),
+];
+
+/// The days are the Termin's here.
+const EARLIEST: &[(&str, &str)] = &[
+    (
+        "check EarliestWerktageAfter 1 2026-04-02 2026-04-07",
+        "Frist gewahrt, zum frühesten Termin: Übertragungstag Donnerstag, 2. April 2026, Termin \
+         Dienstag, 7. April 2026.\n\
+         Zulässig sind Termine ab Dienstag, dem 7. April 2026.\n\
+         Frühester Termin ist der 1. Werktag nach dem Übertragungstag: Dienstag, der 7. April \
+         2026.",
+    ),
+    (
+        "check EarliestWerktageAfter 1 2026-04-02 2026-04-08",
+        "Frist gewahrt, der Termin liegt 1 Tag nach dem frühesten: Übertragungstag Donnerstag, 2. \
+         April 2026, Termin Mittwoch, 8. April 2026.\n\
+         Zulässig sind Termine ab Dienstag, dem 7. April 2026.\n\
+         Frühester Termin ist der 1. Werktag nach dem Übertragungstag: Dienstag, der 7. April \
+         2026.",
+    ),
+    (
+        "check EarliestWerktageAfter 1 2026-04-02 2026-04-06",
+        "Zu spät, der Termin liegt 1 Tag zu früh: Übertragungstag Donnerstag, 2. April 2026, \
+         Termin Montag, 6. April 2026.\n\
+         Zulässig sind Termine ab Dienstag, dem 7. April 2026.\n\
+         Frühester Termin ist der 1. Werktag nach dem Übertragungstag: Dienstag, der 7. April \
+         2026.\n\
+         Es fehlt 1 Werktag.",
+    ),
+    (
+        "check EarliestWerktageAfter 3 2026-04-02 2026-04-02",
+        "Zu spät, der Termin liegt 7 Tage zu früh: Übertragungstag Donnerstag, 2. April 2026, \
+         Termin Donnerstag, 2. April 2026.\n\
+         Zulässig sind Termine ab Donnerstag, dem 9. April 2026.\n\
+         Frühester Termin ist der 3. Werktag nach dem Übertragungstag: Donnerstag, der 9. April \
+         2026.\n\
+         Es fehlen 3 Werktage.",
+    ),
+    (
+        "check EarliestWerktageAfter 0 2026-04-07 2026-04-02",
+        "Zu spät, der Termin liegt 5 Tage zu früh: Übertragungstag Dienstag, 7. April 2026, Termin \
+         Donnerstag, 2. April 2026.\n\
+         Zulässig sind Termine ab Dienstag, dem 7. April 2026.\n\
+         Frühester Termin ist der Übertragungstag selbst: Dienstag, der 7. April 2026.\n\
+         Es fehlt 1 Werktag.",
+    ),
+    (
+        "check EarliestWerktageAfter 0 2026-04-03 2026-04-02",
+        "Zu spät, der Termin liegt 1 Tag zu früh: Übertragungstag Freitag, 3. April 2026, Termin \
+         Donnerstag, 2. April 2026.\n\
+         Zulässig sind Termine ab Freitag, dem 3. April 2026.\n\
+         Frühester Termin ist der Übertragungstag selbst: Freitag, der 3. April 2026.\n\
+         Es fehlt kein Werktag; zu früh liegt der Termin um 1 Tag, der kein Werktag ist.",
+    ),
+    (
+        "check EarliestWerktageAfter 0 2026-04-06 2026-04-02",
+        "Zu spät, der Termin liegt 4 Tage zu früh: Übertragungstag Montag, 6. April 2026, Termin \
+         Donnerstag, 2. April 2026.\n\
+         Zulässig sind Termine ab Montag, dem 6. April 2026.\n\
+         Frühester Termin ist der Übertragungstag selbst: Montag, der 6. April 2026.\n\
+         Es fehlt kein Werktag; zu früh liegt der Termin um 4 Tage, die keine Werktage sind.",
+    ),
+];
+
+/// Case F first.
+const LAST_WERKTAG: &[(&str, &str)] = &[
+    (
+        "check TagVorDemLetztenWerktagVor 2026-01-08 2026-01-09",
+        "1 Tag zu spät: Übertragungstag Donnerstag, 8. Januar 2026, Termin Freitag, 9. Januar \
+         2026.\n\
+         Zulässig sind Termine ab Samstag, dem 10. Januar 2026.\n\
+         Spätester Übertragungstag ist der Tag vor dem letzten Werktag vor dem Termin: Mittwoch, \
+         der 7. Januar 2026.\n\
+         Es fehlt 1 Werktag.",
+    ),
+    (
+        "check TagVorDemLetztenWerktagVor 2026-01-08 2026-01-10",
+        "Frist gewahrt, kein Tag Luft: Übertragungstag Donnerstag, 8. Januar 2026, Termin Samstag, \
+         10. Januar 2026.\n\
+         Zulässig sind Termine ab Samstag, dem 10. Januar 2026.\n\
+         Spätester Übertragungstag ist der Tag vor dem letzten Werktag vor dem Termin: Donnerstag, \
+         der 8. Januar 2026.",
+    ),
+    (
+        "check TagVorDemLetztenWerktagVor 2026-01-06 2026-01-13",
+        "Frist gewahrt, noch 5 Tage Luft: Übertragungstag Dienstag, 6. Januar 2026, Termin \
+         Dienstag, 13. Januar 2026.\n\
+         Zulässig sind Termine ab Donnerstag, dem 8. Januar 2026.\n\
+         Spätester Übertragungstag ist der Tag vor dem letzten Werktag vor dem Termin: Sonntag, \
+         der 11. Januar 2026.",
+    ),
+    (
+        "check TagVorDemLetztenWerktagVor 2026-04-05 2026-04-07",
+        "4 Tage zu spät: Übertragungstag Sonntag, 5. April 2026, Termin Dienstag, 7. April 2026.\n\
+         Zulässig sind Termine ab Mittwoch, dem 8. April 2026.\n\
+         Spätester Übertragungstag ist der Tag vor dem letzten Werktag vor dem Termin: Mittwoch, \
+         der 1. April 2026.\n\
+         Es fehlt 1 Werktag.",
+    ),
+    (
+        "check TagVorDemLetztenWerktagVor 2026-01-14 2026-01-09",
+        "7 Tage zu spät: Übertragungstag Mittwoch, 14. Januar 2026, Termin Freitag, 9. Januar \
+         2026.\n\
+         Zulässig sind Termine ab Freitag, dem 16. Januar 2026.\n\
+         Spätester Übertragungstag ist der Tag vor dem letzten Werktag vor dem Termin: Mittwoch, \
+         der 7. Januar 2026.\n\
+         Es fehlen 5 Werktage.",
+    ),
+];
+
+/// Case G first; a count of 0 leaves what the other says.
+const MONTHS: &[(&str, &str)] = &[
+    (
+        "check LatestMonateBefore 1 2026-01-31 2026-02-28",
+        "3 Tage zu spät: Übertragungstag Samstag, 31. Januar 2026, Termin Samstag, 28. Februar \
+         2026.\n\
+         Zulässig sind Termine ab Sonntag, dem 1. März 2026.\n\
+         Der späteste Übertragungstag liegt 1 Monat vor dem Termin: Mittwoch, der 28. Januar \
+         2026.\n\
+         Es fehlen 2 Werktage.\n\
+         Die Quelle nennt als frühesten Termin Samstag, den 28. Februar 2026; zulässig ist er \
+         nicht.",
+    ),
+    (
+        "check LatestMonateBefore 1 2026-01-31 2026-03-31",
+        "Frist gewahrt, noch 28 Tage Luft: Übertragungstag Samstag, 31. Januar 2026, Termin \
+         Dienstag, 31. März 2026.\n\
+         Zulässig sind Termine ab Sonntag, dem 1. März 2026.\n\
+         Der späteste Übertragungstag liegt 1 Monat vor dem Termin: Samstag, der 28. Februar 2026.",
+    ),
+    (
+        "check LatestMonateBefore 3 2026-01-05 2026-04-06",
+        "Frist gewahrt, noch 1 Tag Luft: Übertragungstag Montag, 5. Januar 2026, Termin Montag, 6. \
+         April 2026.\n\
+         Zulässig sind Termine ab Sonntag, dem 5. April 2026.\n\
+         Der späteste Übertragungstag liegt 3 Monate vor dem Termin: Dienstag, der 6. Januar 2026.",
+    ),
+    (
+        "check LatestMonateBefore 0 2026-01-11 2026-01-10",
+        "1 Tag zu spät: Übertragungstag Sonntag, 11. Januar 2026, Termin Samstag, 10. Januar \
+         2026.\n\
+         Zulässig sind Termine ab Sonntag, dem 11. Januar 2026.\n\
+         Spätester Übertragungstag ist der Termin selbst: Samstag, der 10. Januar 2026.\n\
+         Es fehlt kein Werktag; zu spät ist es um 1 Tag, der kein Werktag ist.",
+    ),
+    (
+        "check LatestMonateBefore 2 2026-04-07 2026-05-07",
+        "31 Tage zu spät: Übertragungstag Dienstag, 7. April 2026, Termin Donnerstag, 7. Mai \
+         2026.\n\
+         Zulässig sind Termine ab Sonntag, dem 7. Juni 2026.\n\
+         Der späteste Übertragungstag liegt 2 Monate vor dem Termin: Samstag, der 7. März 2026.\n\
+         Es fehlen 20 Werktage.",
+    ),
+    (
+        "check LatestMonateUndWerktageBefore 2 1 2026-01-05 2026-04-01",
+        "Frist gewahrt, noch 25 Tage Luft: Übertragungstag Montag, 5. Januar 2026, Termin \
+         Mittwoch, 1. April 2026.\n\
+         Zulässig sind Termine ab Freitag, dem 6. März 2026.\n\
+         Spätester Übertragungstag ist der 1. Werktag vor dem Tag, der 2 Monate vor dem Termin \
+         liegt: Freitag, der 30. Januar 2026.",
+    ),
+    (
+        "check LatestMonateUndWerktageBefore 1 5 2026-03-30 2026-05-05",
+        "3 Tage zu spät: Übertragungstag Montag, 30. März 2026, Termin Dienstag, 5. Mai 2026.\n\
+         Zulässig sind Termine ab Freitag, dem 8. Mai 2026.\n\
+         Spätester Übertragungstag ist der 5. Werktag vor dem Tag, der 1 Monat vor dem Termin \
+         liegt: Freitag, der 27. März 2026.\n\
+         Es fehlt 1 Werktag.",
+    ),
+    (
+        "check LatestMonateUndWerktageBefore 1 1 2026-01-31 2026-02-28",
+        "4 Tage zu spät: Übertragungstag Samstag, 31. Januar 2026, Termin Samstag, 28. Februar \
+         2026.\n\
+         Zulässig sind Termine ab Dienstag, dem 3. März 2026.\n\
+         Spätester Übertragungstag ist der 1. Werktag vor dem Tag, der 1 Monat vor dem Termin \
+         liegt: Dienstag, der 27. Januar 2026.\n\
+         Es fehlen 3 Werktage.\n\
+         Die Quelle nennt als frühesten Termin Montag, den 2. März 2026; zulässig ist er nicht.",
+    ),
+    (
+        "check LatestMonateUndWerktageBefore 0 1 2026-01-10 2026-01-12",
+        "1 Tag zu spät: Übertragungstag Samstag, 10. Januar 2026, Termin Montag, 12. Januar \
+         2026.\n\
+         Zulässig sind Termine ab Dienstag, dem 13. Januar 2026.\n\
+         Spätester Übertragungstag ist der 1. Werktag vor dem Termin: Freitag, der 9. Januar \
+         2026.\n\
+         Es fehlt kein Werktag; zu spät ist es um 1 Tag, der kein Werktag ist.\n\
+         Die Quelle nennt als frühesten Termin Montag, den 12. Januar 2026; zulässig ist er nicht.",
+    ),
+    (
+        "check LatestMonateUndWerktageBefore 2 0 2026-01-05 2026-03-05",
+        "Frist gewahrt, kein Tag Luft: Übertragungstag Montag, 5. Januar 2026, Termin Donnerstag, \
+         5. März 2026.\n\
+         Zulässig sind Termine ab Donnerstag, dem 5. März 2026.\n\
+         Der späteste Übertragungstag liegt 2 Monate vor dem Termin: Montag, der 5. Januar 2026.",
+    ),
+    (
+        "check LatestMonateUndWerktageBefore 0 0 2026-01-05 2026-01-05",
+        "Frist gewahrt, kein Tag Luft: Übertragungstag Montag, 5. Januar 2026, Termin Montag, 5. \
+         Januar 2026.\n\
+         Zulässig sind Termine ab Montag, dem 5. Januar 2026.\n\
+         Spätester Übertragungstag ist der Termin selbst: Montag, der 5. Januar 2026.",
+    ),
+];
+
+/// Which dates the transmission day allows, then the rule.
+const SPANS: &[(&str, &str)] = &[
+    (
+        "span LatestWerktageBefore 1 2026-01-10",
+        "Übertragungstag Samstag, 10. Januar 2026: Zulässig sind Termine ab Dienstag, dem 13. \
+         Januar 2026.\n\
+         Spätester Übertragungstag ist der 1. Werktag vor dem Termin.",
+    ),
+    (
+        "span LatestWerktageBefore 0 2026-01-10",
+        "Übertragungstag Samstag, 10. Januar 2026: Zulässig sind Termine ab Samstag, dem 10. \
+         Januar 2026.\n\
+         Spätester Übertragungstag ist der Termin selbst.",
+    ),
+    (
+        "span WindowWerktageBefore 5 2 2026-01-13",
+        "Übertragungstag Dienstag, 13. Januar 2026: Zulässig sind Termine von Donnerstag, dem 15. \
+         Januar 2026, bis Dienstag, den 20. Januar 2026.\n\
+         Der Übertragungstag muss vom 5. bis zum 2. Werktag vor dem Termin liegen.",
+    ),
+    (
+        "span WindowWerktageBefore 1 1 2026-01-10",
+        "Übertragungstag Samstag, 10. Januar 2026: Zulässig ist kein Termin.\n\
+         Der Übertragungstag muss der 1. Werktag vor dem Termin sein.",
+    ),
+    (
+        "span WindowWerktageBefore 2 0 2026-04-02",
+        "Übertragungstag Donnerstag, 2. April 2026: Zulässig sind Termine von Donnerstag, dem 2. \
+         April 2026, bis Mittwoch, den 8. April 2026.\n\
+         Der Übertragungstag muss vom 2. Werktag vor dem Termin bis zum Termin selbst liegen.",
+    ),
+    (
+        "span WindowWerktageBefore 0 1 2026-01-13",
+        "Übertragungstag Dienstag, 13. Januar 2026: Zulässig ist kein Termin.\n\
+         Frühester Übertragungstag ist der Termin selbst, spätester ist der 1. Werktag vor dem \
+         Termin: der Zeitraum endet, bevor er beginnt.",
+    ),
+    (
+        "span LatestWerktageAfter 3 2026-04-09",
+        "Übertragungstag Donnerstag, 9. April 2026: Zulässig sind Termine ab Donnerstag, dem 2. \
+         April 2026.\n\
+         Spätester Übertragungstag ist der 3. Werktag nach dem Termin.",
+    ),
+    (
+        "span EarliestWerktageAfter 3 2026-04-02",
+        "Übertragungstag Donnerstag, 2. April 2026: Zulässig sind Termine ab Donnerstag, dem 9. \
+         April 2026.\n\
+         Frühester Termin ist der 3. Werktag nach dem Übertragungstag.",
+    ),
+    (
+        "span EarliestWerktageAfter 0 2026-04-03",
+        "Übertragungstag Freitag, 3. April 2026: Zulässig sind Termine ab Freitag, dem 3. April \
+         2026.\n\
+         Frühester Termin ist der Übertragungstag selbst.",
+    ),
+    (
+        "span Korridor 2 2026-04-07",
+        "Übertragungstag Dienstag, 7. April 2026: Zulässig sind Termine von Mittwoch, dem 1. April \
+         2026, bis Donnerstag, den 9. April 2026.\n\
+         Der Übertragungstag muss vom 2. Werktag vor bis zum 2. Werktag nach dem Termin liegen.",
+    ),
+    (
+        "span Korridor 0 2026-04-07",
+        "Übertragungstag Dienstag, 7. April 2026: Zulässig ist nur Dienstag, der 7. April 2026.\n\
+         Der Übertragungstag muss der Termin selbst sein.",
+    ),
+    (
+        "span TagVorDemLetztenWerktagVor 2026-01-08",
+        "Übertragungstag Donnerstag, 8. Januar 2026: Zulässig sind Termine ab Samstag, dem 10. \
+         Januar 2026.\n\
+         Spätester Übertragungstag ist der Tag vor dem letzten Werktag vor dem Termin.",
+    ),
+    (
+        "span LatestMonateBefore 1 2026-01-31",
+        "Übertragungstag Samstag, 31. Januar 2026: Zulässig sind Termine ab Sonntag, dem 1. März \
+         2026.\n\
+         Der späteste Übertragungstag liegt 1 Monat vor dem Termin.",
+    ),
+    (
+        "span LatestMonateBefore 2 2026-01-05",
+        "Übertragungstag Montag, 5. Januar 2026: Zulässig sind Termine ab Donnerstag, dem 5. März \
+         2026.\n\
+         Der späteste Übertragungstag liegt 2 Monate vor dem Termin.",
+    ),
+    (
+        "span LatestMonateBefore 0 2026-01-05",
+        "Übertragungstag Montag, 5. Januar 2026: Zulässig sind Termine ab Montag, dem 5. Januar \
+         2026.\n\
+         Spätester Übertragungstag ist der Termin selbst.",
+    ),
+    (
+        "span LatestMonateUndWerktageBefore 1 5 2026-03-30",
+        "Übertragungstag Montag, 30. März 2026: Zulässig sind Termine ab Freitag, dem 8. Mai \
+         2026.\n\
+         Spätester Übertragungstag ist der 5. Werktag vor dem Tag, der 1 Monat vor dem Termin \
+         liegt.",
+    ),
+    (
+        "span LatestMonateUndWerktageBefore 2 0 2026-01-05",
+        "Übertragungstag Montag, 5. Januar 2026: Zulässig sind Termine ab Donnerstag, dem 5. März \
+         2026.\n\
+         Der späteste Übertragungstag liegt 2 Monate vor dem Termin.",
+    ),
+    (
+        "span LatestMonateUndWerktageBefore 0 1 2026-01-10",
+        "Übertragungstag Samstag, 10. Januar 2026: Zulässig sind Termine ab Dienstag, dem 13. \
+         Januar 2026.\n\
+         Spätester Übertragungstag ist der 1. Werktag vor dem Termin.",
+    ),
+];
+
+/// The transmission days, then the rule.
+const BIS_WANN: &[(&str, &str)] = &[
+    (
+        "bis-wann LatestWerktageBefore 1 2026-04-07",
+        "Für den Termin am Dienstag, dem 7. April 2026, muss die Nachricht spätestens am \
+         Donnerstag, dem 2. April 2026, übertragen sein.\n\
+         Spätester Übertragungstag ist der 1. Werktag vor dem Termin.",
+    ),
+    (
+        "bis-wann LatestWerktageBefore 0 2026-04-05",
+        "Für den Termin am Sonntag, dem 5. April 2026, muss die Nachricht spätestens am Sonntag, \
+         dem 5. April 2026, übertragen sein.\n\
+         Spätester Übertragungstag ist der Termin selbst.",
+    ),
+    (
+        "bis-wann WindowWerktageBefore 8 5 2026-04-24",
+        "Für den Termin am Freitag, dem 24. April 2026, muss die Nachricht von Dienstag, dem 14. \
+         April 2026, bis Freitag, den 17. April 2026, übertragen werden.\n\
+         Der Übertragungstag muss vom 8. bis zum 5. Werktag vor dem Termin liegen.",
+    ),
+    (
+        "bis-wann WindowWerktageBefore 2 0 2026-04-07",
+        "Für den Termin am Dienstag, dem 7. April 2026, muss die Nachricht von Mittwoch, dem 1. \
+         April 2026, bis Dienstag, den 7. April 2026, übertragen werden.\n\
+         Der Übertragungstag muss vom 2. Werktag vor dem Termin bis zum Termin selbst liegen.",
+    ),
+    (
+        "bis-wann WindowWerktageBefore 1 1 2026-04-07",
+        "Für den Termin am Dienstag, dem 7. April 2026, muss die Nachricht am Donnerstag, dem 2. \
+         April 2026, übertragen werden.\n\
+         Der Übertragungstag muss der 1. Werktag vor dem Termin sein.",
+    ),
+    (
+        "bis-wann WindowWerktageBefore 0 5 2026-01-19",
+        "Für den Termin am Montag, dem 19. Januar 2026, gibt es keinen Übertragungstag.\n\
+         Frühester Übertragungstag ist der Termin selbst, spätester ist der 5. Werktag vor dem \
+         Termin: der Zeitraum endet, bevor er beginnt.",
+    ),
+    (
+        "bis-wann WindowWerktageBefore 1 2 2026-01-19",
+        "Für den Termin am Montag, dem 19. Januar 2026, gibt es keinen Übertragungstag.\n\
+         Frühester Übertragungstag ist der 1. Werktag vor dem Termin, spätester ist der 2. \
+         Werktag vor dem Termin: der Zeitraum endet, bevor er beginnt.",
+    ),
+    (
+        "bis-wann LatestWerktageAfter 3 2026-04-02",
+        "Für den Termin am Donnerstag, dem 2. April 2026, muss die Nachricht spätestens am \
+         Donnerstag, dem 9. April 2026, übertragen sein.\n\
+         Spätester Übertragungstag ist der 3. Werktag nach dem Termin.",
+    ),
+    (
+        "bis-wann LatestWerktageAfter 0 2026-04-02",
+        "Für den Termin am Donnerstag, dem 2. April 2026, muss die Nachricht spätestens am \
+         Donnerstag, dem 2. April 2026, übertragen sein.\n\
+         Spätester Übertragungstag ist der Termin selbst.",
+    ),
+    (
+        "bis-wann EarliestWerktageAfter 2 2026-04-13",
+        "Für den Termin am Montag, dem 13. April 2026, muss die Nachricht spätestens am \
+         Donnerstag, dem 9. April 2026, übertragen sein.\n\
+         Frühester Termin ist der 2. Werktag nach dem Übertragungstag.",
+    ),
+    (
+        "bis-wann EarliestWerktageAfter 1 2026-04-07",
+        "Für den Termin am Dienstag, dem 7. April 2026, muss die Nachricht spätestens am Montag, \
+         dem 6. April 2026, übertragen sein.\n\
+         Frühester Termin ist der 1. Werktag nach dem Übertragungstag.",
+    ),
+    (
+        "bis-wann EarliestWerktageAfter 1 2026-04-06",
+        "Für den Termin am Montag, dem 6. April 2026, muss die Nachricht spätestens am Mittwoch, \
+         dem 1. April 2026, übertragen sein.\n\
+         Frühester Termin ist der 1. Werktag nach dem Übertragungstag.",
+    ),
+    (
+        "bis-wann EarliestWerktageAfter 0 2026-04-06",
+        "Für den Termin am Montag, dem 6. April 2026, muss die Nachricht spätestens am Montag, \
+         dem 6. April 2026, übertragen sein.\n\
+         Frühester Termin ist der Übertragungstag selbst.",
+    ),
+    (
+        "bis-wann Korridor 5 2026-04-24",
+        "Für den Termin am Freitag, dem 24. April 2026, muss die Nachricht von Freitag, dem 17. \
+         April 2026, bis Montag, den 4. Mai 2026, übertragen werden.\n\
+         Der Übertragungstag muss vom 5. Werktag vor bis zum 5. Werktag nach dem Termin liegen.",
+    ),
+    (
+        "bis-wann Korridor 0 2026-04-05",
+        "Für den Termin am Sonntag, dem 5. April 2026, muss die Nachricht am Sonntag, dem 5. \
+         April 2026, übertragen werden.\n\
+         Der Übertragungstag muss der Termin selbst sein.",
+    ),
+    (
+        "bis-wann TagVorDemLetztenWerktagVor 2026-01-13",
+        "Für den Termin am Dienstag, dem 13. Januar 2026, muss die Nachricht spätestens am \
+         Sonntag, dem 11. Januar 2026, übertragen sein.\n\
+         Spätester Übertragungstag ist der Tag vor dem letzten Werktag vor dem Termin.",
+    ),
+    (
+        "bis-wann LatestMonateBefore 1 2026-03-31",
+        "Für den Termin am Dienstag, dem 31. März 2026, muss die Nachricht spätestens am Samstag, \
+         dem 28. Februar 2026, übertragen sein.\n\
+         Der späteste Übertragungstag liegt 1 Monat vor dem Termin.",
+    ),
+    (
+        "bis-wann LatestMonateBefore 3 2026-04-07",
+        "Für den Termin am Dienstag, dem 7. April 2026, muss die Nachricht spätestens am \
+         Mittwoch, dem 7. Januar 2026, übertragen sein.\n\
+         Der späteste Übertragungstag liegt 3 Monate vor dem Termin.",
+    ),
+    (
+        "bis-wann LatestMonateBefore 0 2026-04-07",
+        "Für den Termin am Dienstag, dem 7. April 2026, muss die Nachricht spätestens am \
+         Dienstag, dem 7. April 2026, übertragen sein.\n\
+         Spätester Übertragungstag ist der Termin selbst.",
+    ),
+    (
+        "bis-wann LatestMonateUndWerktageBefore 1 5 2026-05-05",
+        "Für den Termin am Dienstag, dem 5. Mai 2026, muss die Nachricht spätestens am Freitag, \
+         dem 27. März 2026, übertragen sein.\n\
+         Spätester Übertragungstag ist der 5. Werktag vor dem Tag, der 1 Monat vor dem Termin \
+         liegt.",
+    ),
+    (
+        "bis-wann LatestMonateUndWerktageBefore 2 1 2026-04-01",
+        "Für den Termin am Mittwoch, dem 1. April 2026, muss die Nachricht spätestens am Freitag, \
+         dem 30. Januar 2026, übertragen sein.\n\
+         Spätester Übertragungstag ist der 1. Werktag vor dem Tag, der 2 Monate vor dem Termin \
+         liegt.",
+    ),
+    (
+        "bis-wann LatestMonateUndWerktageBefore 0 2 2026-04-07",
+        "Für den Termin am Dienstag, dem 7. April 2026, muss die Nachricht spätestens am \
+         Mittwoch, dem 1. April 2026, übertragen sein.\n\
+         Spätester Übertragungstag ist der 2. Werktag vor dem Termin.",
+    ),
+    (
+        "bis-wann LatestMonateUndWerktageBefore 1 0 2026-04-07",
+        "Für den Termin am Dienstag, dem 7. April 2026, muss die Nachricht spätestens am Samstag, \
+         dem 7. März 2026, übertragen sein.\n\
+         Der späteste Übertragungstag liegt 1 Monat vor dem Termin.",
+    ),
+];
+
+/// The end that leaves the calendar, or why the Termin is none.
+const NOT_UNTIL: &[(&str, &str)] = &[
+    (
+        "bis-wann LatestWerktageBefore 1 1996-01-02",
+        "Abgelehnt (8): Der späteste Übertragungstag für den Termin am Dienstag, dem 2. Januar \
+         1996, liegt vor dem 1. Januar 1996, dem ersten Tag des Kalenders.",
+    ),
+    (
+        "bis-wann EarliestWerktageAfter 1 1996-01-01",
+        "Abgelehnt (8): Der späteste Übertragungstag für den Termin am Montag, dem 1. Januar \
+         1996, liegt vor dem 1. Januar 1996, dem ersten Tag des Kalenders.",
+    ),
+    (
+        "bis-wann Korridor 1 1996-01-02",
+        "Abgelehnt (8): Der früheste Übertragungstag für den Termin am Dienstag, dem 2. Januar \
+         1996, liegt vor dem 1. Januar 1996, dem ersten Tag des Kalenders.",
+    ),
+    (
+        "bis-wann WindowWerktageBefore 2 0 1996-01-03",
+        "Abgelehnt (8): Der früheste Übertragungstag für den Termin am Mittwoch, dem 3. Januar \
+         1996, liegt vor dem 1. Januar 1996, dem ersten Tag des Kalenders.",
+    ),
+    (
+        "bis-wann Korridor 1 2899-12-30",
+        "Abgelehnt (8): Der späteste Übertragungstag für den Termin am Mittwoch, dem 30. Dezember \
+         2899, liegt hinter dem 31. Dezember 2899, dem letzten Tag des Kalenders.",
+    ),
+    (
+        "bis-wann LatestWerktageAfter 2 2899-12-29",
+        "Abgelehnt (8): Der späteste Übertragungstag für den Termin am Dienstag, dem 29. Dezember \
+         2899, liegt hinter dem 31. Dezember 2899, dem letzten Tag des Kalenders.",
+    ),
+    (
+        "bis-wann LatestWerktageBefore 1 2026-02-30",
+        "Abgelehnt (3): 2026-02-30: der Februar 2026 hat 28 Tage.",
+    ),
+    (
+        "bis-wann EarliestWerktageAfter 0 2900-01-01",
+        "Abgelehnt (3): 2900-01-01: der Kalender endet am 31. Dezember 2899.",
+    ),
+];
+
+/// A span that leaves the calendar while the verdict is answered, under each verdict: of a window
+/// and a Korridor only, which have two ends.
+const EDGES: &[(&str, &str)] = &[
+    (
+        "check WindowWerktageBefore 3 1 2899-12-28 2899-12-28",
+        "5 Tage zu spät: Übertragungstag Montag, 28. Dezember 2899, Termin Montag, 28. Dezember \
+         2899.\n\
+         Die Spanne der zulässigen Termine reicht über den Kalender vom 1. Januar 1996 bis zum 31. \
+         Dezember 2899 hinaus.\n\
+         Der Übertragungstag muss vom 3. bis zum 1. Werktag vor dem Termin liegen: von Montag, dem \
+         21. Dezember 2899, bis Mittwoch, den 23. Dezember 2899.\n\
+         Es fehlt 1 Werktag.\n\
+         Die Quelle nennt als frühesten Termin Dienstag, den 29. Dezember 2899; zulässig ist er.",
+    ),
+    (
+        "check Korridor 3 2899-12-30 2899-12-23",
+        "Frist gewahrt, kein Tag Luft: Übertragungstag Mittwoch, 30. Dezember 2899, Termin \
+         Mittwoch, 23. Dezember 2899.\n\
+         Die Spanne der zulässigen Termine reicht über den Kalender vom 1. Januar 1996 bis zum \
+         31. Dezember 2899 hinaus.\n\
+         Der Übertragungstag muss vom 3. Werktag vor bis zum 3. Werktag nach dem Termin liegen: \
+         von Freitag, dem 18. Dezember 2899, bis Mittwoch, den 30. Dezember 2899.",
+    ),
+    (
+        "check Korridor 2 1996-01-02 1996-01-08",
+        "Zu früh: Übertragungstag Dienstag, 2. Januar 1996, Termin Montag, 8. Januar 1996.\n\
+         Die Spanne der zulässigen Termine reicht über den Kalender vom 1. Januar 1996 bis zum \
+         31. Dezember 2899 hinaus.\n\
+         Der Übertragungstag muss vom 2. Werktag vor bis zum 2. Werktag nach dem Termin liegen: \
+         von Donnerstag, dem 4. Januar 1996, bis Mittwoch, den 10. Januar 1996.\n\
+         Der Zeitraum beginnt erst in 2 Werktagen.",
+    ),
+];
+
+/// The day is Berlin's: 23:30 UTC of 7 January is half past midnight of the 8th.
+const INSTANTS: &[(&str, &str)] = &[
+    (
+        "check-at TagVorDemLetztenWerktagVor 2026-01-07T23:30:00Z 2026-01-09T00:00:00+01:00 Strom",
+        "1 Tag zu spät: Übertragungstag Donnerstag, 8. Januar 2026, Termin Freitag, 9. Januar \
+         2026.\n\
+         Zulässig sind Termine ab Samstag, dem 10. Januar 2026.\n\
+         Spätester Übertragungstag ist der Tag vor dem letzten Werktag vor dem Termin: Mittwoch, \
+         der 7. Januar 2026.\n\
+         Es fehlt 1 Werktag.",
+    ),
+    (
+        "check-at EarliestWerktageAfter 1 2026-04-02T10:00:00+02:00 2026-04-08T06:00:00+02:00 Gas",
+        "Frist gewahrt, der Termin liegt 1 Tag nach dem frühesten: Übertragungstag Donnerstag, 2. \
+         April 2026, Termin Mittwoch, 8. April 2026.\n\
+         Zulässig sind Termine ab Dienstag, dem 7. April 2026.\n\
+         Frühester Termin ist der 1. Werktag nach dem Übertragungstag: Dienstag, der 7. April \
+         2026.",
+    ),
+];
+
+/// A month for the EEG, else the day before the last Werktag, and neither where nobody knows.
+const DEREGISTRATIONS: &[(&str, &str)] = &[
+    (
+        "abmeldung-fuer Z33 --eeg JA",
+        "Grund „Z33“, EEG-Marktlokation: Spätester Übertragungstag liegt 1 Monat vor dem \
+         Zuordnungsende.",
+    ),
+    (
+        "abmeldung-fuer Z33 --eeg nein",
+        "Grund „Z33“, keine EEG-Marktlokation: Spätester Übertragungstag ist der Tag vor dem \
+         letzten Werktag vor dem Zuordnungsende.",
+    ),
+    (
+        "abmeldung-fuer --eeg=unbekannt Z33",
+        "Grund „Z33“, unbekannt, ob EEG-Marktlokation: Für EEG-Marktlokationen und Tranchen von \
+         EEG-Marktlokationen gilt ein Monat statt des letzten Werktags (GPKE Teil 2 Kap. 2.5.2 Nr. \
+         1); ob die Marktlokation eine EEG-Marktlokation ist, ist nicht bekannt.",
+    ),
+    (
+        "abmeldung-fuer ZQ7 --eeg nein",
+        "Grund „ZQ7“: Die Frist ist die des Prüfschritts 120: „Liegt das Eingangsdatum der \
+         Abmeldung nach dem 5. WT des Monats, in dem die Zuordnungsermächtigung endet?“",
+    ),
+    (
+        "abmeldung Z33 2026-01-08 --eeg ja 2026-01-12",
+        "27 Tage zu spät: Übertragungstag Donnerstag, 8. Januar 2026, Zuordnungsende Montag, 12. \
+         Januar 2026, Grund „Z33“, EEG-Marktlokation.\n\
+         Zulässig ist ein Zuordnungsende ab Sonntag, dem 8. Februar 2026.\n\
+         Der späteste Übertragungstag liegt 1 Monat vor dem Zuordnungsende: Freitag, der 12. \
+         Dezember 2025.\n\
+         Es fehlen 13 Werktage.",
+    ),
+    (
+        "abmeldung Z33 2026-01-31 2026-02-28 --eeg ja",
+        "3 Tage zu spät: Übertragungstag Samstag, 31. Januar 2026, Zuordnungsende Samstag, 28. \
+         Februar 2026, Grund „Z33“, EEG-Marktlokation.\n\
+         Zulässig ist ein Zuordnungsende ab Sonntag, dem 1. März 2026.\n\
+         Der späteste Übertragungstag liegt 1 Monat vor dem Zuordnungsende: Mittwoch, der 28. \
+         Januar 2026.\n\
+         Es fehlen 2 Werktage.\n\
+         Die Quelle nennt als frühestes Zuordnungsende Samstag, den 28. Februar 2026; zulässig \
+         ist es nicht.",
+    ),
+    (
+        "abmeldung Z33 2026-01-31 2026-03-02 --eeg ja",
+        "Frist gewahrt, noch 2 Tage Luft: Übertragungstag Samstag, 31. Januar 2026, Zuordnungsende \
+         Montag, 2. März 2026, Grund „Z33“, EEG-Marktlokation.\n\
+         Zulässig ist ein Zuordnungsende ab Sonntag, dem 1. März 2026.\n\
+         Der späteste Übertragungstag liegt 1 Monat vor dem Zuordnungsende: Montag, der 2. Februar \
+         2026.",
+    ),
+    (
+        "abmeldung Z33 2026-01-08 2026-01-13 --eeg nein",
+        "Frist gewahrt, noch 3 Tage Luft: Übertragungstag Donnerstag, 8. Januar 2026, \
+         Zuordnungsende Dienstag, 13. Januar 2026, Grund „Z33“, keine EEG-Marktlokation.\n\
+         Zulässig ist ein Zuordnungsende ab Samstag, dem 10. Januar 2026.\n\
+         Spätester Übertragungstag ist der Tag vor dem letzten Werktag vor dem Zuordnungsende: \
+         Sonntag, der 11. Januar 2026.",
+    ),
+    (
+        "abmeldung Z33 2026-04-05 2026-04-07 --eeg nein",
+        "4 Tage zu spät: Übertragungstag Sonntag, 5. April 2026, Zuordnungsende Dienstag, 7. April \
+         2026, Grund „Z33“, keine EEG-Marktlokation.\n\
+         Zulässig ist ein Zuordnungsende ab Mittwoch, dem 8. April 2026.\n\
+         Spätester Übertragungstag ist der Tag vor dem letzten Werktag vor dem Zuordnungsende: \
+         Mittwoch, der 1. April 2026.\n\
+         Es fehlt 1 Werktag.",
+    ),
+    (
+        "--eeg unbekannt abmeldung Z33 2026-01-08 2026-01-12",
+        "Kein Urteil, also auch nicht „Frist gewahrt“: Übertragungstag Donnerstag, 8. Januar 2026, \
+         Zuordnungsende Montag, 12. Januar 2026, Grund „Z33“, unbekannt, ob EEG-Marktlokation.\n\
+         Für EEG-Marktlokationen und Tranchen von EEG-Marktlokationen gilt ein Monat statt des \
+         letzten Werktags (GPKE Teil 2 Kap. 2.5.2 Nr. 1); ob die Marktlokation eine \
+         EEG-Marktlokation ist, ist nicht bekannt.",
+    ),
+    (
+        "abmeldung ZQ7 2026-01-08 2026-01-12 --eeg ja",
+        "Kein Urteil, also auch nicht „Frist gewahrt“: Übertragungstag Donnerstag, 8. Januar \
+         2026, Zuordnungsende Montag, 12. Januar 2026, Grund „ZQ7“.\n\
+         Die Frist ist die des Prüfschritts 120: „Liegt das Eingangsdatum der Abmeldung nach dem \
+         5. WT des Monats, in dem die Zuordnungsermächtigung endet?“",
+    ),
+];
+
+#[test]
+fn each_shape_with_each_verdict() {
+    for table in [BEFORE, WINDOWS, AFTER, EARLIEST, LAST_WERKTAG, MONTHS, INSTANTS] {
+        assert_prints(table);
+    }
+}
+
+#[test]
+fn a_verdict_whose_span_leaves_the_calendar() {
+    assert_prints(EDGES);
+}
+
+#[test]
+fn spans() {
+    assert_prints(SPANS);
+}
+
+#[test]
+fn until_when() {
+    assert_prints(BIS_WANN);
+    for (line, expected) in NOT_UNTIL {
+        assert_eq!(printed(&words(line), 2), format!("{expected}\n"), "{line}");
+    }
+}
+
+#[test]
+fn deregistrations() {
+    assert_prints(DEREGISTRATIONS);
+}
