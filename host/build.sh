@@ -56,8 +56,8 @@ number_crates() {
     number_crate mako_fristen_c
 }
 
-# The sources with their folders. What changes while it is built is newer than the build: the time that counts is that of
-# the beginning.
+# The sources with their folders. What changes while it is built is newer than the build: the time that counts is that
+# of the beginning.
 find_sources() {
     local crate
     touch -- "$started"
@@ -97,15 +97,15 @@ show_crate() {
     shown=1
 }
 
-# Whether the call is there that this process was started by. One that was killed keeps its number until it is asked for.
+# Whether the call is there that this process was started by. One that was killed keeps its number for a while.
 caller_is_there() {
     local told
     IFS= read -r told <"/proc/$BASHPID/stat" || return 0
     [[ ${told##*) } == ?" $$ "* ]]
 }
 
-# Keeps what a tool prints, and shows at which crate rt is. Ends the tool, whose process group the first line names, where
-# this call was killed, and itself with the tool.
+# Keeps what a tool prints, and shows at which crate rt is. Ends the tool, whose process group the first line names,
+# where this call was killed, and itself with the tool.
 follow() {
     local group line part='' shown='' status=0
     trap '' HUP INT TERM

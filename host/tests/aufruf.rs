@@ -1,4 +1,4 @@
-//! `./fristen` and host/build.sh, which it reads where something has changed: in a small repository,
+//! `./fristen` and host/build.sh, which it reads where something has changed: in a small repository
 //! with tools that only note that they were called. The program that they build is bash.
 
 use std::fs::{self, File};
