@@ -1,5 +1,6 @@
 //! `./fristen` and host/build.sh, which it reads where something has changed: in a small repository
-//! with tools that only note that they were called. The program that they build is bash.
+//! with tools that only note that they were called. The program that they build is bash, and where it
+//! is installed a script.
 
 use std::fs::{self, File};
 use std::os::unix::fs::{symlink, PermissionsExt};
@@ -71,13 +72,10 @@ impl Tree {
             tree.write(source, "one");
         }
         tree.write("crates.txt", CRATES);
-        for (tool, text) in [("bin/rt", RT), ("bin/cargo", CARGO)] {
-            tree.write(tool, text);
-            let executable = fs::Permissions::from_mode(0o755);
-            fs::set_permissions(tree.at(tool), executable).expect("it is a tool");
-        }
+        tree.tool("bin/rt", RT);
+        tree.tool("bin/cargo", CARGO);
         let ours = Path::new(env!("CARGO_MANIFEST_DIR")).join("..");
-        for file in ["fristen", "host/build.sh"] {
+        for file in ["fristen", "install", "host/build.sh"] {
             fs::copy(ours.join(file), tree.at(file)).expect("it is copied");
         }
         tree
@@ -98,6 +96,12 @@ impl Tree {
         let file = self.at(file);
         fs::create_dir_all(file.parent().expect("a folder")).expect("it is made");
         fs::write(file, text).expect("it is written");
+    }
+
+    fn tool(&self, file: &str, text: &str) {
+        self.write(file, text);
+        let executable = fs::Permissions::from_mode(0o755);
+        fs::set_permissions(self.at(file), executable).expect("it is a tool");
     }
 
     fn command(&self, program: impl AsRef<std::ffi::OsStr>) -> Command {
@@ -298,9 +302,7 @@ fn a_tool_that_fails_is_heard() {
     let missing = "fristen: cargo fehlt; ohne das lässt sich das Programm nicht bauen.\n";
     assert_fails(&tree, &format!("{compiling}\n{missing}"));
     fs::remove_file(tree.at("fail-cargo")).expect("it is removed");
-    tree.write("bin/cargo", CARGO);
-    let executable = fs::Permissions::from_mode(0o755);
-    fs::set_permissions(tree.at("bin/cargo"), executable).expect("it is a tool");
+    tree.tool("bin/cargo", CARGO);
     assert_eq!(tree.built_by(&mut tree.call()), PROGRAM_ALONE);
 }
 
@@ -453,4 +455,109 @@ fn what_the_caller_has_closed_stays_closed() {
     call.args(["-c", "cat; exit 5"]).stdin(input);
     let output = call.output().expect("it runs");
     assert_eq!((output.status.code(), text(&output.stdout)), (Some(5), CRATES));
+}
+
+/// Writes the option that it is called with, and its own name.
+const PROGRAM: &str = r#"#!/bin/bash
+[ "$1" != "$(cat "$TREE/fails" 2>/dev/null)" ] || exit 70
+[ "$1" != "$(cat "$TREE/hangs" 2>/dev/null)" ] || { echo $$ >"$TREE/hanging"; exec sleep 60; }
+echo "new $1"
+"#;
+const INSTALLED: [(&str, u32, &str); 3] = [
+    ("bin/fristen", 0o755, PROGRAM),
+    ("share/man/man1/fristen.1", 0o644, "new --manpage\n"),
+    ("share/bash-completion/completions/fristen", 0o644, "new --bash-completion\n"),
+];
+
+/// Whose program is the script.
+fn installing(name: &str) -> Tree {
+    let tree = Tree::built(name);
+    fs::remove_file(tree.at("target/host/release/fristen")).expect("it is removed");
+    tree.tool("target/host/release/fristen", PROGRAM);
+    tree
+}
+
+/// Every file below a folder, without it.
+fn files(folder: &Path) -> Vec<String> {
+    let found = Command::new("find").arg(folder).args(["-type", "f", "-printf", "%P\\n"]).output();
+    let mut files: Vec<_> =
+        text(&found.expect("it runs").stdout).lines().map(str::to_owned).collect();
+    files.sort();
+    files
+}
+
+#[test]
+fn what_is_installed() {
+    let tree = installing("abgelegt");
+    let absolute = tree.at("frei").display().to_string();
+    let calls: [(&[&str], Option<&str>, &str); 3] = [
+        (&["eigenes"], None, "eigenes"),
+        (&[&absolute], Some(""), "frei"),
+        (&[], Some("paket"), "paket/usr/local"),
+    ];
+    for (arguments, below, folder) in calls {
+        let mut call = tree.command("./install");
+        if let Some(below) = below {
+            let below = if below.is_empty() { PathBuf::new() } else { tree.at(below) };
+            call.env("DESTDIR", below);
+        }
+        let output = call.args(arguments).output().expect("it runs");
+        assert_eq!((output.status.code(), text(&output.stderr)), (Some(0), ""), "{folder}");
+        let places = INSTALLED.map(|(file, ..)| tree.at(folder).join(file));
+        let told = places.each_ref().map(|place| format!("{}\n", place.display()));
+        assert_eq!(text(&output.stdout), told.concat());
+        for (place, (file, mode, content)) in places.iter().zip(INSTALLED) {
+            assert_eq!(fs::read_to_string(place).expect("it is there"), content, "{file}");
+            let given = fs::metadata(place).expect("it is there").permissions().mode();
+            assert_eq!(given & 0o777, mode, "{file}");
+        }
+        assert_eq!(files(&tree.at(folder)).len(), INSTALLED.len());
+    }
+}
+
+/// An older file stays whole, and nothing lies beside it.
+#[test]
+fn an_installation_that_does_not_end() {
+    for what in ["fails", "hangs"] {
+        let tree = installing(&format!("abgelegt-{what}"));
+        for (file, ..) in INSTALLED {
+            tree.write(&format!("usr/{file}"), "old");
+        }
+        tree.write(what, "--bash-completion");
+        let mut call = tree.command("./install");
+        call.arg("usr").stdout(Stdio::piped()).stderr(Stdio::piped());
+        let child = call.spawn().expect("it runs");
+        if what == "hangs" {
+            until("the program runs", || tree.at("hanging").exists());
+            send("TERM", &child);
+        }
+        let output = child.wait_with_output().expect("it ends");
+        let expected = if what == "hangs" { (None, Some(15)) } else { (Some(73), None) };
+        assert_eq!((output.status.code(), output.status.signal()), expected);
+        let found = INSTALLED.map(|(file, ..)| fs::read_to_string(tree.at("usr").join(file)));
+        let found = found.map(|it| it.expect("it is there"));
+        assert_eq!(found.each_ref().map(|it| it.as_str()), [PROGRAM, INSTALLED[1].2, "old"]);
+        assert_eq!(files(&tree.at("usr")).len(), INSTALLED.len());
+    }
+}
+
+#[test]
+fn what_cannot_be_installed() {
+    let tree = Tree::new("nicht-abgelegt");
+    tree.write("fail-rt", "");
+    let output = tree.command("./install").arg("usr").output().expect("it runs");
+    assert_eq!(output.status.code(), Some(69));
+    assert!(text(&output.stderr).ends_with("\nfristen: die Bibliothek ließ sich nicht bauen.\n"));
+    assert!(!tree.at("usr").exists());
+    for arguments in [&["a", "b"][..], &["--prefix=usr"]] {
+        let output = tree.command("./install").args(arguments).output().expect("it runs");
+        assert_eq!((output.status.code(), text(&output.stdout)), (Some(64), ""));
+        assert!(text(&output.stderr).starts_with("install: "));
+    }
+    let tree = installing("nicht-zu-schreiben");
+    tree.write("usr/share", "no folder");
+    let output = tree.command("./install").arg("usr").output().expect("it runs");
+    assert_eq!(output.status.code(), Some(73));
+    let told = text(&output.stderr).lines().last().unwrap_or_default();
+    assert!(told.ends_with("/usr/share/man/man1/fristen.1 lässt sich nicht schreiben."), "{told}");
 }
