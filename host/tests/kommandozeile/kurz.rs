@@ -231,7 +231,8 @@ fn yes_or_no_as_a_status() {
     }
 }
 
-/// The worst line: one that cannot be read, then a refusal, then a no. What is no yes or no is answered.
+/// The worst line: one that cannot be read, then a refusal, then a no. What is neither yes nor no
+/// is answered.
 #[test]
 fn the_status_of_a_file() {
     let (yes, no) = ("span Korridor 2 2026-04-07", "span WindowWerktageBefore 1 1 2026-01-10");

@@ -1,5 +1,6 @@
-//! docs/JSON.md: each command prints the keys that it lists, answered and refused, with values of the
-//! types that it gives for them; what may be null is null somewhere; and the examples print what it says.
+//! docs/JSON.md: each command prints the keys that it lists, answered and refused, with values of
+//! the types that it gives for them; what may be null is null somewhere; and the examples print
+//! what it says.
 
 use super::json::object;
 use super::leser::Value;

@@ -15,7 +15,7 @@ pub struct Reply<'a> {
     pub status: bool,
     /// The arguments, as given.
     pub given: &'a [OsString],
-    /// Where the question stands in a file. The reply is then one line, which begins with the number.
+    /// Where the question stands in a file. The reply is then one line that begins with the number.
     pub line: Option<u64>,
 }
 

@@ -41,8 +41,8 @@ pub fn shaped(inquiry: &Inquiry, answer: Option<&Answer>) -> Result<Members, Err
     Ok([due(inquiry, answer)?, vec![("corner", corner.map(Corner::name).into())]].concat())
 }
 
-/// Whether a window has moved the due instant, from where, and the window. Without a change day it is
-/// there only if it has.
+/// Whether a window has moved the due instant, from where, and the window. Without a change day it
+/// is there only if it has.
 pub fn contrl(inquiry: &Inquiry, answer: Option<&Answer>) -> Result<Members, Error> {
     let question = &inquiry.question;
     let given: Option<Instant> = answer.map(|given| given.read(inquiry.call)).transpose()?;
