@@ -1,7 +1,6 @@
 //! What `check`, `check-at`, `span`, `bis-wann` and `abmeldung` say. The days are counted by a
 //! calendar of 2026 with the holidays of document 01: 6 January, 3 and 6 April, 1 May.
 
-use super::zeilen::{fed, lines};
 use super::{assert_prints, printed, words};
 
 /// Case E first; with Werktage that are missing or none, and each number that has its own words.
@@ -1011,51 +1010,4 @@ fn until_when() {
 #[test]
 fn deregistrations() {
     assert_prints(DEREGISTRATIONS);
-}
-
-/// The first and the last days of the calendar, for each shape with few Werktage or months.
-fn at_the_edges() -> String {
-    let days = |range: std::ops::RangeInclusive<u8>, month: &'static str| {
-        range.map(move |day| format!("{month}-{day:02}")).collect::<Vec<_>>()
-    };
-    let edges = [days(1..=9, "1996-01"), days(22..=31, "2899-12")];
-    let mut asked = String::new();
-    for n in 0..4 {
-        let shapes = [
-            format!("LatestWerktageBefore {n}"),
-            format!("WindowWerktageBefore {n} 1"),
-            format!("LatestWerktageAfter {n}"),
-            format!("EarliestWerktageAfter {n}"),
-            format!("Korridor {n}"),
-            "TagVorDemLetztenWerktagVor".to_owned(),
-            format!("LatestMonateBefore {n}"),
-            format!("LatestMonateUndWerktageBefore {n} {n}"),
-        ];
-        for (shape, days) in shapes.iter().flat_map(|shape| edges.iter().map(move |d| (shape, d))) {
-            for day in days {
-                asked += &format!("span {shape} {day}\n");
-                let checks = days.iter().map(|anchor| format!("check {shape} {day} {anchor}\n"));
-                asked.extend(checks);
-            }
-        }
-    }
-    asked
-}
-
-/// What a sentence and JSON ask besides refuses nothing that the call answers.
-#[test]
-fn each_form_refuses_what_the_call_refuses() {
-    let asked = at_the_edges();
-    let answers = |form: &[&str]| lines(&fed("fragen", form, asked.as_bytes()));
-    let (bytes, sentences, json) = (answers(&["--bytes"]), answers(&[]), answers(&["--json"]));
-    assert_eq!(bytes.len(), asked.lines().count());
-    let rows = bytes.iter().zip(sentences).zip(json).zip(asked.lines());
-    let mut refused = 0;
-    for (((bytes, sentence), json), line) in rows {
-        let answered = bytes.contains(": 00");
-        assert_eq!(!sentence.contains(": Abgelehnt ("), answered, "{line}");
-        assert_eq!(json.contains("\"refusal\":null"), answered, "{line}");
-        refused += usize::from(!answered);
-    }
-    assert!(refused > 500 && bytes.len() - refused > 3_000, "{refused} of {}", bytes.len());
 }
