@@ -13,7 +13,7 @@ pub enum Form {
 }
 
 /// All of them.
-pub const OPTIONS: [&str; 9] = [
+pub const OPTIONS: [&str; 11] = [
     "--json",
     "--kurz",
     "--bytes",
@@ -23,7 +23,17 @@ pub const OPTIONS: [&str; 9] = [
     "--roh",
     "--help",
     "--version",
+    "--manpage",
+    "--bash-completion",
 ];
+
+/// What the program says of itself.
+#[derive(Clone, Copy, Debug, PartialEq, Eq)]
+pub enum About {
+    Version,
+    Manpage,
+    Completion,
+}
 
 /// The arguments, options apart from the others.
 #[derive(Debug, Default)]
@@ -32,7 +42,7 @@ pub struct Arguments {
     /// Records in and out, instead of any form.
     pub raw: bool,
     pub help: bool,
-    pub version: bool,
+    pub about: Option<About>,
     /// Whether a verdict is to be an exit status too.
     pub status: bool,
     pub eeg: Option<OsString>,
@@ -54,7 +64,9 @@ impl Arguments {
                     left.by_ref().for_each(|word| read.word(word));
                 }
                 Some(("-h" | "--help", None)) => read.help = true,
-                Some(("--version", None)) => read.version = true,
+                Some(("--version", None)) => read.about = Some(About::Version),
+                Some(("--manpage", None)) => read.about = Some(About::Manpage),
+                Some(("--bash-completion", None)) => read.about = Some(About::Completion),
                 Some(("--json", None)) => read.form(Form::Json)?,
                 Some(("--bytes", None)) => read.form(Form::Bytes)?,
                 Some(("--kurz", None)) => read.form(Form::Short)?,

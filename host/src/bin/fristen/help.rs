@@ -12,7 +12,7 @@ pub const HEAD: &str = "Werktage und Fristen der Marktkommunikation";
 
 pub const CALLED: &str = "BEFEHL ANGABEN [--json | --kurz | --bytes] [--status]";
 
-const FOOT: &str = "\
+pub const FOOT: &str = "\
 Jeder Befehl auch unter dem Namen der Quelle und dem des Host-Aufrufs, mit Binde- oder
 Unterstrichen, in beliebiger Groß- und Kleinschreibung: contrl-due-at, mf_contrl_due_at ...
 
@@ -36,9 +36,13 @@ Optionen, an beliebiger Stelle
   --status    Urteile und Ja oder Nein auch als Status: 0 ja oder gewahrt, 1 nein, zu spät
               oder zu früh, 3 weder noch oder kein Urteil
   --roh       nur bei fragen: Datensätze von 32 Bytes statt Zeilen
+  --eeg       nur bei abmeldung-fuer und abmeldung: ja, nein oder unbekannt
   --stichtag  nur bei contrl: der Tag einer verlegten Formatumstellung
   --help, -h  Hilfe, auch zu einem Befehl
   --version   die Version des Programms
+  --manpage   die Handbuchseite für man
+  --bash-completion
+              die Vervollständigung für bash
   --          danach folgen keine Optionen mehr
 
 Ende mit 0: Antwort. 2: abgelehnt. 64: falscher Aufruf, auch in einer Zeile von fragen
@@ -88,15 +92,11 @@ pub fn of(command: &Command) -> String {
         false => format!("Auch: {}\n", others.join(", ")),
         true => String::new(),
     };
-    let reasons = match command.call() {
-        Some(Call::IsWerktag) => format!("\n{NUMBERS}\n{}\n{REFUSED}", reasons()),
-        _ => String::new(),
-    };
     let heading = if command.examples.len() == 1 { "Beispiel" } else { "Beispiele" };
     let examples: Vec<String> = command.examples.iter().map(example).collect();
-    let (shapes, examples) = (shapes(command), examples.join("\n"));
+    let (shapes, numbers, examples) = (shapes(command), numbers(command), examples.join("\n"));
     let meaning = command.meaning.replace(IN_TEXTS, called);
-    format!("Aufruf: {called} {usage}\n{also}\n{meaning}\n{shapes}{reasons}\n{heading}\n{examples}")
+    format!("Aufruf: {called} {usage}\n{also}\n{meaning}\n{shapes}{numbers}\n{heading}\n{examples}")
 }
 
 fn example(Example { call, output, file }: &Example) -> String {
@@ -173,6 +173,14 @@ fn call(command: &Command, shape: &str) -> String {
     let value = |parameter| EXAMPLE_DAYS.iter().find(|(known, _)| *known == parameter);
     let values = command.operands.iter().filter_map(|(operand, _)| Some(value(*operand)?.1));
     [command.name, shape].into_iter().chain(values).collect::<Vec<_>>().join(" ")
+}
+
+/// The numbers of the day test, in its help.
+pub fn numbers(command: &Command) -> String {
+    match command.call() {
+        Some(Call::IsWerktag) => format!("\n{NUMBERS}\n{}\n{REFUSED}", reasons()),
+        _ => String::new(),
+    }
 }
 
 fn reasons() -> String {

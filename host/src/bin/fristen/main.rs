@@ -5,6 +5,7 @@ mod arguments;
 mod bis_wann;
 mod command;
 mod commands;
+mod completion;
 mod corner;
 mod culprit;
 mod deutsch;
@@ -20,6 +21,7 @@ mod kalenderblatt;
 mod kinds;
 mod labels;
 mod lines;
+mod manpage;
 mod names;
 mod operands;
 mod outcome;
@@ -39,7 +41,7 @@ mod umstellung;
 mod usage;
 mod words;
 
-use arguments::{is_option, Arguments, Form};
+use arguments::{is_option, About, Arguments, Form};
 use bis_wann::BisWann;
 use command::{Command, Task};
 use input::Input;
@@ -71,8 +73,12 @@ fn run(arguments: Vec<OsString>) -> Result<Outcome, Usage> {
     let arguments = Arguments::read(arguments).map_err(of_likely)?;
     let mut words = arguments.words.iter();
     let name = words.next();
-    if arguments.version {
-        return Ok(Outcome::answer(program::version()));
+    if let Some(about) = arguments.about {
+        return Ok(Outcome::answer(match about {
+            About::Version => program::version(),
+            About::Manpage => manpage::page(),
+            About::Completion => completion::script(),
+        }));
     }
     if name.is_some_and(|name| name.eq_ignore_ascii_case("help") || name == "hilfe") {
         let about = words.next();
