@@ -52,7 +52,7 @@ number_crates() {
     below=() number=()
     while IFS= read -r line; do
         [[ ! ${line%%#*} =~ ^\ *([a-z0-9_]+)[^:]*:(.*) ]] || below[${BASH_REMATCH[1]}]=${BASH_REMATCH[2]}
-    done <"$root/crates.txt"
+    done 2>/dev/null <"$root/crates.txt"
     number_crate mako_fristen_c
 }
 
@@ -182,10 +182,10 @@ build_program() {
     echo "$library" >"$built.new" && put "$built" || unavailable "das Programm ließ sich nicht ablegen."
 }
 
-# What ./fristen looks at the next time. The folder of a crate is newer where all its sources were removed.
+# What ./fristen looks at the next time, with the folders that are newer where one of these was removed.
 remember() {
-    local looked=("${host[@]}") folders=("${!number[@]}")
-    [[ -n $library ]] || looked+=("$root/crates" "${folders[@]/#/"$root/crates/"}" "${crates[@]}")
+    local looked=("$root/host" "${host[@]}") folders=("${!number[@]}")
+    [[ -n $library ]] || looked+=("$root/." "$root/crates" "${folders[@]/#/"$root/crates/"}" "${crates[@]}")
     { echo "$library" && printf '%s\n' "${looked[@]#"$root/"}"; } >"$seen.new" && put "$seen"
 }
 

@@ -3,6 +3,7 @@
 //! is installed a script.
 
 use std::fs::{self, File};
+use std::io::{BufRead, BufReader};
 use std::os::unix::fs::{symlink, PermissionsExt};
 use std::os::unix::process::ExitStatusExt;
 use std::path::{Path, PathBuf};
@@ -237,6 +238,24 @@ fn a_removed_source_is_noticed() {
     assert_eq!(tree.built_by(&mut tree.call()), "");
 }
 
+/// Without them nothing can be built, which the tools then say.
+#[test]
+fn a_list_that_is_missing_is_noticed() {
+    for (list, expected) in [("crates.txt", "rt lib\n"), ("host/build.rs", "cargo -\n")] {
+        let tree = Tree::built(&format!("ohne-{}", list.replace('/', "-")));
+        for tool in ["rt", "cargo"] {
+            tree.write(&format!("fail-{tool}"), "");
+        }
+        later();
+        fs::remove_file(tree.at(list)).expect("it is removed");
+        fs::remove_file(tree.at("calls")).expect("it is removed");
+        for calls in [expected.to_owned(), expected.repeat(2)] {
+            let output = tree.call().output().expect("it runs");
+            assert_eq!((output.status.code(), tree.calls()), (Some(69), calls), "{list}");
+        }
+    }
+}
+
 #[test]
 fn what_was_built_and_is_missing() {
     let tree = Tree::built("fehlt");
@@ -385,18 +404,17 @@ fn what_changes_during_a_build_is_built_next() {
 #[test]
 fn two_calls_at_once_build_once() {
     let tree = Tree::new("zugleich");
-    tree.write("bin/rt", &RT.replace("said by rt\"", "said by rt\"; sleep 2"));
-    let run =
-        || tree.call().stdout(Stdio::piped()).stderr(Stdio::piped()).spawn().expect("it runs");
-    let first = run();
-    until("rt runs", || !tree.calls().is_empty());
-    let second = run();
-    let (first, second) = (first.wait_with_output(), second.wait_with_output());
-    assert_eq!(text(&first.expect("it ends").stderr), FIRST);
-    let second = second.expect("it ends");
-    let waits = "fristen: wartet, bis ein anderer Aufruf fertig gebaut hat ...\n";
-    assert_eq!((text(&second.stderr), text(&second.stdout)), (waits, "./fristen\n"));
-    assert_eq!(tree.calls(), BOTH);
+    let (first, _) = hanging(&tree, "rt");
+    let mut second = tree.call();
+    let second = second.stdout(Stdio::piped()).stderr(Stdio::piped());
+    let mut second = second.spawn().expect("it runs");
+    let mut told = BufReader::new(second.stderr.take().expect("an output")).lines();
+    let waits = "fristen: wartet, bis ein anderer Aufruf fertig gebaut hat ...";
+    assert_eq!(told.next().and_then(Result::ok).as_deref(), Some(waits));
+    fs::remove_file(tree.at("hang-rt")).expect("it is removed");
+    assert_eq!(text(&first.wait_with_output().expect("it ends").stderr), FIRST);
+    assert_eq!(text(&second.wait_with_output().expect("it ends").stdout), "./fristen\n");
+    assert_eq!((told.count(), tree.calls().as_str()), (0, BOTH));
 }
 
 /// The program is called by the name that was called.
