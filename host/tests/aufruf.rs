@@ -391,14 +391,33 @@ fn an_interrupted_build_over_an_older_one() {
 
 #[test]
 fn what_changes_during_a_build_is_built_next() {
-    let tree = Tree::new("waehrend");
-    let (child, _) = hanging(&tree, "cargo");
-    later();
-    tree.write("crates/unten/src/lib.rt", "two");
-    fs::remove_file(tree.at("hang-cargo")).expect("it is removed");
-    assert_eq!(child.wait_with_output().expect("it ends").status.code(), Some(0));
+    let (unten, host) = ("crates/unten/src/lib.rt", "host/src/lib.rs");
+    let rows = [("rt", unten, BOTH), ("cargo", unten, BOTH), ("cargo", host, PROGRAM_ALONE)];
+    for (place, (tool, source, expected)) in rows.into_iter().enumerate() {
+        let tree = Tree::new(&format!("waehrend-{place}"));
+        let (child, _) = hanging(&tree, tool);
+        later();
+        tree.write(source, "two");
+        later();
+        fs::remove_file(tree.at(&format!("hang-{tool}"))).expect("it is removed");
+        assert_eq!(child.wait_with_output().expect("it ends").status.code(), Some(0));
+        assert_eq!(tree.built_by(&mut tree.call()), expected, "{tool}, {source}");
+        assert_eq!(tree.built_by(&mut tree.call()), "", "{tool}, {source}");
+    }
+}
+
+/// As a compiler's cache does. It does not keep the lock.
+#[test]
+fn a_tool_leaves_something_running() {
+    let tree = Tree::new("im-hintergrund");
+    let left = "said by cargo\"; sleep 4 <&- >/dev/null 2>&1 & echo \"";
+    tree.tool("bin/cargo", &CARGO.replace("said by cargo", left));
     assert_eq!(tree.built_by(&mut tree.call()), BOTH);
-    assert_eq!(tree.built_by(&mut tree.call()), "");
+    later();
+    tree.write("host/build.rs", "two");
+    let output = tree.call().output().expect("it runs");
+    let told = "fristen: übersetzt das Programm, einmalig, einige Sekunden ...\n";
+    assert_eq!((text(&output.stderr), output.status.code()), (told, Some(0)));
 }
 
 #[test]
