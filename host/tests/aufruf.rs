@@ -77,7 +77,7 @@ impl Tree {
         tree.tool("bin/cargo", CARGO);
         let ours = Path::new(env!("CARGO_MANIFEST_DIR")).join("..");
         for file in ["fristen", "install", "host/build.sh"] {
-            fs::copy(ours.join(file), tree.at(file)).expect("it is copied");
+            tree.executable(&ours.join(file), file);
         }
         tree
     }
@@ -100,9 +100,16 @@ impl Tree {
     }
 
     fn tool(&self, file: &str, text: &str) {
-        self.write(file, text);
-        let executable = fs::Permissions::from_mode(0o755);
-        fs::set_permissions(self.at(file), executable).expect("it is a tool");
+        self.write("tool", text);
+        self.executable(&self.at("tool"), file);
+    }
+
+    /// By a process of its own: none that another test starts meanwhile has the file open, which then
+    /// could not be run.
+    fn executable(&self, from: &Path, file: &str) {
+        let mut install = Command::new("install");
+        let status = install.args(["-D", "-m", "755"]).arg(from).arg(self.at(file)).status();
+        assert!(status.expect("it runs").success(), "{file}");
     }
 
     fn command(&self, program: impl AsRef<std::ffi::OsStr>) -> Command {
