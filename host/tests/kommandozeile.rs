@@ -13,6 +13,8 @@ mod kurz;
 mod leser;
 #[path = "kommandozeile/portfolio.rs"]
 mod portfolio;
+#[path = "kommandozeile/raender.rs"]
+mod raender;
 #[path = "kommandozeile/saetze.rs"]
 mod saetze;
 #[path = "kommandozeile/seite.rs"]

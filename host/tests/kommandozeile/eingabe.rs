@@ -158,7 +158,7 @@ fn what_may_be_a_slip_has_a_hint() {
     let zq7 = "ist nicht die Deaktivierung; das ist nur ZQ7, genau so geschrieben.";
     for line in ["abmeldung-fuer zq7 --eeg ja", "abmeldung Zq7 --eeg nein 2026-01-08 2026-01-12"] {
         let (answer, hint) = answered(line);
-        assert!(answer.starts_with("Grund „") && hint.ends_with(&format!("“ {zq7}\n")), "{hint}");
+        assert!(answer.contains("Grund „") && hint.ends_with(&format!("“ {zq7}\n")), "{hint}");
     }
     let empty = run(&["abmeldung-fuer", "", "--eeg", "ja"]);
     assert_eq!(String::from_utf8_lossy(&empty.stderr), "fristen: Hinweis: der GRUND ist leer.\n");
@@ -255,7 +255,7 @@ const REFUSED: &[(&str, &str)] = &[
     ),
     (
         "next-werktag 2899-12-31",
-        "(8): Der erste Werktag ab Sonntag, dem 31. Dezember 2899, liegt hinter dem 31. Dezember 2899, \
+        "(8): Der erste Werktag ab Donnerstag, dem 31. Dezember 2899, liegt hinter dem 31. Dezember 2899, \
          dem letzten Tag des Kalenders.",
     ),
     (
@@ -270,7 +270,7 @@ const REFUSED: &[(&str, &str)] = &[
     ),
     (
         "add-months 2899-12-31 1",
-        "(8): Der Tag 1 Monat nach Sonntag, dem 31. Dezember 2899, liegt hinter dem 31. Dezember 2899, \
+        "(8): Der Tag 1 Monat nach Donnerstag, dem 31. Dezember 2899, liegt hinter dem 31. Dezember 2899, \
          dem letzten Tag des Kalenders.",
     ),
     (
@@ -298,13 +298,13 @@ const REFUSED: &[(&str, &str)] = &[
     ),
     (
         "bis-wann WerktageVorher 1 1996-01-01",
-        "(8): Ein Übertragungstag für Montag, den 1. Januar 1996, liegt nicht im Kalender vom 1. Januar \
-         1996 bis zum 31. Dezember 2899.",
+        "(8): Der späteste Übertragungstag für den Termin am Montag, dem 1. Januar 1996, liegt vor dem \
+         1. Januar 1996, dem ersten Tag des Kalenders.",
     ),
     (
         "bis-wann WerktageNachher 1 2899-12-31",
-        "(8): Ein Übertragungstag für Sonntag, den 31. Dezember 2899, liegt nicht im Kalender vom 1. \
-         Januar 1996 bis zum 31. Dezember 2899.",
+        "(8): Der späteste Übertragungstag für den Termin am Donnerstag, dem 31. Dezember 2899, liegt \
+         hinter dem 31. Dezember 2899, dem letzten Tag des Kalenders.",
     ),
     (
         "span LatestMonateBefore 4294967295 2026-01-01",

@@ -20,6 +20,7 @@ pub const MIXED: &[&str] = &[
     "contrl Regelfall 2026-03-31T12:00:00+02:00",
     "contrl-due-at GasAlocat @1774951199.7",
     "mf_contrl_due_at stromutilmdoderorders 1995-01-01T00:00:00Z",
+    "contrl GasAlocat 2026-10-25T02:30",
     "frist WerktagAt 2 06:00:30 2026-04-02T10:00:00+02:00",
     "frist WerktagAt 2 24:00 2026-04-02T10:00:00+02:00",
     "frist WerktagAt 2 00:00:60 2026-04-02T10:00:00+02:00",

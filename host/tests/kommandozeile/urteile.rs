@@ -209,7 +209,7 @@ const AFTER: &[(&str, &str)] = &[
          Zulässig sind Termine ab Dienstag, dem 7. April 2026.\n\
          Spätester Übertragungstag ist der 3. Werktag nach dem Termin: Donnerstag, der 9. April \
          2026.\n\
-         Zu spät ist es um 1 Werktag.\n\
+         Die Nachricht kommt um 1 Werktag zu spät.\n\
          Die Quelle nennt als frühesten Termin Donnerstag, den 2. April 2026; zulässig ist er \
          nicht.",
     ),
@@ -220,7 +220,7 @@ const AFTER: &[(&str, &str)] = &[
          Zulässig sind Termine ab Donnerstag, dem 9. April 2026.\n\
          Spätester Übertragungstag ist der 3. Werktag nach dem Termin: Donnerstag, der 9. April \
          2026.\n\
-         Zu spät ist es um 3 Werktage.\n\
+         Die Nachricht kommt um 3 Werktage zu spät.\n\
          Die Quelle nennt als frühesten Termin Donnerstag, den 2. April 2026; zulässig ist er \
          nicht.",
     ),
@@ -286,7 +286,7 @@ const AFTER: &[(&str, &str)] = &[
          Zulässig sind Termine von Montag, dem 27. April 2026, bis Montag, den 4. Mai 2026.\n\
          Der Übertragungstag muss vom 2. Werktag vor bis zum 2. Werktag nach dem Termin liegen: \
          von Mittwoch, dem 22. April 2026, bis Dienstag, den 28. April 2026.\n\
-         Zu spät ist es um 1 Werktag.\n\
+         Die Nachricht kommt um 1 Werktag zu spät.\n\
          Die Quelle nennt als frühesten Termin Mittwoch, den 22. April 2026; zulässig ist er \
          nicht.",
     ),
@@ -296,7 +296,7 @@ const AFTER: &[(&str, &str)] = &[
          Zulässig sind Termine von Mittwoch, dem 29. April 2026, bis Dienstag, den 5. Mai 2026.\n\
          Der Übertragungstag muss vom 2. Werktag vor bis zum 2. Werktag nach dem Termin liegen: \
          von Mittwoch, dem 22. April 2026, bis Dienstag, den 28. April 2026.\n\
-         Zu spät ist es um 2 Werktage.\n\
+         Die Nachricht kommt um 2 Werktage zu spät.\n\
          Die Quelle nennt als frühesten Termin Mittwoch, den 22. April 2026; zulässig ist er \
          nicht.",
     ),

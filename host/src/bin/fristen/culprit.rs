@@ -186,7 +186,7 @@ fn leaves(inquiry: &Inquiry) -> Option<String> {
     let behind = format!("liegt hinter dem {LAST}, dem letzten Tag des Kalenders.");
     let before = format!("liegt vor dem {FIRST}, dem ersten Tag des Kalenders.");
     Some(match inquiry.call {
-        Call::NextWerktag => format!("Der erste Werktag ab {} {behind}", dem(date)),
+        Call::NextWerktag => format!("Der erste Werktag ab {}, {behind}", dem(date)),
         Call::AddWerktage => format!("Der {n}. Werktag nach {}, {behind}", dem(date)),
         Call::SubWerktage => format!("Der {n}. Werktag vor {}, {before}", dem(date)),
         Call::AddMonths => format!("Der Tag {} nach {}, {behind}", monate(n), dem(date)),

@@ -16,6 +16,9 @@ use crate::deutsch::zweimal;
 use crate::inquiry::Inquiry;
 use mako_fristen_host::{Answer, BerlinTime, Call, Error, Parameter};
 
+/// The clock time behind it is hard to follow by ear.
+const ENDET: &str = "endet in Berlin eine Nanosekunde vor Mitternacht,";
+
 /// One or more sentences, a line each where they are long.
 pub fn of(inquiry: &Inquiry, answer: &Answer) -> Result<String, Error> {
     let lines = [vec![said(inquiry, answer)?], twice(inquiry)?].concat();
@@ -42,8 +45,8 @@ fn said(inquiry: &Inquiry, answer: &Answer) -> Result<String, Error> {
         Call::AddMonths => Ok(kalender::months(inquiry, answer.read(call)?, "nach")),
         Call::SubtractMonths => Ok(kalender::months(inquiry, answer.read(call)?, "vor")),
         Call::BerlinAt => berlin::at(answer.read(call)?),
-        Call::BerlinMidnight => berlin::edge(inquiry, answer.read(call)?, "beginnt"),
-        Call::EndOfDayBerlin => berlin::edge(inquiry, answer.read(call)?, "endet"),
+        Call::BerlinMidnight => berlin::edge(inquiry, answer.read(call)?, "beginnt in Berlin"),
+        Call::EndOfDayBerlin => berlin::edge(inquiry, answer.read(call)?, ENDET),
         Call::TagesbeginnUtc => berlin::beginning(inquiry, answer.read(call)?),
         Call::BerlinDate => berlin::day(inquiry, answer.read(call)?),
         Call::TagDesBeginns => berlin::day_begun(inquiry, answer.read(call)?),

@@ -43,8 +43,9 @@ so wird abgelehnt (6).",
         meaning: "Die letzte Nanosekunde des Tages in Berlin.",
         examples: &[Example::new(
             "end-of-day-berlin 2026-03-29",
-            "Sonntag, der 29. März 2026, endet in Berlin um 23:59:59,999999999 Uhr; das ist \
-             Sonntag, der 29. März 2026, 21:59:59,999999999 Uhr Weltzeit (UTC).",
+            "Sonntag, der 29. März 2026, endet in Berlin eine Nanosekunde vor Mitternacht, um \
+             23:59:59,999999999 Uhr; das ist Sonntag, der 29. März 2026, 21:59:59,999999999 Uhr \
+             Weltzeit (UTC).",
         )],
     },
     Command {

@@ -11,11 +11,11 @@ pub fn at(instant: Instant) -> Result<String, Error> {
     Ok(format!("{} in Berlin ist {utc}.{twice}", with_clock(time, der)))
 }
 
-/// Where a day in Berlin begins or ends, as `verb` has it.
+/// Where a day in Berlin begins or ends, as in 'der Tag … um'.
 pub fn edge(inquiry: &Inquiry, instant: Instant, verb: &str) -> Result<String, Error> {
     let (date, utc) = (der(inquiry.question.date), utc(instant));
     let uhr = uhr(BerlinTime::of(instant)?);
-    Ok(format!("{date}, {verb} in Berlin um {uhr}; das ist {utc}."))
+    Ok(format!("{date}, {verb} um {uhr}; das ist {utc}."))
 }
 
 pub fn beginning(inquiry: &Inquiry, instant: Instant) -> Result<String, Error> {

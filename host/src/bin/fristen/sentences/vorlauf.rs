@@ -93,7 +93,7 @@ fn missing(shape: VorlaufShape, days: u32, n: u32) -> String {
             format!("Es fehlt kein Werktag; zu früh liegt der Termin um {none}.")
         }
         0 => format!("Es fehlt kein Werktag; zu spät ist es um {none}."),
-        _ if after_the_anchor => format!("Zu spät ist es um {}.", werktage(n)),
+        _ if after_the_anchor => format!("Die Nachricht kommt um {} zu spät.", werktage(n)),
         1 => "Es fehlt 1 Werktag.".to_owned(),
         _ => format!("Es fehlen {}.", werktage(n)),
     }
