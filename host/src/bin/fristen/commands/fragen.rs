@@ -18,7 +18,11 @@ werden übergangen. Ohne DATEI oder mit - wird die Standardeingabe gelesen.
 Je Frage eine Zeile mit der Antwort, auch wenn die Frage abgelehnt wird; davor steht die
 Nummer der Zeile, in der gefragt wurde, bei --json als line. Eine Zeile, die sich nicht
 lesen lässt, wird mit ihrer Nummer gemeldet, und die anderen werden trotzdem beantwortet.
-Ende mit 64, wenn es eine solche Zeile gab, sonst mit 2, wenn eine Frage abgelehnt wurde.
+Ende mit 64, wenn es eine solche Zeile gab, sonst mit 2, wenn eine Frage abgelehnt wurde,
+und mit --status sonst mit 1, wenn eine Frist nicht gewahrt oder kein Tag zulässig ist.
+
+Mit --kurz bleibt hinter der Nummer einer abgelehnten Frage der Platz leer; warum sie
+abgelehnt wurde, steht in der Fehlerausgabe.
 
 Mit --roh sind Fragen und Antworten Datensätze von je 32 Bytes, wie mf_questions sie hat,
 aber beliebig viele. Ist ihre Länge kein Vielfaches von 32, so wird abgelehnt (9) und
