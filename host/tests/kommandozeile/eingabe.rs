@@ -108,9 +108,9 @@ fn a_time_that_berlins_clock_does_not_show() {
     let output = super::zeilen::fed("fragen", &[], file.as_bytes());
     assert_eq!(output.status.code(), Some(2));
     let lines = super::zeilen::lines(&output);
-    assert_eq!(lines[0], format!("1: Abgelehnt (6): {absent}"));
+    assert_eq!(lines[0], format!("Zeile 1: Abgelehnt (6): {absent}"));
     assert!(
-        lines[1].starts_with("2: Eingang am Sonntag, dem 29. März 2026, um 03:30 Uhr"),
+        lines[1].starts_with("Zeile 2: Eingang am Sonntag, dem 29. März 2026, um 03:30 Uhr"),
         "{lines:?}"
     );
 }
