@@ -30,7 +30,7 @@ LIB, EXPORTS = "crates/mako_fristen/src/lib.rt", "crates/mako_fristen_c/src/lib.
 DEEP = "crates/mako_fristen_c/src/unter/tief.rt"
 SPEC = "crates/andere/specs/Zwei.antt"
 PAPER = "docs/host-calls.md"
-HOST = "host/src/ffi.rs"
+HOST, HEADER = sources.HOST, sources.HEADER
 README, LIESMICH = "README.md", "LIESMICH.md"
 PROGRAM = "crates/fragen/out/fragen"
 STORED = "crates/fragen/stdout"
@@ -47,6 +47,10 @@ ZWEI = """(
     ensures { (result, counts.new, answer.new)
         ≡ portfolio from.now counts.old
         answer.old }
+"""
+EINS_IN_C = "uint8_t mf_eins(uint32_t n, uint8_t *answer, size_t answer_len);\n"
+ZWEI_IN_C = """uint8_t mf_zwei(const uint32_t *from, size_t from_len, uint32_t *counts, size_t counts_len,
+                uint8_t *answer, size_t answer_len);
 """
 GOOD = {
     "crates.txt": """# The crates.
@@ -95,7 +99,8 @@ pub extern "C" fn mf_zwei{ZWEI}{{
     "crates/andere/proofs/eins/Answers.antt": "x\n",
     "crates/andere/must-fail/x.edit": "src/lib.rt\n",
     PAPER: "Calls\n\n| call | fills |\n|---|---|\n| `mf_eins`, `mf_zwei` | kind |\n\n| `mf_drei` |\n",
-    HOST: "//! mf_drei()\ncalls! {\n    mf_eins(n: u32);\n    mf_zwei(&from, &counts);\n}\n",
+    HOST: "//! mf_drei()\ncalls! {\n    mf_eins(n: u32);\n    mf_zwei(&from: u32, *counts: u32);\n}\n",
+    HEADER: "/* uint8_t mf_drei(void); */\n" + EINS_IN_C + ZWEI_IN_C,
     README: """# Example
 
     $ ./fristen eins
@@ -234,6 +239,16 @@ BAD = [
     ("exports", "a name of its own", EXPORTS, put("(no_mangle)", '(export_name = "mf_eins")'), "lib.rt:7: no export"),
     ("exports", "one that the paper lacks", EXPORTS, added(EXPORT), "docs/host-calls.md: mf_neu is not both"),
     ("exports", "one that the host lacks", HOST, without("mf_eins(n: u32);"), "ffi.rs: mf_eins is not"),
+    ("exports", "one that the header lacks", HEADER, put("mf_eins(", "eins("), "mako_fristen.h: mf_eins is not"),
+    ("exports", "one that is a comment there", HEADER, put("uint8_t mf_eins", "// uint8_t mf_eins"), "mf_eins is not"),
+    ("exports", "a parameter too few in C", HEADER, without("uint32_t n, "), "mf_eins is declared otherwise"),
+    ("exports", "one too many in C", HEADER, put("uint32_t n,", "uint32_t n, uint32_t m,"), "mf_eins is declared"),
+    ("exports", "a number of another size in C", HEADER, put("uint32_t n", "uint16_t n"), "mf_eins is declared"),
+    ("exports", "another name of one in C", HEADER, put("uint32_t n", "uint32_t m"), "mf_eins is declared otherwise"),
+    ("exports", "a list that may be written in C", HEADER, without("const "), "mf_zwei is declared otherwise"),
+    ("exports", "another result in C", HEADER, put("uint8_t mf_eins", "int mf_eins"), "mf_eins is declared otherwise"),
+    ("exports", "another order in C", HEADER, only(ZWEI_IN_C + EINS_IN_C), "mako_fristen.h: has another order"),
+    ("exports", "no header", HEADER, gone, "host/include/mako_fristen.h"),
     ("exports", "one that is not exported", PAPER, put("`mf_eins`", "`mf_neu`"), "mf_neu is not both"),
     ("exports", "one declared twice", HOST, put("mf_zwei", "mf_eins(); mf_zwei"), "3 calls with 2 names"),
     ("exports", "one exported twice", EXPORTS, added(EXPORT.replace("neu", "eins")), "3 exports with 2 names"),
@@ -261,6 +276,7 @@ BAD = [
             (LIB, 24),
             (SPEC, 3),
             (HOST, 6),
+            (HEADER, 5),
             ("crates/andere/must-fail/x.edit", 2),
             (README, 14),
             ("host/Cargo.toml", 1),

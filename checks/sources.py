@@ -14,6 +14,9 @@ from pathlib import Path
 LONGEST_LINE = 120
 # The exports for C, and the library whose calls they are.
 EXPORTING_CRATE, CALLED_CRATE = "mako_fristen_c", "mako_fristen"
+# Where the calls are declared for Rust and for C, and C's names of the numbers.
+HOST, HEADER = "host/src/ffi.rs", "host/include/mako_fristen.h"
+C_TYPES = {"u8": "uint8_t", "u16": "uint16_t", "u32": "uint32_t", "i64": "int64_t"}
 NOT_OURS = re.compile(r"\.git|target|host/target|oracle/target|crates/[^/]+/out")
 
 
@@ -183,10 +186,42 @@ def call_table(root):
 
 
 def host_calls(root):
-    """The calls that host/src/ffi.rs declares."""
-    code = code_of(read(root, "host/src/ffi.rs"))
+    """The calls that host/src/ffi.rs declares, each with its parameters as C has them."""
+    code = code_of(read(root, HOST))
     block = re.search(r"^calls!\s*\{", code, re.M)
-    return re.findall(r"\b(mf_\w+)\s*\(", code[block.end() : group(code, block.end() - 1)]) if block else []
+    rows = code[block.end() : group(code, block.end() - 1)] if block else ""
+    return [(name, in_c(name, parameters)) for name, parameters in re.findall(r"\b(mf_\w+)\s*\(([^)]*)\)", rows)]
+
+
+def in_c(call, parameters):
+    """The parameters of a row, &reason: u8 for a slice that is read and *counts: u32 for one that is written."""
+    found = []
+    for mark, name, number in re.findall(r"([&*]?)(\w+)\s*:\s*(\w+)", parameters):
+        kind = C_TYPES.get(number, number)
+        if mark:
+            found += [("const " if mark == "&" else "") + f"{kind} *{name}", f"size_t {name}_len"]
+        else:
+            found.append(f"{kind} {name}")
+    answer = "answers" if call == "mf_questions" else "answer"
+    return [*found, f"uint8_t *{answer}", f"size_t {answer}_len"]
+
+
+def header_calls(root):
+    """The calls that the header declares, each with its parameters."""
+    calls = re.findall(r"\b(\w+)\s+(mf_\w+)\s*\(([^)]*)\)\s*;", code_of(read(root, HEADER)))
+    return [
+        (name, [spaced(it) for it in parameters.split(",")] if kind == "uint8_t" else [kind])
+        for kind, name, parameters in calls
+    ]
+
+
+def faults_of_header(header, host):
+    """Where the header declares a call otherwise than the host, or in another order."""
+    for name, parameters in header:
+        if name in dict(host) and parameters != dict(host)[name]:
+            yield f"{HEADER}: {name} is declared otherwise than in {HOST}"
+    if [name for name, _ in header if name in dict(host)] != [name for name, _ in host if name in dict(header)]:
+        yield f"{HEADER}: has another order than {HOST}"
 
 
 def exports(root):
@@ -213,10 +248,13 @@ def exports(root):
         for mark in sorted(marks):
             place = f"{path}:{line_of(code, mark)}"
             faults.append(f'{place}: no export of the form #[unsafe(no_mangle)] pub extern "C" fn')
+    host, header = host_calls(root), header_calls(root)
+    faults += faults_of_header(header, host)
     for what, there in [
         (f"crates/{CALLED_CRATE}", list(calls)),
         ("docs/host-calls.md", call_table(root)),
-        ("host/src/ffi.rs", host_calls(root)),
+        (HOST, [name for name, _ in host]),
+        (HEADER, [name for name, _ in header]),
     ]:
         for call in sorted(set(found) ^ set(there)):
             faults.append(f"{what}: {call} is not both there and exported")
@@ -275,7 +313,7 @@ def names(root):
 
 # The length of lines.
 
-TEXTS = {".rt", ".antt", ".rs", ".edit", ".md", ".toml", ".py", ".sh"}
+TEXTS = {".rt", ".antt", ".rs", ".c", ".h", ".edit", ".md", ".toml", ".py", ".sh"}
 # A row of a table, in Markdown or in the Markdown of a Rust comment, cannot be broken.
 TABLE_ROW = {".md": re.compile(r"\s*\|"), ".rs": re.compile(r"\s*//[/!] \|")}
 FENCE = re.compile(r" {0,3}(```|~~~)")

@@ -27,4 +27,6 @@ fn main() {
     }
     println!("cargo:rustc-link-search=native={}", folder.display());
     println!("cargo:rustc-link-lib=static=mako_fristen");
+    // For the test that links a C program with it.
+    println!("cargo:rustc-env=MAKO_FRISTEN_ARCHIVE={}", archive.display());
 }
