@@ -641,20 +641,30 @@ impl Random {
     }
 }
 
+/// What stands beside an answer: notes, and a refusal in place of its value.
+fn assert_beside(output: &Output, short: bool) {
+    let beside = String::from_utf8_lossy(&output.stderr);
+    let begins = |line: &str| {
+        let refusal = short && line.starts_with("fristen: Abgelehnt (");
+        refusal || line.starts_with("fristen: Hinweis: ")
+    };
+    assert!(beside.lines().all(begins), "{beside}");
+}
+
 /// Lists of arguments of any kind: an answer, a refusal or a complaint, and never a panic.
 #[test]
 fn no_arguments_make_it_panic() {
     let mut vocabulary: Vec<String> = source_names().map(|(_, name)| name).collect();
-    let others =
-        "tag contrl check check-at span frist abmeldung kalender help --json --bytes --roh \
-                  --help fragen portfolio --eeg --eeg=ja ja nein --stichtag --stichtag=2026-06-06 \
-                  -- - -1 0 1 2 61 4294967295 4294967296 1995 2026 2899 2900 \
-                  1996-01-01 2026-02-29 2026-03-29 2899-12-31 9999-99-99 02:30 24:00 12:00:00.5 \
-                  2026-03-29T02:30:00+02:00 1996-01-01T00:00:00+01:00 2899-12-31T23:59:59+01:00 \
-                  0000-01-01T00:00:00Z @0 @-9223372036854775808.4294967295 @29348002799.999999999 \
-                  Strom Gas Regelfall LatestWerktageBefore WindowWerktageBefore Korridor \
-                  LatestMonateBefore LatestMonateUndWerktageBefore TagVorDemLetztenWerktagVor \
-                  WerktagAt SameDayAt SameDay EndOfWerktag ZQ7 Z33 ü \u{202e} @ T";
+    let others = "\
+        tag contrl check check-at span bis-wann frist abmeldung kalender help --json --bytes --kurz \
+        --status --roh --help fragen portfolio --eeg --eeg=ja ja nein --stichtag \
+        --stichtag=2026-06-06 -- - -1 0 1 2 61 4294967295 4294967296 1995 2026 2899 2900 \
+        1996-01-01 2026-02-29 2026-03-29 2899-12-31 9999-99-99 02:30 24:00 12:00:00.5 \
+        2026-03-29T02:30:00+02:00 1996-01-01T00:00:00+01:00 2899-12-31T23:59:59+01:00 \
+        0000-01-01T00:00:00Z @0 @-9223372036854775808.4294967295 @29348002799.999999999 \
+        Strom Gas Regelfall LatestWerktageBefore WindowWerktageBefore Korridor \
+        LatestMonateBefore LatestMonateUndWerktageBefore TagVorDemLetztenWerktagVor \
+        WerktagAt SameDayAt SameDay EndOfWerktag ZQ7 Z33 ü \u{202e} @ T";
     vocabulary.extend(words(others).into_iter().map(str::to_owned));
     let mut random = Random(20_260_407);
     for _ in 0..1_500 {
@@ -663,7 +673,8 @@ fn no_arguments_make_it_panic() {
             (0..count).map(|_| vocabulary[random.below(vocabulary.len())].as_str()).collect();
         let output = run(&arguments);
         match output.status.code() {
-            Some(0 | 2) => assert!(output.stderr.is_empty(), "{arguments:?}"),
+            Some(1 | 3) if !arguments.contains(&"--status") => panic!("{arguments:?}"),
+            Some(0..=3) => assert_beside(&output, arguments.contains(&"--kurz")),
             Some(64 | 66) => assert!(output.stdout.is_empty(), "{arguments:?}"),
             status => panic!("{arguments:?}: {status:?}"),
         }

@@ -108,9 +108,9 @@ fn a_time_that_berlins_clock_does_not_show() {
     let output = super::zeilen::fed("fragen", &[], file.as_bytes());
     assert_eq!(output.status.code(), Some(2));
     let lines = super::zeilen::lines(&output);
-    assert_eq!(lines[0], format!("1: Abgelehnt (6): {absent}"));
+    assert_eq!(lines[0], format!("Zeile 1: Abgelehnt (6): {absent}"));
     assert!(
-        lines[1].starts_with("2: Eingang am Sonntag, dem 29. März 2026, um 03:30 Uhr"),
+        lines[1].starts_with("Zeile 2: Eingang am Sonntag, dem 29. März 2026, um 03:30 Uhr"),
         "{lines:?}"
     );
 }
@@ -364,9 +364,18 @@ fn german_names() {
     }
 }
 
+/// Each shape by its German name in a call of this command, with these operands behind it.
+fn assert_named(command: &str, operands: &str, shapes: &[(&str, &str)]) {
+    for (shape, german) in shapes {
+        let (name, counts) = shape.split_once(' ').unwrap_or((shape, ""));
+        let call = |name| format!("{command} {name} {counts} {operands}");
+        assert_same(&[&call(name), &call(german)]);
+    }
+}
+
 #[test]
 fn german_names_of_shapes() {
-    let shapes = [
+    let vorlauf = [
         ("LatestWerktageBefore 2", "WerktageVorher"),
         ("WindowWerktageBefore 5 2", "Zeitfenster"),
         ("LatestWerktageAfter 2", "WerktageNachher"),
@@ -375,26 +384,14 @@ fn german_names_of_shapes() {
         ("LatestMonateBefore 2", "MonateVorher"),
         ("LatestMonateUndWerktageBefore 2 1", "monateundwerktagevorher"),
     ];
-    for (shape, german) in shapes {
-        let (name, counts) = shape.split_once(' ').unwrap_or((shape, ""));
-        assert_same(&[
-            &format!("span {name} {counts} 2026-01-05"),
-            &format!("span {german} {counts} 2026-01-05"),
-        ]);
-    }
-    let shapes = [
+    assert_named("span", "2026-01-05", &vorlauf);
+    let frist = [
         ("WerktagAt 2 06:00", "WerktagUm"),
         ("EndOfWerktag 2", "EndeDesWerktags"),
         ("SameDayAt 12:00", "SelberTagUm"),
         ("SameDay", "SELBERTAG"),
     ];
-    for (shape, german) in shapes {
-        let (name, operands) = shape.split_once(' ').unwrap_or((shape, ""));
-        assert_same(&[
-            &format!("frist {name} {operands} 2026-01-05 10:00"),
-            &format!("frist {german} {operands} 2026-01-05 10:00"),
-        ]);
-    }
+    assert_named("frist", "2026-01-05 10:00", &frist);
 }
 
 /// Every shape of every command that takes one has a line and an example that is answered.

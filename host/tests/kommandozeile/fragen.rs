@@ -64,7 +64,8 @@ fn single(line: &str, number: usize, form: &[&str]) -> String {
     let text = text.trim_end().replace('\n', " ");
     match form {
         ["--json"] => format!("{{\"line\":{number},{}", &text[1..]),
-        _ => format!("{number}: {text}"),
+        ["--bytes"] => format!("{number}: {text}"),
+        _ => format!("Zeile {number}: {text}"),
     }
 }
 
@@ -79,8 +80,11 @@ fn a_file_in_each_form() {
          1. Werktag vor dem Termin: Freitag, der 9. Januar 2026. Es fehlt kein Werktag; zu spät \
          ist es um 1 Tag, der kein Werktag ist. Die Quelle nennt als frühesten Termin Montag, den \
          12. Januar 2026; zulässig ist er nicht.";
-    let sentences =
-        [format!("3: {SPANNED}"), format!("4: Abgelehnt (8): {no_end}"), format!("5: {late}")];
+    let sentences = [
+        format!("Zeile 3: {SPANNED}"),
+        format!("Zeile 4: Abgelehnt (8): {no_end}"),
+        format!("Zeile 5: {late}"),
+    ];
     assert_eq!(answers(&[], &input, 2), sentences);
     let json = [
         concat!(
@@ -132,7 +136,7 @@ fn each_line_is_answered_as_its_command_is() {
 
 #[test]
 fn blanks_comments_and_the_ends_of_lines() {
-    let spanned = |number: usize| format!("{number}: {SPANNED}");
+    let spanned = |number: usize| format!("Zeile {number}: {SPANNED}");
     let tabs = "\t span\t LatestWerktageBefore  1\t2026-01-10 \t";
     let inputs = [
         (format!("\u{feff}{SPAN}"), vec![1]),
@@ -205,7 +209,7 @@ fn lines_that_cannot_be_read_are_named_and_the_others_answered() {
         let input = [SPAN.as_bytes(), b"\n", line, b"\n", SPAN.as_bytes()].concat();
         let output = fed(&[], &input);
         assert_eq!(output.status.code(), Some(64));
-        assert_eq!(lines(&output), [format!("1: {SPANNED}"), format!("3: {SPANNED}")]);
+        assert_eq!(lines(&output), [format!("Zeile 1: {SPANNED}"), format!("Zeile 3: {SPANNED}")]);
         let complaint = format!(
             "fristen: Zeile 2: {expected}\n\
              fristen: 1 Zeile ließ sich nicht lesen. Mehr: ./fristen fragen --help\n"
@@ -220,9 +224,9 @@ fn a_complaint_stands_between_the_answers() {
     let path = file("dazwischen.txt", format!("{SPAN}\ngestern\n{SPAN}\nheute\n"));
     let expected = "erwartet contrl, frist, check oder span, nicht";
     let expected = format!(
-        "1: {SPANNED}\n\
+        "Zeile 1: {SPANNED}\n\
          fristen: Zeile 2: {expected} „gestern“\n\
-         3: {SPANNED}\n\
+         Zeile 3: {SPANNED}\n\
          fristen: Zeile 4: {expected} „heute“\n\
          fristen: 2 Zeilen ließen sich nicht lesen. Mehr: ./fristen fragen --help\n"
     );
@@ -266,7 +270,7 @@ fn a_very_long_line() {
     assert_eq!(output.status.code(), Some(64));
     let answered = lines(&output);
     assert_eq!(answered[0], single("span Korridor 2 2026-04-07", 1, &[]));
-    assert_eq!(answered[1..], [format!("5: {SPANNED}")]);
+    assert_eq!(answered[1..], [format!("Zeile 5: {SPANNED}")]);
     let complaints = String::from_utf8_lossy(&output.stderr);
     assert!(complaints.starts_with("fristen: Zeile 3: erwartet weniger als 65536 Bytes\n"));
     let quoted = format!(", nicht „{}…“ (Aufbau: span ", "x".repeat(80));
@@ -395,7 +399,7 @@ fn more_lines_than_a_file_of_records_has() {
 fn input_in_pieces() {
     let pieces =
         ["\u{feff}# Erst\r\nspan LatestWerk", "tageBefore 1 ", "2026-01-10\r\nspan Latest"];
-    let (first, second) = (format!("2: {SPANNED}\n"), format!("3: {SPANNED}\n"));
+    let (first, second) = (format!("Zeile 2: {SPANNED}\n"), format!("Zeile 3: {SPANNED}\n"));
     assert_at_once("fragen", pieces, &first, "WerktageBefore 1 2026-01-10", &second);
 }
 
@@ -416,7 +420,7 @@ fn a_file_of_an_unlikely_name() {
             _ => command.args(["--", name]),
         };
         let output = command.output().expect("the program runs");
-        assert_eq!(lines(&output), [format!("1: {SPANNED}")], "{name}");
+        assert_eq!(lines(&output), [format!("Zeile 1: {SPANNED}")], "{name}");
     }
 }
 
@@ -439,7 +443,7 @@ fn bad_usage() {
 #[test]
 fn a_reader_that_goes_away_has_read_enough() {
     let path = file("viele.txt", format!("{SPAN}\n").repeat(200_000));
-    assert_may_go_away("fragen", &path, b"1: ");
+    assert_may_go_away("fragen", &path, b"Zeile 1: ");
 }
 
 #[cfg(target_os = "linux")]
@@ -523,6 +527,6 @@ fn the_file_of_the_documents_is_answered() {
     let given = answers(&[file], "", 2);
     let marks: Vec<_> =
         given.iter().map(|line| line.split_once(": ").map(|(mark, _)| mark)).collect();
-    assert_eq!(marks, ["2", "3", "4", "7", "8"].map(Some));
-    assert!(given[4].starts_with("8: Abgelehnt (3): "), "{}", given[4]);
+    assert_eq!(marks, ["Zeile 2", "Zeile 3", "Zeile 4", "Zeile 7", "Zeile 8"].map(Some));
+    assert!(given[4].starts_with("Zeile 8: Abgelehnt (3): "), "{}", given[4]);
 }

@@ -539,7 +539,8 @@ const READ: &[(&str, &str)] = &[
     ),
 ];
 
-/// A day that is none, a time that Berlin's clock does not show, an instant that no calendar has.
+/// A day that is none, a time that Berlin's clock does not show, an instant that no calendar has or
+/// that RFC 3339 cannot write.
 const REFUSED: &[(&str, &str)] = &[
     ("tag 2026-02-30", r#"{"date":"2026-02-30"}"#),
     ("berlin-at 2026-03-29 24:00", r#"{"date":"2026-03-29","clock":"24:00:00"}"#),
@@ -547,6 +548,21 @@ const REFUSED: &[(&str, &str)] = &[
     (
         "berlin-date 1995-12-31T12:00:00Z",
         r#"{"instant":{"seconds":820411200,"nanos":0,"utc":"1995-12-31T12:00:00Z","berlin":null,
+        "weekday":null,"summer":null,"repeated":null}}"#,
+    ),
+    (
+        "berlin-date @253402300799",
+        r#"{"instant":{"seconds":253402300799,"nanos":0,"utc":"9999-12-31T23:59:59Z","berlin":null,
+        "weekday":null,"summer":null,"repeated":null}}"#,
+    ),
+    (
+        "berlin-date @253402300800",
+        r#"{"instant":{"seconds":253402300800,"nanos":0,"utc":null,"berlin":null,
+        "weekday":null,"summer":null,"repeated":null}}"#,
+    ),
+    (
+        "berlin-date @1774972799s1000000000ns",
+        r#"{"instant":{"seconds":1774972799,"nanos":1000000000,"utc":null,"berlin":null,
         "weekday":null,"summer":null,"repeated":null}}"#,
     ),
     (

@@ -5,9 +5,9 @@
 use super::json::object;
 use super::leser::Value;
 use super::zeilen::{fed, lines};
-use super::{program, words};
+use super::{printed, program, run, words, Random, CLOCKS, COUNTS, DATES, INSTANTS, SHAPES};
 use mako_fristen_host::{Call, Date};
-use std::collections::BTreeSet;
+use std::collections::{BTreeMap, BTreeSet};
 use std::fs;
 use std::path::{Path, PathBuf};
 
@@ -15,6 +15,7 @@ const EVERY: &str = "Every object";
 const READ: &str = "What was read";
 const ANSWER: &str = "What is answered";
 const OBJECTS: &str = "Objects";
+const VALUE: &str = "A value alone, and a status";
 
 /// Where the examples are run.
 fn root() -> PathBuf {
@@ -330,6 +331,83 @@ fn each_command_prints_the_keys_of_the_page() {
     let of_calls = Call::ALL.map(|call| Value::Text(call.name().to_owned()));
     let others = ["bis-wann", "kalender"].map(|name| Value::Text(name.to_owned()));
     assert_eq!(calls, of_calls.into_iter().chain(others).collect());
+}
+
+/// The value at a path such as `instant.berlin`, as a script takes it.
+fn short(object: &Value, path: &str) -> String {
+    let value = path.split('.').fold(object, |value, key| value.get(key));
+    let end = |key| match value.get(key) {
+        Value::Text(date) => date.clone(),
+        _ => "..".to_owned(),
+    };
+    match value {
+        Value::Text(text) => text.clone(),
+        Value::Number(number) => number.to_string(),
+        Value::Object(_) if value.get("empty") == &Value::Bool(false) => {
+            format!("{}/{}", end("first"), end("last"))
+        }
+        _ => String::new(),
+    }
+}
+
+#[test]
+fn the_bare_value_is_the_one_that_the_page_names() {
+    let page = page();
+    let table = &tables(&page, VALUE)[0];
+    for (command, answered, _) in ASKED {
+        for arguments in *answered {
+            let line = format!("{command} {arguments}");
+            let expected = short(&object(&line, 0), keys(table, command)[0]);
+            let printed = printed(&words(&format!("{line} --kurz")), 0);
+            assert_eq!(printed, format!("{expected}\n"), "{line}");
+        }
+    }
+}
+
+/// A question of one of 15 commands, with operands that fit.
+fn any_question(random: &mut Random) -> String {
+    let mut pick = |from: &[&'static str]| from[random.below(from.len())];
+    let (date, date2, n) = (pick(&DATES), pick(&DATES), pick(&COUNTS));
+    let (at, at2, clock) = (pick(&INSTANTS), pick(&INSTANTS), pick(&CLOCKS));
+    let shape = pick(&SHAPES);
+    let mut all = vec![
+        format!("tag {date}"),
+        format!("sub-werktage {date} {n}"),
+        format!("werktage-between {date} {date2}"),
+        format!("subtract-months {date} {n}"),
+        format!("berlin-at {date} {clock}"),
+        format!("frist SameDayAt {clock} {at}"),
+        format!("contrl Regelfall {at}"),
+        format!("contrl-due-at-change Regelfall {at} {date}"),
+        format!("aperak-gas {n} {at}"),
+        format!("check {shape} {n} {date} {date2}"),
+        format!("check-at {shape} {n} {at} {at2} Strom"),
+        format!("span {shape} {n} {date}"),
+        format!("bis-wann {shape} {n} {date}"),
+        format!("abmeldung Z33 {date} {date2} --eeg ja"),
+        format!("ankuendigung {at} {date}"),
+    ];
+    all.swap_remove(random.below(all.len()))
+}
+
+/// Whatever is asked, a command's objects have the same keys, and a refusal answers nothing.
+#[test]
+fn a_command_has_the_same_keys_each_time() {
+    let (mut random, mut seen) = (Random(20_261_127), BTreeMap::new());
+    for _ in 0..600 {
+        let line = any_question(&mut random);
+        let output = run(&[&words(&line)[..], &["--json"]].concat());
+        let text = String::from_utf8(output.stdout).expect("UTF-8");
+        let object = Value::read(text.trim_end()).unwrap_or_else(|error| panic!("{line}: {error}"));
+        let keys = [object.keys(), object.get("read").keys()].map(|keys| keys.join(" "));
+        let of_command = seen.entry(object.get("call").clone()).or_insert_with(|| keys.clone());
+        assert_eq!(keys, *of_command, "{line}");
+        let mut content = object.members().iter().skip_while(|(key, _)| key != "refusal").skip(1);
+        let refused = *object.get("refusal") != Value::Null;
+        assert_eq!(refused, content.all(|(_, value)| *value == Value::Null), "{line}");
+        assert_eq!(output.status.code(), Some(if refused { 2 } else { 0 }), "{line}");
+    }
+    assert_eq!(seen.len(), 15);
 }
 
 /// A call in a block of the page, and the lines below it.

@@ -33,8 +33,8 @@ Optionen, an beliebiger Stelle
   --kurz      nur der Wert, wie 2026-04-07; eine Ablehnung steht in der Fehlerausgabe
   --bytes     die 32 Bytes der Antwort, hexadezimal, bei portfolio vier zu jeder Zeile;
               nicht bei kalender und bis-wann
-  --status    Urteile und Ja oder Nein auch als Status: 0 ja oder gewahrt, 1 nein, zu spät
-              oder zu früh, 3 weder noch oder kein Urteil
+  --status    Ja oder Nein und Urteile auch als Status: 0 ja oder gewahrt, 1 nein, zu spät,
+              zu früh oder kein zulässiger Tag, 3 weder noch oder kein Urteil
   --roh       nur bei fragen: Datensätze von 32 Bytes statt Zeilen
   --eeg       nur bei abmeldung-fuer und abmeldung: ja, nein oder unbekannt
   --stichtag  nur bei contrl: der Tag einer verlegten Formatumstellung

@@ -36,7 +36,7 @@ pub fn status(call: Call, answer: &Answer) -> Result<Status, Error> {
     })
 }
 
-pub fn of(yes: Option<bool>) -> Status {
+fn of(yes: Option<bool>) -> Status {
     match yes {
         Some(true) => Status::Answered,
         Some(false) => Status::No,

@@ -46,7 +46,7 @@ pub fn shape_and_anchor(
 /// The years and months of a calendar; this year, if there is none.
 pub fn periods(arguments: &Arguments) -> Result<Vec<Period>, Usage> {
     let mut words = Words::new(arguments);
-    let left = mem::take(&mut words.left);
+    let (left, now) = (mem::take(&mut words.left), words.now);
     words.end()?;
     let read = |word: &OsString| {
         read_as("JAHR", word, |word| {
@@ -58,7 +58,7 @@ pub fn periods(arguments: &Arguments) -> Result<Vec<Period>, Usage> {
     if !periods.is_empty() {
         return Ok(periods);
     }
-    let today = reading::date("heute", reading::now());
+    let today = reading::date("heute", now);
     let no_year = || Usage::new("die Uhr des Rechners geht falsch; erwartet ein Jahr wie 2026");
     Ok(vec![Period::year_of(today.ok_or_else(no_year)?)])
 }
@@ -71,9 +71,9 @@ pub fn file(arguments: &Arguments) -> Result<Option<&OsStr>, Usage> {
     Ok(file.filter(|file| *file != "-"))
 }
 
-/// A date at the place of this label.
-pub fn date(label: &str, word: &OsStr) -> Result<Date, Usage> {
-    let date = |word: &str| reading::date(word, reading::now());
+/// A date at the place of this label, `heute` by this instant.
+pub fn date(label: &str, word: &OsStr, now: Instant) -> Result<Date, Usage> {
+    let date = |word: &str| reading::date(word, now);
     read_as(label, word, |word| date(word).ok_or_else(|| reading::DATE.to_owned()))
 }
 
@@ -160,8 +160,10 @@ fn frist(inquiry: &mut Inquiry, label: &str, words: &mut Words) -> Result<(), Us
     Ok(())
 }
 
-/// The words behind the subcommand's name, the EEG mark and the change day.
+/// The words behind the subcommand's name, the EEG mark and the change day. All are read at the same
+/// time, so that midnight does not come between two of them.
 struct Words<'a> {
+    now: Instant,
     left: slice::Iter<'a, OsString>,
     eeg: Option<&'a OsStr>,
     stichtag: Option<&'a OsStr>,
@@ -171,7 +173,7 @@ impl<'a> Words<'a> {
     fn new(arguments: &'a Arguments) -> Words<'a> {
         let words = arguments.words.get(1..).unwrap_or_default();
         let (eeg, stichtag) = (arguments.eeg.as_deref(), arguments.stichtag.as_deref());
-        Words { left: words.iter(), eeg, stichtag }
+        Words { now: reading::now(), left: words.iter(), eeg, stichtag }
     }
 
     fn next(&mut self, label: &str) -> Result<&'a OsStr, Usage> {
@@ -197,7 +199,7 @@ impl<'a> Words<'a> {
     }
 
     fn date(&mut self, label: &str) -> Result<Date, Usage> {
-        date(label, self.next(label)?)
+        date(label, self.next(label)?, self.now)
     }
 
     fn clock(&mut self, label: &str) -> Result<Clock, Usage> {
@@ -207,7 +209,7 @@ impl<'a> Words<'a> {
     /// One word, or a date and its clock time in two; or the refusal of a time that Berlin's clock
     /// does not show.
     fn moment(&mut self, label: &str) -> Result<Result<Moment, Refused>, Usage> {
-        let now = reading::now();
+        let now = self.now;
         let mut word = self.next(label)?.to_owned();
         let is_date = word.to_str().is_some_and(|word| reading::date(word, now).is_some());
         let time =
@@ -261,6 +263,6 @@ impl<'a> Words<'a> {
 
     /// The change day, an option that may be left out.
     fn stichtag(&mut self) -> Result<Option<Date>, Usage> {
-        self.stichtag.take().map(|word| date("--stichtag", word)).transpose()
+        self.stichtag.take().map(|word| date("--stichtag", word, self.now)).transpose()
     }
 }

@@ -34,7 +34,7 @@ impl Reply<'_> {
 
     fn answered(&self, inquiry: &Inquiry, answer: &Answer) -> Result<Outcome, Error> {
         let text = match self.form {
-            Form::Sentence => self.text(&sentences::of(inquiry, answer)?),
+            Form::Sentence => self.sentences(&sentences::of(inquiry, answer)?),
             Form::Json => self.json(report::answered(inquiry, self.given, answer)?),
             Form::Bytes => self.text(&format!("{answer:x}")),
             Form::Short => self.text(&short::of(inquiry, answer)?),
@@ -79,7 +79,7 @@ impl Reply<'_> {
     ) -> Result<Outcome, Error> {
         let said = errors::refused_as(refusal, sentence);
         let text = match self.form {
-            Form::Sentence => self.text(&said),
+            Form::Sentence => self.sentences(&said),
             Form::Json => self.json(json(refusal_json(refusal, sentence))?),
             Form::Bytes => self.text(&format!("{:x}", Answer::refused(refusal))),
             Form::Short => return Ok(self.without_value(&said)),
@@ -97,10 +97,19 @@ impl Reply<'_> {
         Outcome::answer(place).complaining(complaint).ending(Status::Refused)
     }
 
+    /// The mark of a line is a word, since '3: 1 Tag zu spät' would be heard as one number.
+    fn sentences(&self, text: &str) -> String {
+        match self.line {
+            Some(line) => format!("Zeile {line}: {}\n", text.replace('\n', " ")),
+            None => format!("{text}\n"),
+        }
+    }
+
+    /// A bare value or the bytes.
     fn text(&self, text: &str) -> String {
         match self.line {
             Some(line) if text.is_empty() => format!("{line}:\n"),
-            Some(line) => format!("{line}: {}\n", text.replace('\n', " ")),
+            Some(line) => format!("{line}: {text}\n"),
             None => format!("{text}\n"),
         }
     }

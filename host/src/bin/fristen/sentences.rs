@@ -76,9 +76,9 @@ fn said(inquiry: &Inquiry, answer: &Answer) -> Result<String, Error> {
 #[cfg(test)]
 mod tests {
     use super::*;
-    use crate::report;
+    use crate::{report, short};
 
-    /// A kind that no call has, in both forms.
+    /// A kind that no call has, in each form.
     #[test]
     fn an_answer_that_cannot_be_read_has_no_sentence() {
         for call in Call::ALL {
@@ -87,6 +87,7 @@ mod tests {
             let unreadable = |error: Error| matches!(error, Error::Unreadable(u) if u.call == call);
             assert!(of(&inquiry, &answer).is_err_and(unreadable), "{call:?}");
             assert!(report::answered(&inquiry, &[], &answer).is_err_and(unreadable), "{call:?}");
+            assert!(short::of(&inquiry, &answer).is_err_and(unreadable), "{call:?}");
         }
     }
 }

@@ -1,7 +1,8 @@
 use crate::lines::Line;
 use crate::operands;
+use crate::reading;
 use crate::usage::Usage;
-use mako_fristen_host::Date;
+use mako_fristen_host::{Date, Instant};
 use std::ffi::{OsStr, OsString};
 use std::mem;
 
@@ -53,8 +54,8 @@ impl Reader {
 }
 
 fn pair(mut text: &str) -> Result<(Pair, [&str; 2]), Usage> {
-    let words = [field(&mut text), field(&mut text)];
-    let pair = (date(LABELS[0], words[0])?, date(LABELS[1], words[1])?);
+    let (words, now) = ([field(&mut text), field(&mut text)], reading::now());
+    let pair = (date(LABELS[0], words[0], now)?, date(LABELS[1], words[1], now)?);
     // A table may end its lines with empty fields.
     match text.trim_matches(separates) {
         "" => Ok((pair, words)),
@@ -62,10 +63,10 @@ fn pair(mut text: &str) -> Result<(Pair, [&str; 2]), Usage> {
     }
 }
 
-fn date(label: &str, field: &str) -> Result<Date, Usage> {
+fn date(label: &str, field: &str, now: Instant) -> Result<Date, Usage> {
     match field {
         "" => Err(operands::missing(label)),
-        field => operands::date(label, OsStr::new(field)),
+        field => operands::date(label, OsStr::new(field), now),
     }
 }
 
@@ -95,7 +96,6 @@ fn quoted(text: &str) -> Option<(&str, &str)> {
 #[cfg(test)]
 mod tests {
     use super::*;
-    use crate::reading;
 
     const BEGIN: Date = Date::new(2025, 6, 30);
     const END: Date = Date::new(2035, 6, 30);
