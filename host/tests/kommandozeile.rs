@@ -154,7 +154,8 @@ fn a_step_over_centuries_is_soon_there() {
     assert!(started.elapsed() < std::time::Duration::from_secs(10), "{:?}", started.elapsed());
     let expected =
         "Der 200000. Werktag nach Montag, dem 1. Januar 1996, ist Mittwoch, der 21. April \
-                    2810.\nÜbersprungen: 40974 Samstage, 40167 Sonntage und 16277 Feiertage.\n";
+                    2810.\nÜbersprungen: 42488 Samstage, 42488 Sonntage und 12442 Feiertage an \
+                    anderen Tagen.\n";
     assert_eq!(step, expected);
 }
 
@@ -724,6 +725,6 @@ fn no_fitting_operands_make_it_panic() {
         let line = &lines[random.below(lines.len())];
         let output = run(&words(line));
         assert!(matches!(output.status.code(), Some(0 | 2)), "{line}");
-        assert!(output.stderr.is_empty(), "{line}");
+        assert_beside(&output, false);
     }
 }

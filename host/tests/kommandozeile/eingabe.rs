@@ -8,7 +8,7 @@ use std::process::Command;
 use std::time::SystemTime;
 
 /// Of a call that is answered: what it prints, and what it says beside that.
-fn answered(line: &str) -> (String, String) {
+pub fn answered(line: &str) -> (String, String) {
     let output = run(&words(line));
     assert_eq!(output.status.code(), Some(0), "{line}");
     let text = |bytes| String::from_utf8(bytes).expect("UTF-8");
@@ -160,13 +160,16 @@ fn what_may_be_a_slip_has_a_hint() {
         let (answer, hint) = answered(line);
         assert!(answer.contains("Grund „") && hint.ends_with(&format!("“ {zq7}\n")), "{hint}");
     }
-    let empty = run(&["abmeldung-fuer", "", "--eeg", "ja"]);
-    assert_eq!(String::from_utf8_lossy(&empty.stderr), "fristen: Hinweis: der GRUND ist leer.\n");
+    for reason in ["", " ", " \t "] {
+        let empty = run(&["abmeldung-fuer", reason, "--eeg", "ja"]);
+        let hint = String::from_utf8_lossy(&empty.stderr);
+        assert_eq!(hint, "fristen: Hinweis: der GRUND ist leer.\n", "{reason:?}");
+    }
     let blank = run(&["abmeldung-fuer", "ZQ7 ", "--eeg", "ja"]);
     assert!(String::from_utf8_lossy(&blank.stderr).contains(&format!("„ZQ7 “ {zq7}")));
     let (_, hint) = answered("aperak-gas 55001 2026-04-02 10:00");
-    let no_gas =
-        "55001 ist kein Prüfidentifikator Gas (44xxx); beantwortet wird er als Folgeprozess";
+    let no_gas = "55001 ist kein Prüfidentifikator Gas (44xxx); gerechnet wird wie für einen \
+                  Folgeprozess";
     assert_eq!(hint, format!("fristen: Hinweis: {no_gas}.\n"));
     for line in [
         "abmeldung-fuer ZQ7 --eeg ja",

@@ -75,11 +75,11 @@ fn a_file_in_each_form() {
     let no_end = "Die Spanne der zulässigen Termine verlässt den Kalender vom 1. Januar 1996 bis \
                   zum 31. Dezember 2899.";
     let late =
-        "1 Tag zu spät: Übertragungstag Samstag, 10. Januar 2026, Termin Montag, 12. Januar 2026. \
-         Zulässig sind Termine ab Dienstag, dem 13. Januar 2026. Spätester Übertragungstag ist der \
-         1. Werktag vor dem Termin: Freitag, der 9. Januar 2026. Es fehlt kein Werktag; zu spät \
-         ist es um 1 Tag, der kein Werktag ist. Die Quelle nennt als frühesten Termin Montag, den \
-         12. Januar 2026; zulässig ist er nicht.";
+        "1 Kalendertag zu spät: Übertragungstag Samstag, 10. Januar 2026, Termin Montag, 12. \
+         Januar 2026. Zulässig sind Termine ab Dienstag, dem 13. Januar 2026. Spätester \
+         Übertragungstag ist der 1. Werktag vor dem Termin: Freitag, der 9. Januar 2026. Zu spät \
+         ist es um 1 Tag, der kein Werktag ist. Die Quelle mako-fristen nennt als frühesten Termin \
+         Montag, den 12. Januar 2026; zulässig ist er nicht.";
     let sentences = [
         format!("Zeile 3: {SPANNED}"),
         format!("Zeile 4: Abgelehnt (8): {no_end}"),
@@ -504,7 +504,7 @@ fn no_lines_make_it_panic() {
     assert_eq!(output.status.code(), Some(64));
     let numbers = |lines: &str, before: &str| -> Vec<usize> {
         let number = |line: &str| line.strip_prefix(before)?.split(':').next()?.parse().ok();
-        lines.lines().filter_map(number).collect()
+        lines.lines().filter(|line| !line.contains(": Hinweis: ")).filter_map(number).collect()
     };
     let answered = numbers(&lines(&output).join("\n"), "");
     let unread = numbers(&String::from_utf8_lossy(&output.stderr), "fristen: Zeile ");

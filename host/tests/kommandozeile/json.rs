@@ -1,6 +1,7 @@
 //! Answers as JSON, each kind of each command. Instants by Python's zoneinfo, dates by a printed
 //! calendar.
 
+use super::eingabe::answered;
 use super::leser::Value;
 use super::zeilen::{fed, lines};
 use super::{printed, run, words};
@@ -74,6 +75,11 @@ const DAYS: &[(&str, &str)] = &[
         "tag 2026-03-08",
         r#""date":"2026-03-08","weekday":"Sonntag","werktag":false,"kind":2,"kind_name":"Sonntag",
         "also":"Internationaler Frauentag""#,
+    ),
+    (
+        "tag 2008-05-01",
+        r#""date":"2008-05-01","weekday":"Donnerstag","werktag":false,"kind":6,
+        "kind_name":"Tag der Arbeit","also":"Christi Himmelfahrt""#,
     ),
     (
         "tag 2026-10-03",
@@ -605,7 +611,7 @@ fn expected(text: &str) -> String {
 /// What stands behind `refusal` in each answer.
 fn assert_answers(rows: &[(&str, &str)]) {
     for (line, content) in rows {
-        let printed = printed(&[&words(line)[..], &["--json"]].concat(), 0);
+        let (printed, _) = answered(&format!("{line} --json"));
         let (_, found) = printed.split_once(",\"refusal\":null,").expect("an answer");
         assert_eq!(found, format!("{}}}\n", expected(content)), "{line}");
     }

@@ -14,7 +14,11 @@ pub const CASES: &[(&str, &str)] = &[
     ),
     (
         "add-werktage 2026-04-04 0",
-        "Mit 0 Werktagen bleibt es bei Samstag, dem 4. April 2026, ob Werktag oder nicht.",
+        "Mit 0 Werktagen bleibt es bei Samstag, dem 4. April 2026; das ist kein Werktag.",
+    ),
+    (
+        "add-werktage 2026-04-02 0",
+        "Mit 0 Werktagen bleibt es bei Donnerstag, dem 2. April 2026; das ist ein Werktag.",
     ),
     (
         "contrl Regelfall 2026-03-31T11:59:59+02:00",
@@ -61,8 +65,8 @@ pub const ANNOUNCEMENTS: &[(&str, &str)] = &[
         "ankuendigung 2026-01-09T13:00:00.000000001+01:00 2026-01-12",
         "Zu spät: Eingang am Freitag, dem 9. Januar 2026, um 13:00:00,000000001 Uhr, \
          Zuordnungsbeginn Montag, 12. Januar 2026.\n\
-         Fristgerecht ist die Ankündigung am letzten Werktag vor dem Zuordnungsbeginn von 00:00 \
-         bis 13:00 Uhr: am Freitag, dem 9. Januar 2026.",
+         Fristgerecht wäre sie nur am letzten Werktag vor dem Zuordnungsbeginn gewesen, am \
+         Freitag, dem 9. Januar 2026, von 00:00 bis 13:00 Uhr.",
     ),
     (
         "ankuendigung 2026-01-12T00:00:00+01:00 2026-01-12",
@@ -82,15 +86,15 @@ pub const ANNOUNCEMENTS: &[(&str, &str)] = &[
         "ankuendigung 2026-01-08T23:59:59.999999999+01:00 2026-01-12",
         "Zu früh: Eingang am Donnerstag, dem 8. Januar 2026, um 23:59:59,999999999 Uhr, \
          Zuordnungsbeginn Montag, 12. Januar 2026.\n\
-         Fristgerecht ist die Ankündigung am letzten Werktag vor dem Zuordnungsbeginn von 00:00 \
-         bis 13:00 Uhr: am Freitag, dem 9. Januar 2026.",
+         Fristgerecht wäre sie nur am letzten Werktag vor dem Zuordnungsbeginn gewesen, am \
+         Freitag, dem 9. Januar 2026, von 00:00 bis 13:00 Uhr.",
     ),
     (
         "ankuendigung 2026-01-11T23:59:59+01:00 2026-01-12",
         "Zu spät: Eingang am Sonntag, dem 11. Januar 2026, um 23:59:59 Uhr, Zuordnungsbeginn \
          Montag, 12. Januar 2026.\n\
-         Fristgerecht ist die Ankündigung am letzten Werktag vor dem Zuordnungsbeginn von 00:00 \
-         bis 13:00 Uhr: am Freitag, dem 9. Januar 2026.",
+         Fristgerecht wäre sie nur am letzten Werktag vor dem Zuordnungsbeginn gewesen, am \
+         Freitag, dem 9. Januar 2026, von 00:00 bis 13:00 Uhr.",
     ),
     (
         "ankuendigung 2026-02-01T10:00:00+01:00 2026-01-12",
@@ -128,7 +132,19 @@ pub const DAYS: &[(&str, &str)] = &[
     ),
     (
         "tag 2008-05-01",
-        "Donnerstag, der 1. Mai 2008, ist kein Werktag: Tag der Arbeit.",
+        "Donnerstag, der 1. Mai 2008, ist kein Werktag: Tag der Arbeit; auch Christi Himmelfahrt.",
+    ),
+    (
+        "tag 2026-05-01",
+        "Freitag, der 1. Mai 2026, ist kein Werktag: Tag der Arbeit.",
+    ),
+    (
+        "tag 2160-05-01",
+        "Donnerstag, der 1. Mai 2160, ist kein Werktag: Tag der Arbeit; auch Christi Himmelfahrt.",
+    ),
+    (
+        "tag 2014-05-01",
+        "Donnerstag, der 1. Mai 2014, ist kein Werktag: Tag der Arbeit.",
     ),
     (
         "tag 2899-12-31",
@@ -202,6 +218,21 @@ pub const DAYS: &[(&str, &str)] = &[
          2026, 10:00 Uhr.",
     ),
     (
+        "add-hours 2026-10-26T00:00:00+01:00 8736",
+        "8736 Stunden nach Montag, dem 26. Oktober 2026, 00:00 Uhr, ist es Montag, der 25. Oktober \
+         2027, 01:00 Uhr. Dazwischen wird die Uhr um eine Stunde vorgestellt.",
+    ),
+    (
+        "add-hours 2026-03-28T00:00:00+01:00 8784",
+        "8784 Stunden nach Samstag, dem 28. März 2026, 00:00 Uhr, ist es Montag, der 29. März \
+         2027, 01:00 Uhr.",
+    ),
+    (
+        "add-hours 2026-10-24T00:00:00+02:00 8952",
+        "8952 Stunden nach Samstag, dem 24. Oktober 2026, 00:00 Uhr, ist es Sonntag, der 31. \
+         Oktober 2027, 23:00 Uhr.",
+    ),
+    (
         "berlin-at 1996-01-01 00:00",
         "Montag, der 1. Januar 1996, 00:00 Uhr in Berlin ist Sonntag, der 31. Dezember 1995, \
          23:00 Uhr Weltzeit (UTC).",
@@ -271,7 +302,7 @@ pub const STEPS: &[(&str, &str)] = &[
     ),
     (
         "sub-werktage 2026-04-04 0",
-        "Mit 0 Werktagen bleibt es bei Samstag, dem 4. April 2026, ob Werktag oder nicht.",
+        "Mit 0 Werktagen bleibt es bei Samstag, dem 4. April 2026; das ist kein Werktag.",
     ),
     (
         "add-werktage 2026-05-21 2",
@@ -312,18 +343,18 @@ pub const STEPS: &[(&str, &str)] = &[
     (
         "add-werktage 2026-04-02 61",
         "Der 61. Werktag nach Donnerstag, dem 2. April 2026, ist Montag, der 6. Juli 2026.\n\
-         Übersprungen: 14 Samstage, 13 Sonntage und sieben Feiertage.",
+         Übersprungen: 14 Samstage, 14 Sonntage und sechs Feiertage an anderen Tagen.",
     ),
     (
         "sub-werktage 2026-07-06 61",
         "Der 61. Werktag vor Montag, dem 6. Juli 2026, ist Donnerstag, der 2. April 2026.\n\
-         Übersprungen: 14 Samstage, 13 Sonntage und sieben Feiertage.",
+         Übersprungen: 14 Samstage, 14 Sonntage und sechs Feiertage an anderen Tagen.",
     ),
     (
         "add-werktage 2025-12-31 249",
         "Der 249. Werktag nach Mittwoch, dem 31. Dezember 2025, ist Mittwoch, der 30. Dezember \
          2026.\n\
-         Übersprungen: 48 Samstage, 48 Sonntage und 19 Feiertage.",
+         Übersprungen: 52 Samstage, 52 Sonntage und elf Feiertage an anderen Tagen.",
     ),
 ];
 
@@ -389,13 +420,15 @@ pub const DUE: &[(&str, &str)] = &[
     ),
     (
         "aperak-gas 44001 2026-04-02T10:00:00+02:00",
-        "Eingang am Donnerstag, dem 2. April 2026, um 10:00 Uhr: Die APERAK auf Prüfidentifikator \
-         44001 (Initialprozess Gas) ist fällig mit Ablauf des Donnerstags, des 9. April 2026.",
+        "Eingang am Donnerstag, dem 2. April 2026, um 10:00 Uhr: Die APERAK auf eine Nachricht mit \
+         Prüfidentifikator 44001 (Initialprozess Gas) ist fällig mit Ablauf des Donnerstags, des \
+         9. April 2026.",
     ),
     (
         "aperak-gas 44002 2026-04-02T10:00:00+02:00",
-        "Eingang am Donnerstag, dem 2. April 2026, um 10:00 Uhr: Die APERAK auf Prüfidentifikator \
-         44002 (Folgeprozess Gas) ist fällig am Dienstag, dem 7. April 2026, um 12:00 Uhr.",
+        "Eingang am Donnerstag, dem 2. April 2026, um 10:00 Uhr: Die APERAK auf eine Nachricht mit \
+         Prüfidentifikator 44002 (Folgeprozess Gas) ist fällig am Dienstag, dem 7. April 2026, um \
+         12:00 Uhr.",
     ),
     (
         "frist WerktagAt 2 06:00 2026-04-02T10:00:00+02:00",
@@ -460,12 +493,26 @@ pub const DUE: &[(&str, &str)] = &[
     (
         "frist SameDayAt 12:00 2026-01-10T09:00:00+01:00",
         "Eingang am Samstag, dem 10. Januar 2026, um 09:00 Uhr: Die Frist endet am nächsten \
-         Werktag, am Montag, dem 12. Januar 2026, um 12:00 Uhr. Der Eingangstag ist kein Werktag.",
+         Werktag, am Montag, dem 12. Januar 2026, um 12:00 Uhr. Der Eingangstag ist kein Werktag: \
+         Samstag.",
     ),
     (
         "frist SameDayAt 12:00 2026-01-10T13:00:00+01:00",
         "Eingang am Samstag, dem 10. Januar 2026, um 13:00 Uhr: Die Frist endet am nächsten \
-         Werktag, am Montag, dem 12. Januar 2026, um 12:00 Uhr. Der Eingangstag ist kein Werktag.",
+         Werktag, am Montag, dem 12. Januar 2026, um 12:00 Uhr. Der Eingangstag ist kein Werktag: \
+         Samstag.",
+    ),
+    (
+        "frist SameDayAt 12:00 2026-12-24T09:00:00+01:00",
+        "Eingang am Donnerstag, dem 24. Dezember 2026, um 09:00 Uhr: Die Frist endet am nächsten \
+         Werktag, am Montag, dem 28. Dezember 2026, um 12:00 Uhr. Der Eingangstag ist kein \
+         Werktag: Heiligabend.",
+    ),
+    (
+        "frist SameDayAt 12:00 2026-05-24T13:00:00+02:00",
+        "Eingang am Sonntag, dem 24. Mai 2026, um 13:00 Uhr: Die Frist endet am nächsten Werktag, \
+         am Dienstag, dem 26. Mai 2026, um 12:00 Uhr. Der Eingangstag ist kein Werktag: \
+         Pfingstsonntag.",
     ),
     (
         "frist SameDayAt 00:00 2026-04-02T10:00:00+02:00",
@@ -691,9 +738,9 @@ pub const TWICE: &[(&str, &str)] = &[
     ),
     (
         "check-at Korridor 0 2026-10-25T02:30 2026-10-25T00:00 Strom",
-        "Frist gewahrt, kein Tag Luft: Übertragungstag Sonntag, 25. Oktober 2026, Termin Sonntag, \
-         25. Oktober 2026.\n\
-         Zulässig ist nur Sonntag, der 25. Oktober 2026.\n\
+        "Frist gewahrt, am letzten zulässigen Tag: Übertragung am Sonntag, dem 25. Oktober 2026, \
+         um 02:30 Uhr Sommerzeit, Termin Sonntag, 25. Oktober 2026, Sparte Strom.\n\
+         Zulässig ist nur der Termin am Sonntag, dem 25. Oktober 2026.\n\
          Der Übertragungstag muss der Termin selbst sein: Sonntag, der 25. Oktober 2026.\n\
          Am Sonntag, dem 25. Oktober 2026, zeigt die Uhr in Berlin zweimal 02:30 Uhr; gemeint ist \
          die frühere.",

@@ -5,7 +5,7 @@
 use super::json::object;
 use super::leser::Value;
 use super::zeilen::{fed, lines};
-use super::{printed, program, run, words, Random, CLOCKS, COUNTS, DATES, INSTANTS, SHAPES};
+use super::{program, run, words, Random, CLOCKS, COUNTS, DATES, INSTANTS, SHAPES};
 use mako_fristen_host::{Call, Date};
 use std::collections::{BTreeMap, BTreeSet};
 use std::fs;
@@ -358,8 +358,8 @@ fn the_bare_value_is_the_one_that_the_page_names() {
         for arguments in *answered {
             let line = format!("{command} {arguments}");
             let expected = short(&object(&line, 0), keys(table, command)[0]);
-            let printed = printed(&words(&format!("{line} --kurz")), 0);
-            assert_eq!(printed, format!("{expected}\n"), "{line}");
+            let printed = run(&words(&format!("{line} --kurz"))).stdout;
+            assert_eq!(String::from_utf8_lossy(&printed), format!("{expected}\n"), "{line}");
         }
     }
 }

@@ -2,16 +2,19 @@
 
 use crate::deutsch::{dem, den};
 use crate::sentences::anchor::TERMIN;
-use crate::sentences::rule;
-use crate::uebertragung::Uebertragungstage;
+use crate::sentences::{rule, skipped::line_of};
+use crate::skipped::{self, Skipped};
+use crate::uebertragung::{Monatsschritt, Uebertragungstage};
 use mako_fristen_host::{Date, Error, VorlaufShape};
 
-/// A shape and an anchor, with the transmission days that they allow.
+/// A shape and an anchor, with the transmission days that they allow, and how the last is counted.
 #[derive(Debug)]
 pub struct BisWann {
     pub shape: VorlaufShape,
     pub anchor: Date,
     pub days: Uebertragungstage,
+    months: Option<Monatsschritt>,
+    skipped: Skipped,
 }
 
 impl BisWann {
@@ -19,12 +22,19 @@ impl BisWann {
     ///
     /// Those of [`Uebertragungstage::of`].
     pub fn of((shape, anchor): (VorlaufShape, Date)) -> Result<BisWann, Error> {
-        Ok(BisWann { shape, anchor, days: Uebertragungstage::of(shape, anchor)? })
+        let days = Uebertragungstage::of(shape, anchor)?;
+        let months = Monatsschritt::of(shape, anchor)?;
+        // Months pass over nothing; Werktage are counted from the day to which they lead.
+        let skipped = match shape {
+            VorlaufShape::LatestMonateBefore(_) => Skipped::default(),
+            _ => skipped::between(months.map_or(anchor, |step| step.to), days.last)?,
+        };
+        Ok(BisWann { shape, anchor, days, months, skipped })
     }
 
-    /// The days first, then the rule.
+    /// The days first, then the rule, then what is passed over for the last of them.
     pub fn text(&self) -> String {
-        let (anchor, rule) = (dem(self.anchor), rule::of(self.shape, &TERMIN));
+        let (anchor, rule) = (dem(self.anchor), rule::of(self.shape, &TERMIN, self.months));
         let Uebertragungstage { first, last } = self.days;
         if self.days.is_empty() {
             return format!("Für den Termin am {anchor}, gibt es keinen Übertragungstag.\n{rule}");
@@ -34,6 +44,12 @@ impl BisWann {
             Some(first) => format!("von {}, bis {}, übertragen werden", dem(first), den(last)),
             None => format!("spätestens am {}, übertragen sein", dem(last)),
         };
-        format!("Für den Termin am {anchor}, muss die Nachricht {days}.\n{rule}")
+        // Of two days it would not be clear which is meant.
+        let label = match first {
+            Some(first) if first < last => "Zwischen dem spätesten Tag und dem Termin übersprungen",
+            _ => "Übersprungen",
+        };
+        let skipped = line_of(label, &self.skipped);
+        format!("Für den Termin am {anchor}, muss die Nachricht {days}.\n{rule}{skipped}")
     }
 }

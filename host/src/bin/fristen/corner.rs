@@ -1,4 +1,5 @@
-use mako_fristen_host::{is_werktag, BerlinTime, Error, FristShape, Instant};
+use crate::skipped::Closed;
+use mako_fristen_host::{BerlinTime, Error, FristShape, Instant};
 
 /// Where the due instant is not what the words of its shape say.
 #[derive(Clone, Copy, Debug, PartialEq, Eq)]
@@ -9,8 +10,8 @@ pub enum Corner {
     Eingangstag,
     /// The clock time had come when the message was received: it is the next Werktag.
     UhrzeitErreicht,
-    /// The day of the receipt is no Werktag: it is the next one.
-    KeinWerktag,
+    /// The day of the receipt is no Werktag but this: it is the next one.
+    KeinWerktag(Closed),
 }
 
 impl Corner {
@@ -23,8 +24,9 @@ impl Corner {
             FristShape::WerktagAt { werktage: 0, .. } => Some(Corner::NullWieEins),
             FristShape::EndOfWerktag(0) => Some(Corner::Eingangstag),
             FristShape::SameDayAt(_) if BerlinTime::of(due)?.date == received => None,
-            FristShape::SameDayAt(_) if is_werktag(received)? => Some(Corner::UhrzeitErreicht),
-            FristShape::SameDayAt(_) => Some(Corner::KeinWerktag),
+            FristShape::SameDayAt(_) => {
+                Some(Closed::on(received)?.map_or(Corner::UhrzeitErreicht, Corner::KeinWerktag))
+            }
             FristShape::WerktagAt { .. } | FristShape::EndOfWerktag(_) | FristShape::SameDay => {
                 None
             }
@@ -37,7 +39,7 @@ impl Corner {
             Corner::NullWieEins => "NullWieEins",
             Corner::Eingangstag => "Eingangstag",
             Corner::UhrzeitErreicht => "UhrzeitErreicht",
-            Corner::KeinWerktag => "KeinWerktag",
+            Corner::KeinWerktag(_) => "KeinWerktag",
         }
     }
 }

@@ -138,8 +138,9 @@ pub fn werktage(n: u32) -> String {
     count(n, "Werktag", "Werktage")
 }
 
-pub fn tage(n: u32) -> String {
-    count(n, "Tag", "Tage")
+/// A margin counts every day, and that is to be heard.
+pub fn kalendertage(n: u32) -> String {
+    count(n, "Kalendertag", "Kalendertage")
 }
 
 pub fn monate(n: u32) -> String {
@@ -165,7 +166,7 @@ pub fn in_worten(n: u32, one: &str, many: &str) -> String {
 /// `1 Tag, der kein Werktag ist`
 pub fn keine_werktage(n: u32) -> String {
     let none = if n == 1 { "der kein Werktag ist" } else { "die keine Werktage sind" };
-    format!("{}, {none}", tage(n))
+    format!("{}, {none}", count(n, "Tag", "Tage"))
 }
 
 fn count(n: u32, one: &str, many: &str) -> String {

@@ -5,7 +5,7 @@ mod line;
 use crate::arguments::Form;
 use crate::input::Input;
 use crate::lines::Line;
-use crate::outcome::{Outcome, Status};
+use crate::outcome::{hint, Outcome, Status};
 use crate::program;
 use crate::reply::Reply;
 use crate::run::Run;
@@ -62,7 +62,7 @@ fn answer(run: &mut Run, batch: &mut Batch, form: Form, status: bool) -> Result<
 fn say(run: &mut Run, line: u64, outcome: Outcome) -> Result<(), Outcome> {
     let Some((text, complaint, status)) = outcome.reply() else { return Err(outcome) };
     for note in outcome.notes() {
-        let note = format!("{}: Zeile {line}: Hinweis: {note}.\n", program::name());
+        let note = format!("{}: Zeile {line}: {}\n", program::name(), hint(note));
         run.name_line(&note, status)?;
     }
     if !complaint.is_empty() {

@@ -118,10 +118,8 @@ impl Outcome {
     pub fn print(&self) -> ExitCode {
         for note in &self.notes {
             // A note that cannot be written changes no answer.
-            let _ = write(
-                &mut io::stderr().lock(),
-                &format!("{}: Hinweis: {note}.\n", program::name()),
-            );
+            let text = format!("{}: {}\n", program::name(), hint(note));
+            let _ = write(&mut io::stderr().lock(), &text);
         }
         let written = write(&mut Output::standard(), &self.text)
             .and_then(|()| write(&mut io::stderr().lock(), &self.complaint));
@@ -136,6 +134,12 @@ impl Outcome {
         );
         ExitCode::from(status as u8)
     }
+}
+
+/// A note as a sentence, which may be a question.
+pub fn hint(note: &str) -> String {
+    let end = if note.ends_with('?') { "" } else { "." };
+    format!("Hinweis: {note}{end}")
 }
 
 /// Where there is nothing to write, it does not matter whether it could be.

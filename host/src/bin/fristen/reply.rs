@@ -97,7 +97,7 @@ impl Reply<'_> {
         Outcome::answer(place).complaining(complaint).ending(Status::Refused)
     }
 
-    /// The mark of a line is a word, since '3: 1 Tag zu spät' would be heard as one number.
+    /// The mark of a line is a word, since '3: 1 Kalendertag zu spät' would be heard as one number.
     fn sentences(&self, text: &str) -> String {
         match self.line {
             Some(line) => format!("Zeile {line}: {}\n", text.replace('\n', " ")),

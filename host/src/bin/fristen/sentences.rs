@@ -7,7 +7,7 @@ mod berlin;
 mod fristen;
 mod kalender;
 pub mod rule;
-mod skipped;
+pub mod skipped;
 mod vorlauf;
 
 pub use kalender::cut_day;

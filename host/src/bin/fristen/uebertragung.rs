@@ -1,6 +1,8 @@
 //! The transmission days that an anchor allows.
 
-use mako_fristen_host::{is_werktag, sub_werktage, Date, Error, Judgement, Refusal, VorlaufShape};
+use mako_fristen_host::{
+    is_werktag, sub_werktage, subtract_months, Date, Error, Judgement, Refusal, VorlaufShape,
+};
 
 /// From the first, if there is one, to the last; none of them if the first is later.
 #[derive(Clone, Copy, Debug, PartialEq, Eq)]
@@ -19,6 +21,31 @@ impl Uebertragungstage {
 
     pub fn is_empty(self) -> bool {
         self.first.is_some_and(|first| first > self.last)
+    }
+}
+
+/// The step of a shape by months, from the anchor.
+#[derive(Clone, Copy, Debug, PartialEq, Eq)]
+pub struct Monatsschritt {
+    pub from: Date,
+    pub to: Date,
+}
+
+impl Monatsschritt {
+    /// None of a shape without months.
+    ///
+    /// # Errors
+    ///
+    /// None where there are transmission days.
+    pub fn of(shape: VorlaufShape, anchor: Date) -> Result<Option<Monatsschritt>, Error> {
+        match shape {
+            VorlaufShape::LatestMonateBefore(n @ 1..)
+            | VorlaufShape::LatestMonateUndWerktageBefore { monate: n @ 1.., .. } => {
+                let to = subtract_months(anchor, n)?;
+                Ok(Some(Monatsschritt { from: anchor, to }))
+            }
+            _ => Ok(None),
+        }
     }
 }
 

@@ -40,7 +40,7 @@ Luft sind oder zu spät; „margin“ in --json wie bei check. Hat der Fall kein
 es kein Urteil und „margin“ ist null; das heißt nicht, dass die Frist gewahrt ist.",
         examples: &[Example::new(
             "abmeldung ZT0 --eeg nein 2026-01-08 2026-01-12",
-            "Frist gewahrt, kein Tag Luft: Übertragungstag Donnerstag, 8. Januar 2026, \
+            "Frist gewahrt, am letzten zulässigen Tag: Übertragungstag Donnerstag, 8. Januar 2026, \
              Zuordnungsende Montag, 12. Januar 2026, Grund „ZT0“, keine EEG-Marktlokation.\n\
              Zulässig ist ein Zuordnungsende ab Samstag, dem 10. Januar 2026.\n\
              Spätester Übertragungstag ist der Tag vor dem letzten Werktag vor dem Zuordnungsende: \

@@ -32,9 +32,9 @@ nichts ausgegeben.",
         "\
 Zeile 2: Eingang am Samstag, dem 10. Januar 2026, um 12:00 Uhr: Die CONTRL auf ALOCAT Gas ist \
 fällig am Samstag, dem 10. Januar 2026, um 12:45 Uhr.
-Zeile 3: Frist gewahrt, kein Tag Luft: Übertragungstag Freitag, 9. Januar 2026, Termin Montag, \
-12. Januar 2026. Zulässig sind Termine ab Samstag, dem 10. Januar 2026. Spätester Übertragungstag \
-ist der 1. Werktag vor dem Termin: Freitag, der 9. Januar 2026.",
+Zeile 3: Frist gewahrt, am letzten zulässigen Tag: Übertragungstag Freitag, 9. Januar 2026, Termin \
+Montag, 12. Januar 2026. Zulässig sind Termine ab Samstag, dem 10. Januar 2026. Spätester \
+Übertragungstag ist der 1. Werktag vor dem Termin: Freitag, der 9. Januar 2026.",
     )
     .with_file("fragen.txt", FILE)],
 }];

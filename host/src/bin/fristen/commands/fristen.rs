@@ -128,9 +128,9 @@ am Sonntag um 12:00 Uhr.",
 Folgeprozess.",
         examples: &[Example::new(
             "aperak-gas 44001 2026-04-02T10:00:00+02:00",
-            "Eingang am Donnerstag, dem 2. April 2026, um 10:00 Uhr: Die APERAK auf \
-             Prüfidentifikator 44001 (Initialprozess Gas) ist fällig mit Ablauf des Donnerstags, \
-             des 9. April 2026.",
+            "Eingang am Donnerstag, dem 2. April 2026, um 10:00 Uhr: Die APERAK auf eine Nachricht \
+             mit Prüfidentifikator 44001 (Initialprozess Gas) ist fällig mit Ablauf des \
+             Donnerstags, des 9. April 2026.",
         )],
     },
     Command {
@@ -141,7 +141,8 @@ Folgeprozess.",
         options: &[],
         summary: "der Zeitpunkt N Stunden später",
         meaning: "\
-N Stunden später, an jedem Tag. Wird die Uhr dazwischen umgestellt, so steht es dabei.",
+N Stunden später, an jedem Tag. Wird die Uhr dazwischen einmal umgestellt, so steht es
+dabei.",
         examples: &[Example::new(
             "add-hours 2026-03-29T01:30:00+01:00 1",
             "1 Stunde nach Sonntag, dem 29. März 2026, 01:30 Uhr, ist es Sonntag, der 29. März \

@@ -14,8 +14,9 @@ Keine Werktage sind die Samstage, die Sonntage und die Feiertage der Liste, die 
 allen Jahren dieselbe ist, dazu der 24. und der 31. Dezember (GPKE Teil 1).
 Samstag und Sonntag gehen einem Feiertag vor, der dann hinter „auch“ steht (in
 --json „also“); dort steht auch Ostersonntag, der keiner der Liste ist. Von zwei
-Feiertagen an einem Tag wird der mit der kleineren Nummer genannt. An welchen
-Tagen sie in einem Jahr liegen, zeigt kalender.",
+Feiertagen an einem Tag wird der mit der kleineren Nummer zuerst genannt; Christi
+Himmelfahrt am 1. Mai steht hinter „auch“. An welchen Tagen sie in einem Jahr
+liegen, zeigt kalender.",
         examples: &[Example::new(
             "tag 2026-11-18",
             "Mittwoch, der 18. November 2026, ist kein Werktag: Buß- und Bettag.",
@@ -47,7 +48,7 @@ was übersprungen wird.",
         meaning: "\
 Der N-te Werktag nach dem Tag, der selbst nicht mitzählt. Mit 0 der Tag selbst,
 ob Werktag oder nicht. Darunter steht, was übersprungen wird: Feiertage mit Namen,
-auch an einem Samstag oder Sonntag, und in einer langen Zeit, wie viele es sind.",
+auch an einem Samstag oder Sonntag, und in einer langen Zeit, wie viele Tage es sind.",
         examples: &[Example::new(
             "add-werktage 2026-04-02 1",
             "Der 1. Werktag nach Donnerstag, dem 2. April 2026, ist Dienstag, der 7. April 2026.\n\

@@ -23,14 +23,14 @@ vor jenem. In --bytes das 29. bis 32. Byte, im Zweierkomplement, das
 niederwertigste zuerst.",
         examples: &[Example::new(
             "check LatestWerktageBefore 1 2026-01-10 2026-01-12",
-            "1 Tag zu spät: Übertragungstag Samstag, 10. Januar 2026, Termin Montag, 12. Januar \
-             2026.\n\
+            "1 Kalendertag zu spät: Übertragungstag Samstag, 10. Januar 2026, Termin Montag, 12. \
+             Januar 2026.\n\
              Zulässig sind Termine ab Dienstag, dem 13. Januar 2026.\n\
              Spätester Übertragungstag ist der 1. Werktag vor dem Termin: Freitag, der 9. Januar \
              2026.\n\
-             Es fehlt kein Werktag; zu spät ist es um 1 Tag, der kein Werktag ist.\n\
-             Die Quelle nennt als frühesten Termin Montag, den 12. Januar 2026; zulässig ist er \
-             nicht.",
+             Zu spät ist es um 1 Tag, der kein Werktag ist.\n\
+             Die Quelle mako-fristen nennt als frühesten Termin Montag, den 12. Januar 2026; \
+             zulässig ist er nicht.",
         ), Example::new(
             "check Zeitfenster 5 2 13.4.2026 24.4.2026",
             "Zu früh: Übertragungstag Montag, 13. April 2026, Termin Freitag, 24. April 2026.\n\
@@ -60,8 +60,8 @@ der Sparte gegeben, sonst wird abgelehnt (7). SPARTE ist Strom oder Gas.",
         examples: &[Example::new(
             "check-at TagVorDemLetztenWerktagVor 2026-01-08T10:00:00+01:00 \
              2026-01-09T00:00:00+01:00 Strom",
-            "1 Tag zu spät: Übertragungstag Donnerstag, 8. Januar 2026, Termin Freitag, 9. Januar \
-             2026.\n\
+            "1 Kalendertag zu spät: Übertragung am Donnerstag, dem 8. Januar 2026, um 10:00 Uhr, \
+             Termin Freitag, 9. Januar 2026, Sparte Strom.\n\
              Zulässig sind Termine ab Samstag, dem 10. Januar 2026.\n\
              Spätester Übertragungstag ist der Tag vor dem letzten Werktag vor dem Termin: \
              Mittwoch, der 7. Januar 2026.\n\
@@ -94,12 +94,14 @@ einer oder keiner. Darunter die Regel.",
         summary: "bis wann eine Nachricht für ihren Termin übertragen sein muss",
         meaning: "\
 Der späteste Übertragungstag für den Termin, bei Zeitfenster und Korridor auch der
-früheste. Darunter die Regel. --bytes gibt es hier nicht.",
+früheste. Darunter die Regel und, was zwischen dem spätesten und dem Termin
+übersprungen wird. --bytes gibt es hier nicht.",
         examples: &[Example::new(
             "bis-wann WerktageVorher 1 7.4.2026",
             "Für den Termin am Dienstag, dem 7. April 2026, muss die Nachricht spätestens am \
              Donnerstag, dem 2. April 2026, übertragen sein.\n\
-             Spätester Übertragungstag ist der 1. Werktag vor dem Termin.",
+             Spätester Übertragungstag ist der 1. Werktag vor dem Termin.\n\
+             Übersprungen: Karfreitag, ein Samstag, Ostersonntag, Ostermontag.",
         )],
     },
 ];

@@ -25,13 +25,13 @@ pub fn day(inquiry: &Inquiry, answer: Option<&Answer>) -> Result<Members, Error>
 pub fn step(inquiry: &Inquiry, answer: Option<&Answer>) -> Result<Members, Error> {
     let to: Option<Date> = answer.map(|given| given.read(inquiry.call)).transpose()?;
     let passed = to.map(|to| skipped::by(inquiry, to)).transpose()?;
-    Ok([date(to), vec![("skipped", passed.map(skipped).into())]].concat())
+    Ok([date(to), vec![("skipped", passed.map(|passed| skipped(passed.kinds)).into())]].concat())
 }
 
 /// A step by months.
 pub fn months(inquiry: &Inquiry, answer: Option<&Answer>) -> Result<Members, Error> {
     let to: Option<Date> = answer.map(|given| given.read(inquiry.call)).transpose()?;
-    let cut = to.and_then(|to| cut_day(inquiry, to));
+    let cut = to.and_then(|to| cut_day(inquiry.question.date, to));
     Ok([date(to), vec![("cut_day", cut.into())]].concat())
 }
 

@@ -1,4 +1,5 @@
 use super::anchor::ZUORDNUNGSENDE;
+use super::rule;
 use super::vorlauf::verdict;
 use crate::ankuendigung::Fenster;
 use crate::deutsch::{am, dem, tag};
@@ -6,9 +7,24 @@ use crate::inquiry::Inquiry;
 use crate::usage::quoted_bytes;
 use mako_fristen_host::{AbmeldungVorlauf, BerlinTime, Eeg, Error, Judgement};
 
-/// The reason, the mark where it matters, and the case.
+/// The reason, the mark where it matters, and the rule of the case, or why it has none.
 pub fn heading(inquiry: &Inquiry, case: AbmeldungVorlauf) -> Result<String, Error> {
-    Ok(format!("{}: {}", reason(inquiry, case)?, case.beschreibung()))
+    let rule = match case.shape() {
+        Some(shape) => rule::of(shape, &ZUORDNUNGSENDE, None),
+        None => with_a_mark(case, "steht die Frist fest"),
+    };
+    Ok(format!("{}: {rule}", reason(inquiry, case)?))
+}
+
+/// Why a case has no shape; where a mark would give one, what there is with it.
+fn with_a_mark(case: AbmeldungVorlauf, there_is: &str) -> String {
+    let why = case.beschreibung();
+    match case {
+        AbmeldungVorlauf::Unbestimmt => {
+            format!("{why}\nMit --eeg ja oder --eeg nein {there_is}.")
+        }
+        _ => why.to_owned(),
+    }
 }
 
 fn reason(inquiry: &Inquiry, case: AbmeldungVorlauf) -> Result<String, Error> {
@@ -30,7 +46,7 @@ pub fn judged(inquiry: &Inquiry, judged: Option<Judgement>) -> Result<String, Er
         Some(given) => verdict(inquiry, given, &ZUORDNUNGSENDE, &what),
         None => Ok(format!(
             "Kein Urteil, also auch nicht „Frist gewahrt“: {what}\n{}",
-            case.beschreibung()
+            with_a_mark(case, "gibt es ein Urteil")
         )),
     }
 }
@@ -47,15 +63,18 @@ pub fn ankuendigung(inquiry: &Inquiry, in_time: Option<bool>) -> Result<String, 
         ));
     };
     let window = Fenster::vor(begin)?;
-    let word = match in_time {
-        true => "Fristgerecht",
-        false if window.is_early(received) => "Zu früh",
-        false => "Zu spät",
-    };
+    let werktag = dem(window.werktag);
+    if in_time {
+        return Ok(format!(
+            "Fristgerecht: {what}\n\
+             Fristgerecht ist die Ankündigung am letzten Werktag vor dem Zuordnungsbeginn von \
+             00:00 bis 13:00 Uhr: am {werktag}."
+        ));
+    }
+    let word = if window.is_early(received) { "Zu früh" } else { "Zu spät" };
     Ok(format!(
         "{word}: {what}\n\
-         Fristgerecht ist die Ankündigung am letzten Werktag vor dem Zuordnungsbeginn von 00:00 \
-         bis 13:00 Uhr: am {}.",
-        dem(window.werktag)
+         Fristgerecht wäre sie nur am letzten Werktag vor dem Zuordnungsbeginn gewesen, am \
+         {werktag}, von 00:00 bis 13:00 Uhr."
     ))
 }

@@ -1,4 +1,4 @@
-use crate::deutsch::{dem, den, der};
+use crate::deutsch::{dem, den};
 use crate::inquiry::Inquiry;
 use mako_fristen_host::{Date, Error, Span};
 
@@ -48,12 +48,14 @@ impl Anchor {
             ),
             Some(Span::From(first)) => format!("Zulässig {are_allowed} ab {}.", dem(first)),
             Some(Span::Between(first, last)) if first == last => {
-                format!("Zulässig ist nur {}.", der(first))
+                format!("Zulässig ist nur {} {} am {}.", self.article, self.noun, dem(first))
             }
             Some(Span::Between(first, last)) => {
                 format!("Zulässig {are_allowed} von {}, bis {}.", dem(first), den(last))
             }
-            Some(Span::Empty) => format!("Zulässig ist {}.", self.none),
+            Some(Span::Empty) => {
+                format!("Für diesen Übertragungstag ist {} zulässig.", self.none)
+            }
         }
     }
 
@@ -66,10 +68,11 @@ impl Anchor {
         }
         let judged = match (inquiry.accepts(named)?, allowed) {
             (false, _) => format!("zulässig ist {it} nicht"),
-            (true, None) => format!("zulässig ist {it}"),
-            (true, Some(_)) => format!("zulässig ist {it}, {the_earliest} ist {it} nicht"),
+            (true, None) => format!("{it} ist zulässig"),
+            (true, Some(_)) => format!("{it} ist zulässig, aber nicht {the_earliest}"),
         };
-        Ok(Some(format!("Die Quelle nennt als {earliest} {}; {judged}.", den(named))))
+        let named = den(named);
+        Ok(Some(format!("Die Quelle mako-fristen nennt als {earliest} {named}; {judged}.")))
     }
 }
 
@@ -87,15 +90,21 @@ mod tests {
                 Span::Between(monday, friday),
                 "% von Montag, dem 5. Januar 2026, bis Freitag, den 9. Januar 2026.",
             ),
-            (Span::Between(friday, friday), "Zulässig ist nur Freitag, der 9. Januar 2026."),
         ];
         for (span, expected) in rows {
             let of = |begin| expected.replace('%', begin);
             assert_eq!(TERMIN.allowed(Some(span)), of("Zulässig sind Termine"));
             assert_eq!(ZUORDNUNGSENDE.allowed(Some(span)), of("Zulässig ist ein Zuordnungsende"));
         }
-        assert_eq!(TERMIN.allowed(Some(Span::Empty)), "Zulässig ist kein Termin.");
-        assert_eq!(ZUORDNUNGSENDE.allowed(Some(Span::Empty)), "Zulässig ist kein Zuordnungsende.");
+        let one = Some(Span::Between(friday, friday));
+        let of_one = "am Freitag, dem 9. Januar 2026.";
+        assert_eq!(TERMIN.allowed(one), format!("Zulässig ist nur der Termin {of_one}"));
+        let ende = format!("Zulässig ist nur das Zuordnungsende {of_one}");
+        assert_eq!(ZUORDNUNGSENDE.allowed(one), ende);
+        let none = Some(Span::Empty);
+        let day = "Für diesen Übertragungstag ist";
+        assert_eq!(TERMIN.allowed(none), format!("{day} kein Termin zulässig."));
+        assert_eq!(ZUORDNUNGSENDE.allowed(none), format!("{day} kein Zuordnungsende zulässig."));
         let beyond =
             "reicht über den Kalender vom 1. Januar 1996 bis zum 31. Dezember 2899 hinaus.";
         assert_eq!(TERMIN.allowed(None), format!("Die Spanne der zulässigen Termine {beyond}"));

@@ -10,10 +10,15 @@ use mako_fristen_host::{
 /// The most seconds of a Frist in hours or minutes; one by days is longer.
 const IN_HOURS: i64 = 6 * 3600;
 
+/// From a switch of the clock to the next in the same direction are no fewer hours: within them one
+/// lies between a time in winter and one in summer, and not three.
+const ONE_SWITCH: u32 = 364 * 24;
+
 pub fn hours(inquiry: &Inquiry, to: Instant) -> Result<String, Error> {
     let (n, to) = (inquiry.question.n, BerlinTime::of(to)?);
     let from = BerlinTime::of(inquiry.question.instant)?;
-    let (shown, switched) = (with_clock(from, dem), umgestellt(from, to));
+    let shown = with_clock(from, dem);
+    let switched = if n <= ONE_SWITCH { umgestellt(from, to) } else { "" };
     Ok(match n {
         0 => format!("Mit 0 Stunden bleibt es bei {shown}."),
         n => {
@@ -37,7 +42,7 @@ pub fn shaped(inquiry: &Inquiry, due: Instant) -> Result<String, Error> {
     let (from, to) = (am(BerlinTime::of(received)?), faellig(BerlinTime::of(due)?));
     let ends = match corner {
         // Its own words would name another day.
-        Some(Corner::UhrzeitErreicht | Corner::KeinWerktag) => {
+        Some(Corner::UhrzeitErreicht | Corner::KeinWerktag(_)) => {
             format!("Die Frist endet am nächsten Werktag, {to}.")
         }
         _ => format!("Die Frist {} endet {to}.", frist(shape)),
@@ -72,7 +77,9 @@ fn why(corner: Corner, shape: FristShape) -> String {
             let clock = shape.clock().unwrap_or_default().uhr();
             format!("Am Eingangstag war {clock} schon erreicht.")
         }
-        Corner::KeinWerktag => "Der Eingangstag ist kein Werktag.".to_owned(),
+        Corner::KeinWerktag(closed) => {
+            format!("Der Eingangstag ist kein Werktag: {}.", closed.name())
+        }
     }
 }
 
@@ -162,7 +169,7 @@ pub fn gas(inquiry: &Inquiry, GasDue { kind, due }: GasDue) -> Result<String, Er
     };
     let pid = inquiry.question.n;
     let message = if inquiry.call == Call::AperakGasDueAt {
-        format!("Die APERAK auf Prüfidentifikator {pid} ({process})")
+        format!("Die APERAK auf eine Nachricht mit Prüfidentifikator {pid} ({process})")
     } else {
         format!("Die APERAK im {process}")
     };

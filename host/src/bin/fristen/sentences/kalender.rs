@@ -2,7 +2,7 @@ use super::skipped;
 use crate::deutsch::{dem, den, der, monat, monate, werktage};
 use crate::inquiry::Inquiry;
 use crate::skipped::Closed;
-use mako_fristen_host::{Date, DayReason, Error, WerktageBetween};
+use mako_fristen_host::{is_werktag, Date, DayReason, Error, WerktageBetween};
 
 pub fn day(inquiry: &Inquiry, reason: DayReason) -> Result<String, Error> {
     let day = der(inquiry.question.date);
@@ -25,7 +25,10 @@ pub fn next(inquiry: &Inquiry, to: Date) -> Result<String, Error> {
 pub fn step(inquiry: &Inquiry, to: Date, side: &str) -> Result<String, Error> {
     let (from, skipped) = (inquiry.question.date, skipped::line(inquiry, to)?);
     Ok(match inquiry.question.n {
-        0 => format!("Mit 0 Werktagen bleibt es bei {}, ob Werktag oder nicht.", dem(from)),
+        0 => {
+            let werktag = if is_werktag(from)? { "ein Werktag" } else { "kein Werktag" };
+            format!("Mit 0 Werktagen bleibt es bei {}; das ist {werktag}.", dem(from))
+        }
         n => format!("Der {n}. Werktag {side} {}, ist {}.{skipped}", dem(from), der(to)),
     })
 }
@@ -46,17 +49,19 @@ pub fn months(inquiry: &Inquiry, to: Date, side: &str) -> String {
     if n == 0 {
         return format!("Mit 0 Monaten bleibt es bei {}.", dem(from));
     }
-    let shifted = format!("{}, liegt {} {side} {}.", der(to), monate(n), dem(from));
-    let Some(day) = cut_day(inquiry, to) else {
-        return shifted;
-    };
-    let (month, year) = (monat(to.month), to.year);
-    format!(
-        "{shifted} Einen {day}. hat der {month} {year} nicht; es gilt sein letzter Tag (§ 188 BGB)."
-    )
+    let cut = cut(from, to).map_or(String::new(), |cut| format!(" {cut}"));
+    format!("{}, liegt {} {side} {}.{cut}", der(to), monate(n), dem(from))
 }
 
-/// The day that the month does not have, if the step was cut to its last.
-pub fn cut_day(inquiry: &Inquiry, to: Date) -> Option<u8> {
-    Some(inquiry.question.date.day).filter(|day| *day != to.day)
+/// Where a step by months was cut to the last day of its month, that it was.
+pub fn cut(from: Date, to: Date) -> Option<String> {
+    let (day, month, year) = (cut_day(from, to)?, monat(to.month), to.year);
+    Some(format!(
+        "Einen {day}. hat der {month} {year} nicht; es gilt sein letzter Tag (§ 188 BGB)."
+    ))
+}
+
+/// The day that the month does not have.
+pub fn cut_day(from: Date, to: Date) -> Option<u8> {
+    Some(from.day).filter(|day| *day != to.day)
 }

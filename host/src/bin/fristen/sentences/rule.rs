@@ -1,42 +1,61 @@
 //! The rule of a Vorlauffrist, with the days to which it leads.
 
-use super::anchor::Anchor;
-use crate::deutsch::{dem, den, der, monate};
-use crate::uebertragung::Uebertragungstage;
+use super::anchor::{Anchor, TERMIN};
+use super::kalender::cut;
+use crate::deutsch::{dem, den, der, kalendertage, monate};
+use crate::uebertragung::{Monatsschritt, Uebertragungstage};
 use mako_fristen_host::{Date, VorlaufShape};
 
-/// Without its days.
-pub fn of(shape: VorlaufShape, anchor: &Anchor) -> String {
+/// Without its days but the one to which a step by months leads, if that is known.
+pub fn of(shape: VorlaufShape, anchor: &Anchor, months: Option<Monatsschritt>) -> String {
     match closes_early(shape) {
         Some((opens, closes)) => {
             backwards(&werktag(opens, "vor", anchor), &werktag(closes, "vor", anchor))
         }
-        None => format!("{}.", rule(shape, anchor)),
+        None => format!("{}.{}", rule(shape, anchor, months), cut_of(months)),
     }
 }
 
-/// With the one day to which it leads.
-pub fn with_day(shape: VorlaufShape, anchor: &Anchor, day: Date) -> String {
-    format!("{}: {}.", rule(shape, anchor), der(day))
+/// With the earliest Termin, and where the one given lies, so many days behind it.
+pub fn with_earliest(shape: VorlaufShape, first: Date, margin: i32) -> String {
+    let days = kalendertage(margin.unsigned_abs());
+    let given = match margin {
+        0 => "ist dieser Tag".to_owned(),
+        1.. => format!("liegt {days} danach"),
+        _ => format!("liegt {days} davor"),
+    };
+    format!("{}: {}; der Termin {given}.", rule(shape, &TERMIN, None), der(first))
 }
 
 /// With the transmission days.
-pub fn with_days(shape: VorlaufShape, anchor: &Anchor, days: Uebertragungstage) -> String {
+pub fn with_days(
+    shape: VorlaufShape,
+    anchor: &Anchor,
+    days: Uebertragungstage,
+    months: Option<Monatsschritt>,
+) -> String {
     let Uebertragungstage { first, last } = days;
+    let rule = rule(shape, anchor, months);
     match (first, closes_early(shape)) {
         (Some(first), Some((opens, closes))) => {
             let named = |n, day| format!("{}, {}", werktag(n, "vor", anchor), der(day));
             backwards(&named(opens, first), &named(closes, last))
         }
         (Some(first), None) if first < last => {
-            format!("{}: von {}, bis {}.", rule(shape, anchor), dem(first), den(last))
+            format!("{rule}: von {}, bis {}.", dem(first), den(last))
         }
-        _ => with_day(shape, anchor, last),
+        _ => format!("{rule}: {}.{}", der(last), cut_of(months)),
     }
 }
 
+/// Behind the rule, where the month lacks the day.
+fn cut_of(months: Option<Monatsschritt>) -> String {
+    let cut = months.and_then(|Monatsschritt { from, to }| cut(from, to));
+    cut.map_or(String::new(), |cut| format!(" {cut}"))
+}
+
 /// The counts of a window that closes before it opens.
-fn closes_early(shape: VorlaufShape) -> Option<(u32, u32)> {
+pub fn closes_early(shape: VorlaufShape) -> Option<(u32, u32)> {
     match shape {
         VorlaufShape::WindowWerktageBefore { earliest, latest } if earliest < latest => {
             Some((earliest, latest))
@@ -53,7 +72,7 @@ fn backwards(opens: &str, closes: &str) -> String {
 }
 
 /// Without a full stop.
-fn rule(shape: VorlaufShape, anchor: &Anchor) -> String {
+fn rule(shape: VorlaufShape, anchor: &Anchor, step: Option<Monatsschritt>) -> String {
     match shape {
         VorlaufShape::LatestWerktageBefore(n) => latest(&werktag(n, "vor", anchor)),
         VorlaufShape::WindowWerktageBefore { earliest, latest } => window(earliest, latest, anchor),
@@ -72,9 +91,9 @@ fn rule(shape: VorlaufShape, anchor: &Anchor) -> String {
         VorlaufShape::TagVorDemLetztenWerktagVor => {
             latest(&format!("der Tag vor dem letzten Werktag vor dem {}", anchor.noun))
         }
-        VorlaufShape::LatestMonateBefore(n) => months(n, 0, anchor),
+        VorlaufShape::LatestMonateBefore(n) => months(n, 0, anchor, step),
         VorlaufShape::LatestMonateUndWerktageBefore { monate, werktage } => {
-            months(monate, werktage, anchor)
+            months(monate, werktage, anchor, step)
         }
     }
 }
@@ -102,13 +121,14 @@ fn window(earliest: u32, latest: u32, anchor: &Anchor) -> String {
     }
 }
 
-fn months(months: u32, werktage: u32, anchor: &Anchor) -> String {
+fn months(months: u32, werktage: u32, anchor: &Anchor, step: Option<Monatsschritt>) -> String {
     let (noun, before) = (anchor.noun, monate(months));
     match (months, werktage) {
         (0, n) => latest(&werktag(n, "vor", anchor)),
         (_, 0) => format!("Der späteste Übertragungstag liegt {before} vor dem {noun}"),
         (_, n) => {
-            latest(&format!("der {n}. Werktag vor dem Tag, der {before} vor dem {noun} liegt"))
+            let day = step.map_or(String::new(), |step| format!(", {}", dem(step.to)));
+            latest(&format!("der {n}. Werktag vor dem Tag, der {before} vor dem {noun} liegt{day}"))
         }
     }
 }

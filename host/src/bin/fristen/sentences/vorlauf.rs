@@ -1,18 +1,31 @@
 use super::anchor::{Anchor, TERMIN};
 use super::rule;
-use crate::deutsch::{keine_werktage, tag, tage, werktage, werktagen};
+use crate::deutsch::{am, der, kalendertage, keine_werktage, tag, werktage, werktagen};
+use crate::errors::unless_refused;
 use crate::inquiry::Inquiry;
-use crate::uebertragung::{opening, Uebertragungstage};
-use mako_fristen_host::{Date, Error, Judgement, Refusal, Span, VorlaufShape, VorlaufVerdict};
+use crate::uebertragung::{last, opening, Monatsschritt, Uebertragungstage};
+use mako_fristen_host::{
+    is_werktag, BerlinTime, Date, Error, Judgement, Parameter, Refusal, Span, VorlaufShape,
+    VorlaufVerdict,
+};
 
 pub fn spanned(inquiry: &Inquiry, span: Span) -> Result<String, Error> {
     let (from, allowed) = (tag(inquiry.transmission_day()?), TERMIN.allowed(Some(span)));
-    Ok(format!("Übertragungstag {from}: {allowed}\n{}", rule::of(inquiry.shape()?, &TERMIN)))
+    Ok(format!("Übertragungstag {from}: {allowed}\n{}", rule::of(inquiry.shape()?, &TERMIN, None)))
 }
 
 pub fn judged(inquiry: &Inquiry, given: Judgement) -> Result<String, Error> {
-    let (from, to) = (tag(inquiry.transmission_day()?), tag(inquiry.anchor()?));
-    verdict(inquiry, given, &TERMIN, &format!("Übertragungstag {from}, Termin {to}."))
+    verdict(inquiry, given, &TERMIN, &what(inquiry)?)
+}
+
+/// What was read: an instant by Berlin's clock, from which its day is taken.
+fn what(inquiry: &Inquiry) -> Result<String, Error> {
+    let to = tag(inquiry.anchor()?);
+    if inquiry.call.takes(Parameter::Instant) {
+        let (from, sparte) = (BerlinTime::of(inquiry.question.instant)?, inquiry.sparte()?);
+        return Ok(format!("Übertragung {}, Termin {to}, Sparte {sparte}.", am(from)));
+    }
+    Ok(format!("Übertragungstag {}, Termin {to}.", tag(inquiry.transmission_day()?)))
 }
 
 /// A line each: the verdict with its margin and `what` was judged, which dates are allowed, the
@@ -24,14 +37,12 @@ pub fn verdict(
     what: &str,
 ) -> Result<String, Error> {
     let shape = inquiry.shape()?;
-    let mut lines = vec![
-        format!("{}: {what}", heading(shape, given)),
-        anchor.allowed(inquiry.allowed()?),
-        ruled(inquiry, shape, given.margin, anchor)?,
-    ];
+    let heading = format!("{}: {what}", heading(shape, given));
+    let mut lines = vec![heading, anchor.allowed(inquiry.allowed()?)];
+    lines.extend(ruled(inquiry, shape, given.margin, anchor)?);
     match given.verdict {
         VorlaufVerdict::Ok => {}
-        VorlaufVerdict::TooEarly { excess_wt } => lines.push(too_early(inquiry, excess_wt)?),
+        VorlaufVerdict::TooEarly { excess_wt } => lines.extend(too_early(inquiry, excess_wt)?),
         VorlaufVerdict::TooLate { shortfall_wt, earliest_possible } => {
             lines.push(missing(shape, given.margin.unsigned_abs(), shortfall_wt));
             lines.extend(anchor.named(earliest_possible, inquiry)?);
@@ -46,65 +57,71 @@ fn is_of_the_termin(shape: VorlaufShape) -> bool {
     matches!(shape, VorlaufShape::EarliestWerktageAfter(_))
 }
 
+/// The margin of the anchor has its place beside the rule.
 fn heading(shape: VorlaufShape, Judgement { verdict, margin }: Judgement) -> String {
-    let days = margin.unsigned_abs();
+    let days = kalendertage(margin.unsigned_abs());
     match (verdict, is_of_the_termin(shape)) {
         (VorlaufVerdict::TooEarly { .. }, _) => "Zu früh".to_owned(),
-        (VorlaufVerdict::TooLate { .. }, false) => format!("{} zu spät", tage(days)),
-        (VorlaufVerdict::TooLate { .. }, true) => {
-            format!("Zu spät, der Termin liegt {} zu früh", tage(days))
+        (VorlaufVerdict::TooLate { .. }, true) => "Zu spät".to_owned(),
+        (VorlaufVerdict::TooLate { .. }, false) => format!("{days} zu spät"),
+        (VorlaufVerdict::Ok, true) => "Frist gewahrt".to_owned(),
+        (VorlaufVerdict::Ok, false) if margin == 0 => {
+            "Frist gewahrt, am letzten zulässigen Tag".to_owned()
         }
-        (VorlaufVerdict::Ok, of_termin) => format!("Frist gewahrt, {}", to_spare(of_termin, days)),
+        (VorlaufVerdict::Ok, false) => format!("Frist gewahrt, noch {days} Luft"),
     }
 }
 
-fn to_spare(of_the_termin: bool, days: u32) -> String {
-    match (of_the_termin, days) {
-        (false, 0) => "kein Tag Luft".to_owned(),
-        (false, _) => format!("noch {} Luft", tage(days)),
-        (true, 0) => "zum frühesten Termin".to_owned(),
-        (true, _) => format!("der Termin liegt {} nach dem frühesten", tage(days)),
-    }
-}
-
-/// The first Termin is as far from the one given as the margin says.
+/// The rule with its days, a line or two. The first Termin is as far from the one given as the
+/// margin says.
 fn ruled(
     inquiry: &Inquiry,
     shape: VorlaufShape,
     margin: i32,
     anchor: &Anchor,
-) -> Result<String, Error> {
+) -> Result<Vec<String>, Error> {
     let given = inquiry.anchor()?;
     if is_of_the_termin(shape) {
         let first = given.plus_days(-i64::from(margin)).ok_or(Refusal::LeavesCalendar)?;
-        return Ok(rule::with_day(shape, anchor, first));
+        let last = unless_refused(last(shape, given))?
+            .map(|last| format!("Spätester Übertragungstag für diesen Termin ist {}.", der(last)));
+        return Ok([rule::with_earliest(shape, first, margin)].into_iter().chain(last).collect());
     }
-    Ok(rule::with_days(shape, anchor, Uebertragungstage::of(shape, given)?))
+    let (days, months) = (Uebertragungstage::of(shape, given)?, Monatsschritt::of(shape, given)?);
+    Ok(vec![rule::with_days(shape, anchor, days, months)])
 }
 
 /// Where no Werktag is missing, by how many days: none of them is one.
 fn missing(shape: VorlaufShape, days: u32, n: u32) -> String {
     let after_the_anchor =
         matches!(shape, VorlaufShape::LatestWerktageAfter(_) | VorlaufShape::Korridor(_));
-    let none = keine_werktage(days);
     match n {
-        0 if after_the_anchor => format!("Zu spät ist es um {none}."),
-        0 if is_of_the_termin(shape) => {
-            format!("Es fehlt kein Werktag; zu früh liegt der Termin um {none}.")
-        }
-        0 => format!("Es fehlt kein Werktag; zu spät ist es um {none}."),
+        0 => format!("Zu spät ist es um {}.", keine_werktage(days)),
         _ if after_the_anchor => format!("Die Nachricht kommt um {} zu spät.", werktage(n)),
         1 => "Es fehlt 1 Werktag.".to_owned(),
         _ => format!("Es fehlen {}.", werktage(n)),
     }
 }
 
-fn too_early(inquiry: &Inquiry, n: u32) -> Result<String, Error> {
-    if n > 0 {
-        return Ok(format!("Der Zeitraum beginnt erst in {}.", werktagen(n)));
-    }
-    let first = opening(inquiry.shape()?, inquiry.anchor()?)?.and_then(Date::day_number);
-    let days = first.zip(inquiry.transmission_day()?.day_number());
-    let days = days.and_then(|(first, day)| u32::try_from(first - day).ok());
-    Ok(format!("Zu früh ist es um {}.", keine_werktage(days.unwrap_or_default())))
+/// How far it is to the opening day. Where the period ends before it begins, nobody need wait.
+fn too_early(inquiry: &Inquiry, n: u32) -> Result<Option<String>, Error> {
+    let (shape, day) = (inquiry.shape()?, inquiry.transmission_day()?);
+    let opening = opening(shape, inquiry.anchor()?)?;
+    let Some(first) = opening.filter(|_| rule::closes_early(shape).is_none()) else {
+        return Ok(None);
+    };
+    Ok(Some(match n {
+        0 => format!("Zu früh ist es um {}.", keine_werktage(days(day, first))),
+        _ if !is_werktag(first)? => {
+            format!("Zu früh ist es um {}.", kalendertage(days(day, first)))
+        }
+        1 => "Der Zeitraum beginnt am nächsten Werktag.".to_owned(),
+        n => format!("Der Zeitraum beginnt erst in {}.", werktagen(n)),
+    }))
+}
+
+/// From a day to a later one.
+fn days(from: Date, to: Date) -> u32 {
+    let days = to.day_number().zip(from.day_number()).map(|(to, from)| to - from);
+    days.and_then(|days| u32::try_from(days).ok()).unwrap_or_default()
 }
