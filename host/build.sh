@@ -21,7 +21,8 @@ interrupted() {
         wait "$job"
     fi 2>/dev/null
     tool_ended
-    rm -f -- "$started" "$archive.new" "$proved.new" "$built.new" "$seen.new"
+    rm -f -- "$started" "$built.new" "$seen.new"
+    [[ -n $library ]] || rm -f -- "$archive.new" "$proved.new"
     echo "fristen: abgebrochen; der nächste Aufruf baut weiter." >&2
     kill -s "$1" "$$"
 }
@@ -108,7 +109,7 @@ caller_is_there() {
 # where this call was killed, and itself with the tool.
 follow() {
     local group line part='' shown='' status=0
-    trap '' HUP INT TERM
+    trap '' HUP INT PIPE TERM
     IFS= read -r group
     while ((status == 0 || status > 128)); do
         IFS= read -r -t 1 line
@@ -134,7 +135,7 @@ run_tool() {
 tool_ended() {
     [[ -n $reader ]] || return
     exec 8>&-
-    wait "$reader"
+    wait "$reader" 2>/dev/null
     reader=
 }
 
@@ -194,7 +195,7 @@ lock() {
     { mkdir -p -- "$target/host" "$target/staticlib" && exec 9>"$target/fristen.lock"; } 2>/dev/null || return
     command -v flock >/dev/null && ! flock -w 1 9 || return 0
     echo "fristen: wartet, bis ein anderer Aufruf fertig gebaut hat ..." >&2
-    wait_for flock 9
+    wait_for flock 9 >/dev/null
 }
 
 trap 'interrupted HUP' HUP
