@@ -10,7 +10,7 @@ const DEACTIVATION: &str = "ZQ7";
 
 pub fn of(inquiry: &Inquiry) -> Vec<String> {
     let reason = if inquiry.call.takes(Parameter::Reason) { reason(&inquiry.reason) } else { None };
-    let hints = [reason, pid(inquiry), inquiry.vorlauf.and_then(window), backwards(inquiry)];
+    let hints = [reason, pid(inquiry), inquiry.vorlauf.and_then(window), swapped(inquiry)];
     hints.into_iter().flatten().collect()
 }
 
@@ -31,8 +31,8 @@ pub fn window(shape: VorlaufShape) -> Option<String> {
     Some(format!("VON ist kleiner als BIS; meinten Sie Zeitfenster {closes} {opens}?"))
 }
 
-/// An anchor before the transmission day, where only a slip makes it so: the two may be swapped.
-fn backwards(inquiry: &Inquiry) -> Option<String> {
+/// An anchor before the transmission day, where it is too late in any case: the two may be swapped.
+fn swapped(inquiry: &Inquiry) -> Option<String> {
     let Anchor { article, .. } = may_not_be_past(inquiry)?;
     let (day, anchor) = (inquiry.question.date, inquiry.question.date2);
     let are_dates = day.is_in_calendar() && anchor.is_in_calendar();

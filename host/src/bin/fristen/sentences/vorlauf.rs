@@ -103,7 +103,8 @@ fn missing(shape: VorlaufShape, days: u32, n: u32) -> String {
     }
 }
 
-/// How far it is to the opening day. Where the period ends before it begins, nobody need wait.
+/// How far it is to the opening day; nothing where the period ends before it begins. Only a Termin
+/// itself may open a period without being a Werktag, and then Werktage lead to another day.
 fn too_early(inquiry: &Inquiry, n: u32) -> Result<Option<String>, Error> {
     let (shape, day) = (inquiry.shape()?, inquiry.transmission_day()?);
     let opening = opening(shape, inquiry.anchor()?)?;
