@@ -363,7 +363,7 @@ fn both_tools_are_there_before_one_is_called() {
 /// What a terminal shows, of this kind.
 fn shown(tree: &Tree, kind: &str) -> String {
     let mut call = tree.command("script");
-    call.args(["-qec", "./fristen -c :", "/dev/null"]).env("TERM", kind);
+    call.args(["-qec", "./fristen -c :", "/dev/null"]).env("TERM", kind).env("SHELL", "/bin/sh");
     let output = call.output().expect("it runs");
     assert_eq!(output.status.code(), Some(0), "{kind}");
     text(&output.stdout).replace("\r\n", "\n")
@@ -637,6 +637,19 @@ fn what_is_installed() {
         assert_eq!(files(&tree.at(folder)).len(), INSTALLED.len());
     }
     assert_eq!(files(&tree.at("tmp")), [""; 0]);
+}
+
+/// It is the link that is replaced, not a file of that folder.
+#[test]
+fn a_link_to_a_folder_in_the_place_of_a_file() {
+    let tree = installing("abgelegt-link");
+    tree.write("woanders/datei", "old");
+    fs::create_dir_all(tree.at("usr/bin")).expect("it is made");
+    symlink("../../woanders", tree.at("usr/bin/fristen")).expect("it is a link");
+    let output = install(&tree).arg("usr").output().expect("it runs");
+    assert_eq!((output.status.code(), text(&output.stderr)), (Some(0), ""));
+    assert_eq!(fs::read_to_string(tree.at("usr/bin/fristen")).expect("a file"), PROGRAM);
+    assert_eq!(files(&tree.at("woanders")), ["datei"]);
 }
 
 /// The real one: what is installed needs nothing of the repository.
