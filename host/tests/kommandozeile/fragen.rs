@@ -183,8 +183,8 @@ fn lines_that_cannot_be_read_are_named_and_the_others_answered() {
              MonateUndWerktageVorher (Aufbau: span FORM [ZAHLEN] ÜBERTRAGUNGSTAG)"),
         (
             b"contrl Fall @0",
-            "ANLASS: erwartet Regelfall, StromUtilmdOderOrders oder GasAlocat, nicht „Fall“. Meinten Sie Regelfall? (Aufbau: \
-             contrl ANLASS EINGANG)",
+            "ANLASS: erwartet Regelfall, StromUtilmdOderOrders oder GasAlocat, nicht „Fall“. Meinten \
+             Sie Regelfall? (Aufbau: contrl ANLASS EINGANG)",
         ),
         (
             b"frist SameDay @0 --json",
