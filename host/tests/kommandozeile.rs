@@ -281,8 +281,8 @@ fn refusals_with_their_number() {
         (3, "tag 9999-99-99"),
         (3, "kalender 1995"),
         (3, "kalender 4294967295"),
-        (3, "kalender 4294967296"),
         (3, "abmeldung ZQ7 --eeg ja 2026-01-08 2026-02-29"),
+        (3, "berlin-date 2026-02-29T00:00:00Z"),
         (3, "ankuendigung 2026-01-12T00:00:00Z 1995-01-01"),
         (3, "contrl Regelfall 2026-06-05T12:00:00Z --stichtag 2026-02-29"),
         (3, "contrl-due-at-change GasAlocat 1995-01-01T00:00:00Z 2900-01-01"),
@@ -293,6 +293,7 @@ fn refusals_with_their_number() {
         (4, "contrl Regelfall 1995-01-01T00:00:00Z --stichtag=1996-01-01"),
         (4, "check-at Korridor 1 2026-01-12T00:00:00Z 9999-12-31T00:00:00Z Gas"),
         (5, "berlin-at 2026-01-01 24:00"),
+        (5, "berlin-date 2016-12-31T23:59:60Z"),
         (5, "next-werktag-at 2026-01-01T00:00:00Z 00:00:60"),
         (6, "berlin-at 2026-03-29 02:30"),
         (6, "frist SameDayAt 02:00 2026-03-29T12:00:00Z"),
@@ -370,27 +371,38 @@ const WRONG: &[(&str, &str)] = &[
     ("tag 2026-4-2", "DATUM: erwartet ein Datum wie 2026-04-02 oder 2.4.2026, nicht „2026-4-2“"),
     ("tag 2026-01-01 5", "zu viel: „5“"),
     ("tag 2026-01-01 --eeg ja", "--eeg gehört nicht zu diesem Befehl"),
-    ("add-werktage 2026-01-01 -1", "N: erwartet eine Zahl von 0 bis 4294967295, nicht „-1“"),
-    ("add-werktage 2026-01-01 4294967296", "N: erwartet eine Zahl von 0 bis 4294967295"),
+    ("add-werktage 2026-01-01 -1", "N: erwartet eine Zahl wie 5, nicht „-1“"),
+    (
+        "add-werktage 1 2026-01-01",
+        "DATUM: erwartet ein Datum wie 2026-04-02 oder 2.4.2026, nicht „1“",
+    ),
+    ("check WerktageVorher 2.4.2026 7.4.2026", "es fehlt: N, eine Zahl vor „2.4.2026“"),
+    ("add-werktage 2026-01-01 4294967296", "N: erwartet höchstens 4294967295, nicht „4294967296“"),
     ("add-werktage 2026-01-01 +1", "N: erwartet eine Zahl"),
     ("berlin-at 2026-01-01 1", "UHRZEIT: erwartet eine Uhrzeit wie 13:00"),
+    ("berlin-date 2026-01-01", "ZEITPUNKT: erwartet zum Datum eine Uhrzeit, wie 2026-01-01 11:59"),
+    ("berlin-date heute 11", "ZEITPUNKT: erwartet zum Datum eine Uhrzeit, wie heute 11:00, nicht"),
+    ("berlin-date 11:00", "ZEITPUNKT: erwartet zur Uhrzeit ein Datum, wie heute 11:00, nicht"),
     (
-        "berlin-date 2026-01-01",
-        "ZEITPUNKT: erwartet zum Datum eine Uhrzeit, wie „2026-03-31 11:59“",
+        "berlin-date bald",
+        "ZEITPUNKT: erwartet einen Zeitpunkt wie 31.3.2026 11:59 oder heute 11:59",
     ),
-    ("berlin-date 11:00", "ZEITPUNKT: erwartet einen Zeitpunkt wie „2026-03-31 11:59“ in Berlin"),
     ("berlin-date @1774000000.", "oder @SEKUNDEN seit 1970, nicht „@1774000000.“"),
-    ("berlin-date 2026-02-29T00:00:00Z", "ZEITPUNKT: erwartet einen Tag, den es gibt"),
-    ("berlin-date 2016-12-31T23:59:60Z", "ZEITPUNKT: erwartet eine Stunde bis 23"),
     ("berlin-date 2016-12-31T23:59:59+24:00", "ZEITPUNKT: erwartet einen Abstand zu UTC"),
     ("contrl Fall 2026-01-01T00:00:00Z", "erwartet Regelfall, StromUtilmdOderOrders oder Gas"),
     ("tagesbeginn-utc 2026-01-01 Wasser", "SPARTE: erwartet Strom oder Gas, nicht „Wasser“"),
-    ("frist Morgen", "erwartet WerktagAt, EndOfWerktag, SameDayAt oder SameDay"),
+    (
+        "frist Morgen",
+        "FORM: erwartet WerktagUm, EndeDesWerktags, SelberTagUm oder SelberTag, nicht",
+    ),
     ("frist WerktagAt 1", "es fehlt: UHRZEIT"),
     ("check LatestWerktageBefore", "es fehlt: N"),
     ("check WindowWerktageBefore 1", "es fehlt: BIS"),
     ("check LatestMonateUndWerktageBefore", "es fehlt: MONATE"),
-    ("span Frist 1 2026-01-01", "erwartet LatestWerktageBefore, WindowWerktageBefore"),
+    ("span Frist 1 2026-01-01", "FORM: erwartet WerktageVorher, Zeitfenster, WerktageNachher, "),
+    ("span", "es fehlt: FORM, also WerktageVorher, Zeitfenster, WerktageNachher, "),
+    ("bis-wann Fenster 5 2", "nicht „Fenster“. Meinten Sie Zeitfenster?"),
+    ("contrl utilmd", "nicht „utilmd“. Meinten Sie StromUtilmdOderOrders?"),
     ("abmeldung-fuer Z33", "es fehlt: --eeg ja|nein|unbekannt"),
     ("abmeldung-fuer Z33 --eeg", "erwartet ja, nein oder unbekannt nach --eeg"),
     ("abmeldung-fuer Z33 --eeg vielleicht", "--eeg: erwartet nein, ja oder unbekannt"),
@@ -408,8 +420,8 @@ const WRONG: &[(&str, &str)] = &[
     ("contrl Regelfall @0 2026-06-06", "zu viel: „2026-06-06“"),
     ("contrl Regelfall --stichtag 2026-06-06", "es fehlt: EINGANG"),
     (
-        "contrl Regelfall @0 --Stichtag 2026-06-06",
-        "unbekannte Option „--Stichtag“. Meinten Sie --stichtag?",
+        "contrl Regelfall @0 --Stichtga 2026-06-06",
+        "unbekannte Option „--Stichtga“. Meinten Sie --stichtag?",
     ),
     ("contrl-due-at-change Regelfall @0", "es fehlt: STICHTAG"),
     ("contrl-due-at-change Regelfall @0 6.6.26", "STICHTAG: erwartet ein Datum wie 2026-04-02"),
@@ -422,8 +434,16 @@ const WRONG: &[(&str, &str)] = &[
     ("kalender 2026 --stichtag 2026-06-06", "--stichtag gehört nicht zu diesem Befehl"),
     ("fragen - --stichtag 2026-06-06", "--stichtag gehört nicht zu diesem Befehl"),
     ("portfolio - --stichtag 2026-06-06", "--stichtag gehört nicht zu diesem Befehl"),
-    ("kalender abc", "JAHR: erwartet ein Jahr wie 2026 oder einen Monat wie 2026-04, nicht „abc“"),
-    ("kalender 2026 -2026", "JAHR: erwartet ein Jahr wie 2026 oder einen Monat wie 2026-04, nicht"),
+    (
+        "kalender abc",
+        "JAHR: erwartet ein Jahr wie 2026 oder einen Monat wie 12.2026 oder Dezember,",
+    ),
+    ("kalender 12", "oder einen Monat wie 12.2026 oder Dezember, nicht „12“"),
+    ("kalender 4294967296", "JAHR: erwartet ein Jahr wie 2026"),
+    (
+        "kalender 2026 -2026",
+        "JAHR: erwartet ein Jahr wie 2026 oder einen Monat wie 12.2026 oder Dezember",
+    ),
     ("kalender 2026 --bytes", "--bytes gibt es zu diesem Befehl nicht"),
     ("tag 2026-01-01 --json --bytes", "erwartet nur eines von --json, --bytes und --kurz"),
     ("tag 2026-01-01 --kurz --json", "erwartet nur eines von --json, --bytes und --kurz"),
@@ -458,7 +478,9 @@ fn a_call_of_no_command() {
     let help = printed(&["--help"], 0);
     assert_eq!(help, printed(&["help"], 0));
     assert_eq!(help, printed(&["-h", "--json"], 0));
-    assert_eq!(help, printed(&["hilfe"], 0));
+    assert_eq!(help, printed(&["Hilfe"], 0));
+    assert_eq!(help, printed(&["hilfe", "help"], 0));
+    assert_eq!(help, printed(&["--HILFE"], 0));
     assert_eq!(complaint::<&str>(&[]), help);
     let wrong = [
         ("gestern", "unbekannter Befehl „gestern“\n"),
@@ -468,7 +490,11 @@ fn a_call_of_no_command() {
             "unbekannter Befehl „add-wertkage“. Meinten Sie add-werktage?",
         ),
         ("Prüfe Korridor 1", "unbekannter Befehl „Prüfe“. Meinten Sie pruefen?"),
-        ("help kalendar", "unbekannter Befehl „kalendar“. Meinten Sie kalender?"),
+        ("help kalendar", "unbekannter Befehl „kalendar“. Meinten Sie kalender?\nMehr: "),
+        ("hilf tag", "unbekannter Befehl „hilf“. Meinten Sie hilfe?"),
+        ("aperak-gas-f", "Meinten Sie aperak-gas?"),
+        ("aperak", "Meinten Sie aperak-strom, "),
+        ("bis wann", "Meinten Sie bis-wann?"),
         ("help gestern", "unbekannter Befehl „gestern“"),
         ("gestern --help", "unbekannter Befehl „gestern“"),
         ("help tag check", "zu viel: „check“"),
@@ -480,7 +506,10 @@ fn a_call_of_no_command() {
         assert!(complaint(&words(line)).contains(expected), "{line}");
     }
     let expected = complaint(&["gestern"]);
-    assert!(expected.contains("\n  Kalender: tag, next-werktag, add-werktage, "), "{expected}");
+    assert!(
+        expected.contains("\n  Kalender: tag, naechster-werktag, werktage-nach, "),
+        "{expected}"
+    );
     assert_eq!(help.matches("mf_").count(), 1, "only the example of a host call's name");
 }
 

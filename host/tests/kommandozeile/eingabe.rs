@@ -38,7 +38,9 @@ fn a_date_in_any_of_its_forms() {
 #[test]
 fn today_tomorrow_and_yesterday_are_berlins() {
     let today = || berlin_date(Instant::from(SystemTime::now())).expect("a day of the calendar");
-    for (word, days) in [("heute", 0), ("Morgen", 1), ("GESTERN", -1)] {
+    let days =
+        [("heute", 0), ("Morgen", 1), ("GESTERN", -1), ("Übermorgen", 2), ("vorgestern", -2)];
+    for (word, days) in days {
         let before = today();
         let said = printed(&["next-werktag", word], 0);
         let day = |date: Date| date.plus_days(days).expect("a date").to_string();
@@ -62,6 +64,10 @@ fn an_instant_by_berlins_clock() {
         "contrl Regelfall 2026-03-31 11:00",
         "contrl Regelfall 2026-03-31T11:00",
         "contrl Regelfall 31.3.2026 11:00:00,0",
+        "contrl Regelfall 31.3.2026 um 11 Uhr",
+        "contrl Regelfall 31.3.2026 11:00 Uhr",
+        "contrl Regelfall 2026-03-31 11:00 +02:00",
+        "contrl Regelfall 2026-03-31 09:00 Z",
         "contrl Regelfall 2026-03-31T11:00+0200",
         "contrl Regelfall 2026-03-31T09:00:00Z",
         "contrl Regelfall @1774947600",
@@ -77,6 +83,7 @@ fn an_instant_by_berlins_clock() {
         "check-at Korridor 1 2026-01-12 00:00 12.1.2026 06:00 Gas",
     ]);
     assert_same(&["berlin-at 2026-10-25 02:30:00.5", "berlin-at 25.10.2026 2:30:00,5"]);
+    assert_same(&["berlin-at 2026-10-25 13:00", "berlin-at 2026-10-25 13:00 Uhr"]);
     assert!(complaint(&words("next-werktag-at 2026-04-02 11:00")).contains("es fehlt: UHRZEIT"));
 }
 
@@ -202,9 +209,19 @@ const REFUSED: &[(&str, &str)] = &[
     ),
     (
         "contrl Regelfall 2026-06-05 12:00 --stichtag 2026-06-31",
-        "(3): 2026-06-31: der Juni 2026 hat 30 Tage.",
+        "(3): STICHTAG 2026-06-31: der Juni 2026 hat 30 Tage.",
     ),
     ("contrl Regelfall 2026-02-30 12:00", "(3): EINGANG 2026-02-30: der Februar 2026 hat 28 Tage."),
+    ("contrl Regelfall 2026-02-30T12:00Z", "(3): EINGANG 2026-02-30: der Februar 2026 hat 28 Tage."),
+    (
+        "ankuendigung 2026-01-09 13:00 2026-02-30",
+        "(3): ZUORDNUNGSBEGINN 2026-02-30: der Februar 2026 hat 28 Tage.",
+    ),
+    (
+        "check-at WerktageVorher 1 2026-01-40 13:00 2026-02-30T00:00 Strom",
+        "(3): ÜBERTRAGEN 2026-01-40: der Januar 2026 hat 31 Tage. TERMINBEGINN 2026-02-30: der Februar \
+         2026 hat 28 Tage.",
+    ),
     (
         "bis-wann Korridor 1 2026-02-30",
         "(3): 2026-02-30: der Februar 2026 hat 28 Tage.",
@@ -280,8 +297,8 @@ const REFUSED: &[(&str, &str)] = &[
     ),
     (
         "add-hours 2899-12-31 22:00 3",
-        "(8): Der Zeitpunkt 3 Stunden danach liegt hinter dem 31. Dezember 2899, dem letzten Tag des \
-         Kalenders.",
+        "(8): Der Zeitpunkt 3 Stunden nach Donnerstag, dem 31. Dezember 2899, 22:00 Uhr, liegt hinter dem \
+         31. Dezember 2899, dem letzten Tag des Kalenders.",
     ),
     (
         "frist EndOfWerktag 1 2899-12-31 12:00",
@@ -308,13 +325,56 @@ const REFUSED: &[(&str, &str)] = &[
     ),
     (
         "span LatestMonateBefore 4294967295 2026-01-01",
-        "(8): Die Spanne der zulässigen Termine verlässt den Kalender vom 1. Januar 1996 bis zum 31. \
-         Dezember 2899.",
+        "(8): Der erste zulässige Termin liegt hinter dem 31. Dezember 2899, dem letzten Tag des \
+         Kalenders.",
+    ),
+    (
+        "span Korridor 1 1996-01-01",
+        "(8): Der erste zulässige Termin liegt vor dem 1. Januar 1996, dem ersten Tag des Kalenders.",
+    ),
+    (
+        "span Korridor 1 2899-12-31",
+        "(8): Der letzte zulässige Termin liegt hinter dem 31. Dezember 2899, dem letzten Tag des \
+         Kalenders.",
+    ),
+    (
+        "span WindowWerktageBefore 5 0 2899-12-29",
+        "(8): Der letzte zulässige Termin liegt hinter dem 31. Dezember 2899, dem letzten Tag des \
+         Kalenders.",
+    ),
+    (
+        "span LatestWerktageAfter 1 1996-01-02",
+        "(8): Der erste zulässige Termin liegt vor dem 1. Januar 1996, dem ersten Tag des Kalenders.",
     ),
     (
         "check Korridor 1 1996-01-01 1996-01-01",
-        "(8): Der späteste Übertragungstag oder ein anderer Tag, den das Urteil braucht, liegt nicht im \
-         Kalender vom 1. Januar 1996 bis zum 31. Dezember 2899.",
+        "(8): Der früheste Übertragungstag für den Termin am Montag, dem 1. Januar 1996, liegt vor dem \
+         1. Januar 1996, dem ersten Tag des Kalenders.",
+    ),
+    (
+        "check LatestWerktageBefore 1 1996-01-01 1996-01-02",
+        "(8): Der späteste Übertragungstag für den Termin am Dienstag, dem 2. Januar 1996, liegt vor dem \
+         1. Januar 1996, dem ersten Tag des Kalenders.",
+    ),
+    (
+        "check LatestMonateBefore 1 2899-12-15 2899-12-31",
+        "(8): Der früheste Termin für diesen Übertragungstag liegt hinter dem 31. Dezember 2899, dem \
+         letzten Tag des Kalenders.",
+    ),
+    (
+        "check EarliestWerktageAfter 5 2899-12-29 2899-12-31",
+        "(8): Der früheste Termin für diesen Übertragungstag liegt hinter dem 31. Dezember 2899, dem \
+         letzten Tag des Kalenders.",
+    ),
+    (
+        "abmeldung Z33 --eeg ja 2899-12-15 2899-12-31",
+        "(8): Das früheste Zuordnungsende für diesen Übertragungstag liegt hinter dem 31. Dezember 2899, \
+         dem letzten Tag des Kalenders.",
+    ),
+    (
+        "abmeldung Z33 --eeg ja 1996-01-01 1996-01-15",
+        "(8): Der späteste Übertragungstag für das Zuordnungsende am Montag, dem 15. Januar 1996, liegt \
+         vor dem 1. Januar 1996, dem ersten Tag des Kalenders.",
     ),
 ];
 
@@ -359,7 +419,8 @@ fn german_names() {
         for other in words(others) {
             assert_same(&[line, &format!("{other} {operands}")]);
             let help = printed(&["help", other], 0);
-            assert_eq!(help, printed(&["help", name], 0), "{other}");
+            assert_eq!(printed(&[other, "--help"], 0), help);
+            assert!(help.contains(name), "{help}");
         }
     }
 }
@@ -420,7 +481,9 @@ fn the_help_shows_each_shape_with_an_example() {
 #[test]
 fn calendars_of_months_and_of_several_years() {
     let april = printed(&["kalender", "2026-04"], 0);
-    assert_eq!(april, printed(&["kalender", "4.2026"], 0));
+    for words in [&["4.2026"][..], &["4/2026"], &["April", "2026"], &["april 2026"]] {
+        assert_eq!(april, printed(&[&["kalender"], words].concat(), 0), "{words:?}");
+    }
     assert!(april.starts_with("Kalender April 2026 (* kein Werktag)\n\nApril: 20 Werktage\n"));
     assert!(april
         .ends_with("\n 6. April      Montag      Ostermontag\n\nApril 2026 hat 20 Werktage.\n"));

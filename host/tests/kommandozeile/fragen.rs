@@ -74,8 +74,9 @@ fn single(line: &str, number: usize, form: &[&str]) -> String {
 #[test]
 fn a_file_in_each_form() {
     let input = format!("# Montag\n\n{SPAN}\n{REFUSED}\n{CHECK}\n");
-    let no_end = "Die Spanne der zulässigen Termine verlässt den Kalender vom 1. Januar 1996 bis \
-                  zum 31. Dezember 2899.";
+    let no_end =
+        "Der erste zulässige Termin liegt hinter dem 31. Dezember 2899, dem letzten Tag des \
+                  Kalenders.";
     let late =
         "1 Tag zu spät: Übertragungstag Samstag, 10. Januar 2026, Termin Montag, 12. Januar 2026. \
          Zulässig sind Termine ab Dienstag, dem 13. Januar 2026. Spätester Übertragungstag ist der \
@@ -166,25 +167,26 @@ fn nothing_asked_is_nothing_answered() {
 #[test]
 fn lines_that_cannot_be_read_are_named_and_the_others_answered() {
     let cases: [(&[u8], &str); 13] = [
-        (b"gestern", "erwartet contrl, frist, check oder span, nicht „gestern“"),
-        (b"tag 2026-01-01", "erwartet contrl, frist, check oder span, nicht „tag“"),
+        (b"gestern", "erwartet contrl, frist, pruefen oder spanne, nicht „gestern“"),
+        (b"tag 2026-01-01", "tag gibt es in einer Datei nicht; erwartet contrl, frist, pruefen oder spanne"),
         (
             b"spna Korridor 1 2026-01-01",
-            "erwartet contrl, frist, check oder span, nicht „spna“. Meinten Sie span?",
+            "erwartet contrl, frist, pruefen oder spanne, nicht „spna“. Meinten Sie span?",
         ),
         (
             b"span Koridor 1 2026-01-01",
-            "FORM [ZAHLEN]: erwartet LatestWerktageBefore, WindowWerktageBefore, \
-             LatestWerktageAfter, EarliestWerktageAfter, Korridor, TagVorDemLetztenWerktagVor, \
-             LatestMonateBefore oder LatestMonateUndWerktageBefore, nicht „Koridor“. Meinten Sie \
-             Korridor? (Aufbau: span FORM [ZAHLEN] ÜBERTRAGUNGSTAG)",
+            "FORM: erwartet WerktageVorher, Zeitfenster, WerktageNachher, TerminNachWerktagen, \
+             Korridor, TagVorLetztemWerktag, MonateVorher oder MonateUndWerktageVorher, nicht \
+             „Koridor“. Meinten Sie Korridor? (Aufbau: span FORM [ZAHLEN] ÜBERTRAGUNGSTAG)",
         ),
-        (b"--json", "erwartet contrl, frist, check oder span, nicht „--json“"),
-        (b"span", "es fehlt: FORM [ZAHLEN] (Aufbau: span FORM [ZAHLEN] ÜBERTRAGUNGSTAG)"),
+        (b"--json", "erwartet contrl, frist, pruefen oder spanne, nicht „--json“"),
+        (b"span", "es fehlt: FORM, also WerktageVorher, Zeitfenster, WerktageNachher, \
+             TerminNachWerktagen, Korridor, TagVorLetztemWerktag, MonateVorher oder \
+             MonateUndWerktageVorher (Aufbau: span FORM [ZAHLEN] ÜBERTRAGUNGSTAG)"),
         (
             b"contrl Fall @0",
-            "ANLASS: erwartet Regelfall, StromUtilmdOderOrders oder GasAlocat, nicht „Fall“ (Aufbau: \
-             contrl ANLASS EINGANG)",
+            "ANLASS: erwartet Regelfall, StromUtilmdOderOrders oder GasAlocat, nicht „Fall“. Meinten \
+             Sie Regelfall? (Aufbau: contrl ANLASS EINGANG)",
         ),
         (
             b"frist SameDay @0 --json",
@@ -197,11 +199,12 @@ fn lines_that_cannot_be_read_are_named_and_the_others_answered() {
         ),
         (
             b"contrl-due-at-change Regelfall @0 2026-06-06",
-            "erwartet contrl, frist, check oder span, nicht „contrl-due-at-change“",
+            "contrl-due-at-change gibt es in einer Datei nicht; erwartet contrl, frist, pruefen oder \
+             spanne",
         ),
         (
             b"check Korridor -1 2026-01-01 2026-01-01",
-            "N: erwartet eine Zahl von 0 bis 4294967295, nicht „-1“ (Aufbau: check FORM [ZAHLEN] \
+            "N: erwartet eine Zahl wie 5, nicht „-1“ (Aufbau: check FORM [ZAHLEN] \
              ÜBERTRAGUNGSTAG TERMIN)",
         ),
         (b"span Korridor 1 2026-01-01 2", "zu viel: „2“ (Aufbau: span FORM [ZAHLEN] ÜBERTRAGUNGSTAG)"),
@@ -224,7 +227,7 @@ fn lines_that_cannot_be_read_are_named_and_the_others_answered() {
 #[test]
 fn a_complaint_stands_between_the_answers() {
     let path = file("dazwischen.txt", format!("{SPAN}\ngestern\n{SPAN}\nheute\n"));
-    let expected = "erwartet contrl, frist, check oder span, nicht";
+    let expected = "erwartet contrl, frist, pruefen oder spanne, nicht";
     let expected = format!(
         "Zeile 1: {SPANNED}\n\
          fristen: Zeile 2: {expected} „gestern“\n\

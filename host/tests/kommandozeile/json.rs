@@ -584,7 +584,7 @@ const REFUSED: &[(&str, &str)] = &[
         "bis-wann Korridor 1 2026-02-30",
         r#"{"shape":"Korridor","count":1,"count2":null,"date2":"2026-02-30"}"#,
     ),
-    ("kalender 4294967296", r#"{"year":4294967295,"month":null}"#),
+    ("kalender 4294967295", r#"{"year":4294967295,"month":null}"#),
 ];
 
 /// What is expected: in one line, with the instants in place of their names.

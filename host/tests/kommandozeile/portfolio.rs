@@ -100,7 +100,7 @@ fn a_line_that_cannot_be_read_is_named_and_keeps_its_place() {
     let cases: [(&[u8], String); 9] = [
         (b"morgens", no_date("VON", "morgens")),
         (b"Beginn;Ende", no_date("VON", "Beginn")),
-        (b"30.06.2025;30.06.35", no_date("BIS", "30.06.35")),
+        (b"30.06.2025;30.06.35", no_date("BIS", "30.06.35") + ". Meinten Sie 30.6.2035?"),
         (b"2025-06-30;offen", no_date("BIS", "offen")),
         (b"2025-06-30;", "es fehlt: BIS".to_owned()),
         (b";2025-06-30", "es fehlt: VON".to_owned()),

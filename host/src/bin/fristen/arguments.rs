@@ -58,12 +58,12 @@ impl Arguments {
         let mut read = Arguments::default();
         let mut left = arguments.into_iter();
         while let Some(argument) = left.next() {
-            match argument.to_str().map(parted) {
+            match argument.to_str().map(parted).as_ref().map(|(name, value)| (&name[..], *value)) {
                 Some(("--", None)) => {
                     read.given.push(argument);
                     left.by_ref().for_each(|word| read.word(word));
                 }
-                Some(("-h" | "--help", None)) => read.help = true,
+                Some(("-h" | "--help" | "--hilfe", None)) => read.help = true,
                 Some(("--version", None)) => read.about = Some(About::Version),
                 Some(("--manpage", None)) => read.about = Some(About::Manpage),
                 Some(("--bash-completion", None)) => read.about = Some(About::Completion),
@@ -135,11 +135,11 @@ impl Arguments {
     }
 }
 
-/// An option, and what stands behind its `=`.
-fn parted(argument: &str) -> (&str, Option<&str>) {
+/// An option in any letter case, and what stands behind its `=`.
+fn parted(argument: &str) -> (String, Option<&str>) {
     match argument.split_once('=') {
-        Some((option, value)) => (option, Some(value)),
-        None => (argument, None),
+        Some((option, value)) => (option.to_lowercase(), Some(value)),
+        None => (argument.to_lowercase(), None),
     }
 }
 

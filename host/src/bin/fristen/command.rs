@@ -124,16 +124,26 @@ impl Command {
         self.operands.iter().find(|(operand, _)| *operand == parameter).map(|(_, label)| *label)
     }
 
-    /// The name with what stands behind it.
-    pub fn usage(&self) -> String {
+    pub fn german_name(&self) -> &'static str {
+        self.german.unwrap_or(self.name)
+    }
+
+    /// The name by which it was called, as the tables have it; of the host call's its own.
+    pub fn known_by(&self, called: &str) -> String {
+        let called = normal(called);
+        self.names().find(|name| *name == called).unwrap_or_else(|| self.name.to_owned())
+    }
+
+    /// This name with what stands behind it.
+    pub fn usage(&self, name: &str) -> String {
         let options = self.options.iter().map(|option| format!(" {option}"));
-        [self.usage_in_line()].into_iter().chain(options).collect()
+        [self.usage_in_line(name)].into_iter().chain(options).collect()
     }
 
     /// The same in a line of a file, where there are no options.
-    pub fn usage_in_line(&self) -> String {
+    pub fn usage_in_line(&self, name: &str) -> String {
         let labels = self.operands.iter().map(|(_, label)| *label);
-        [self.name].into_iter().chain(labels).collect::<Vec<_>>().join(" ")
+        [name].into_iter().chain(labels).collect::<Vec<_>>().join(" ")
     }
 }
 

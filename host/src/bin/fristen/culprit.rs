@@ -1,10 +1,10 @@
 //! Which part of a question a call refuses, and why, in German.
 
-use crate::deutsch::{dem, monat, monate, stunden, zeitpunkt};
+use crate::deutsch::{dem, monat, zeitpunkt};
 use crate::inquiry::Inquiry;
-use crate::uebertragung::opening;
+use crate::leaves;
 use mako_fristen_host::{
-    berlin_date, BerlinTime, Call, Clock, Date, Instant, Parameter, Refusal, Sparte, VorlaufShape,
+    berlin_date, BerlinTime, Clock, Date, Instant, Parameter, Refusal, Sparte, VorlaufShape,
 };
 
 const FIRST: &str = "1. Januar 1996";
@@ -19,47 +19,40 @@ pub fn of(inquiry: &Inquiry, refusal: Refusal) -> String {
         Refusal::NoClock => clock(question.clock).map(|why| format!("{why}.")),
         Refusal::LocalTimeAbsent => absent_in(inquiry),
         Refusal::NoBeginning => no_beginning(inquiry),
-        Refusal::LeavesCalendar => leaves(inquiry),
+        Refusal::LeavesCalendar => leaves::of(inquiry),
         _ => None,
     };
     found.unwrap_or_else(|| refusal.beschreibung().to_owned())
 }
 
 /// Of the transmission days that an anchor allows.
-pub fn of_anchor(asked: (VorlaufShape, Date), refusal: Refusal) -> String {
+pub fn of_anchor((shape, anchor): (VorlaufShape, Date), refusal: Refusal) -> String {
     let found = match refusal {
-        Refusal::NoDate => date_why(asked.1).map(|why| format!("{why}.")),
-        Refusal::LeavesCalendar => Some(end_leaves(asked)),
+        Refusal::NoDate => date_why(anchor).map(|why| format!("{why}.")),
+        Refusal::LeavesCalendar => Some(leaves::of_anchor(shape, anchor, "den Termin")),
         _ => None,
     };
     found.unwrap_or_else(|| refusal.beschreibung().to_owned())
 }
 
-/// Only the last day of some shapes lies behind the anchor.
-fn end_leaves((shape, anchor): (VorlaufShape, Date)) -> String {
-    let for_anchor = format!("Übertragungstag für den Termin am {}, liegt", dem(anchor));
-    let before = format!("vor dem {FIRST}, dem ersten Tag des Kalenders.");
-    if opening(shape, anchor).is_err() {
-        return format!("Der früheste {for_anchor} {before}");
-    }
-    match shape {
-        VorlaufShape::LatestWerktageAfter(_) | VorlaufShape::Korridor(_) => {
-            format!("Der späteste {for_anchor} hinter dem {LAST}, dem letzten Tag des Kalenders.")
-        }
-        _ => format!("Der späteste {for_anchor} {before}"),
-    }
-}
-
-/// The dates that are none, each by its name if there are two.
+/// The dates that are none.
 fn no_date(inquiry: &Inquiry) -> Option<String> {
     let dates =
         [(Parameter::Date, inquiry.question.date), (Parameter::SecondDate, inquiry.question.date2)];
     let given = dates.into_iter().filter(|(parameter, _)| inquiry.call.takes(*parameter));
-    let two = given.clone().count() == 2;
-    let label =
-        |parameter| if two { inquiry.label(parameter).to_owned() + " " } else { String::new() };
+    let label = |parameter| label(inquiry, parameter);
     let wrong = given.filter_map(|(parameter, date)| Some(label(parameter) + &date_why(date)?));
     sentence(wrong.collect())
+}
+
+/// Before what is wrong, where the call takes several dates or instants.
+fn label(inquiry: &Inquiry, parameter: Parameter) -> String {
+    let times =
+        [Parameter::Date, Parameter::SecondDate, Parameter::Instant, Parameter::SecondInstant];
+    match times.into_iter().filter(|time| inquiry.call.takes(*time)).count() {
+        0 | 1 => String::new(),
+        _ => inquiry.label(parameter).to_owned() + " ",
+    }
 }
 
 /// `2026-02-30: der Februar 2026 hat 28 Tage`; none for a date that the calls take.
@@ -91,15 +84,13 @@ fn sentence(clauses: Vec<String>) -> Option<String> {
     (!clauses.is_empty()).then(|| format!("{}.", clauses.join("; ")))
 }
 
-/// The instants outside, each by its name if there are two.
+/// The instants outside.
 fn outside(inquiry: &Inquiry) -> Option<String> {
     let question = &inquiry.question;
     let instants =
         [(Parameter::Instant, question.instant), (Parameter::SecondInstant, question.instant2)];
     let given = instants.into_iter().filter(|(parameter, _)| inquiry.call.takes(*parameter));
-    let two = given.clone().count() == 2;
-    let label =
-        |parameter| if two { inquiry.label(parameter).to_owned() + " " } else { String::new() };
+    let label = |parameter| label(inquiry, parameter);
     let wrong =
         given.filter_map(|(parameter, instant)| Some(label(parameter) + &instant_why(instant)?));
     sentence(wrong.collect())
@@ -178,45 +169,4 @@ fn no_beginning(inquiry: &Inquiry) -> Option<String> {
     };
     let shown = zeitpunkt(BerlinTime::of(instant).ok()?);
     Some(format!("{shown}: in der Sparte {sparte} beginnt ein Tag um {begins} Uhr in Berlin."))
-}
-
-/// The result that leaves the calendar.
-fn leaves(inquiry: &Inquiry) -> Option<String> {
-    let (n, date) = (inquiry.question.n, inquiry.question.date);
-    let behind = format!("liegt hinter dem {LAST}, dem letzten Tag des Kalenders.");
-    let before = format!("liegt vor dem {FIRST}, dem ersten Tag des Kalenders.");
-    Some(match inquiry.call {
-        Call::NextWerktag => format!("Der erste Werktag ab {}, {behind}", dem(date)),
-        Call::AddWerktage => format!("Der {n}. Werktag nach {}, {behind}", dem(date)),
-        Call::SubWerktage => format!("Der {n}. Werktag vor {}, {before}", dem(date)),
-        Call::AddMonths => format!("Der Tag {} nach {}, {behind}", monate(n), dem(date)),
-        Call::SubtractMonths => format!("Der Tag {} vor {}, {before}", monate(n), dem(date)),
-        Call::AddHours => format!("Der Zeitpunkt {} danach {behind}", stunden(n)),
-        Call::ContrlDueAtChange if date == Date::FIRST => {
-            format!("Der Tag vor dem Stichtag {before}")
-        }
-        Call::ContrlDueAtChange if date == Date::LAST => {
-            format!("Der Tag nach dem Stichtag {behind}")
-        }
-        call if call.takes(Parameter::Instant) && !call.takes(Parameter::VorlaufShape) => {
-            match call {
-                Call::EogAnkuendigungFristgerecht => {
-                    format!("Der letzte Werktag vor {}, {before}", dem(date))
-                }
-                _ => format!("Das Ende der Frist {behind}"),
-            }
-        }
-        Call::VorlaufSpan => {
-            format!("Die Spanne der zulässigen Termine verlässt den Kalender vom {FIRST} bis zum {LAST}.")
-        }
-        _ if inquiry.call.takes(Parameter::VorlaufShape)
-            || inquiry.call == Call::AbmeldungCheck =>
-        {
-            format!(
-                "Der späteste Übertragungstag oder ein anderer Tag, den das Urteil braucht, liegt \
-                 nicht im Kalender vom {FIRST} bis zum {LAST}."
-            )
-        }
-        _ => return None,
-    })
 }

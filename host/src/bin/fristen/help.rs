@@ -17,14 +17,19 @@ Jeder Befehl auch unter dem Namen der Quelle und dem des Host-Aufrufs, mit Binde
 Unterstrichen, in beliebiger Groß- und Kleinschreibung: contrl-due-at, mf_contrl_due_at ...
 
 Angaben
-  DATUM       wie 2026-04-02, 02.04.2026 oder 2.4.2026, auch heute, morgen oder gestern;
-              vom 1. Januar 1996 bis zum 31. Dezember 2899
-  UHRZEIT     in Berlin, wie 13:00, 13:00:00 oder 13:00:00,5
-  ZEITPUNKT   wie 2026-03-31 11:59 oder 31.3.2026 11:59:59 in Berlin, auch heute 11:59
+  DATUM       wie 2026-04-02, 02.04.2026 oder 2.4.2026, auch heute, morgen, übermorgen,
+              gestern oder vorgestern; vom 1. Januar 1996 bis zum 31. Dezember 2899. Auch
+              VON, BIS, TERMIN, ÜBERTRAGUNGSTAG, ZUORDNUNGSENDE und -BEGINN, STICHTAG
+  UHRZEIT     in Berlin, wie 13:00, 13 Uhr, 13:00:00 oder 13:00:00,5
+  ZEITPUNKT   wie 31.3.2026 11:59 oder 2026-03-31 11:59:59 in Berlin, auch heute 11 Uhr
               oder jetzt; mit Abstand zu UTC wie 2026-03-31T11:59:59+02:00 oder
               2026-03-31T09:59:59Z; oder @SEKUNDEN seit 1970, auch @1774951199,5.
-              Zeigt die Uhr in Berlin eine Zeit zweimal, so gilt die frühere
-  N, PID      eine Zahl von 0 bis 4294967295
+              Zeigt die Uhr in Berlin eine Zeit zweimal, so gilt die frühere. Auch
+              EINGANG, ÜBERTRAGEN und TERMINBEGINN
+  JAHR, MONAT wie 2026, und wie 2026-04, 4.2026, April oder April 2026
+  N           eine Zahl von 0 bis 4294967295; so auch VON und BIS hinter Zeitfenster
+  PID         der Prüfidentifikator der Nachricht, eine Zahl wie 44001
+  GRUND       der Transaktionsgrund, genau wie in der Nachricht
   Namen       FORM, ANLASS, SPARTE und was nach --eeg steht: in beliebiger Groß- und
               Kleinschreibung; nur beim GRUND kommt es auf sie an
 
@@ -38,7 +43,7 @@ Optionen, an beliebiger Stelle
   --roh       nur bei fragen: Datensätze von 32 Bytes statt Zeilen
   --eeg       nur bei abmeldung-fuer und abmeldung: ja, nein oder unbekannt
   --stichtag  nur bei contrl: der Tag einer verlegten Formatumstellung
-  --help, -h  Hilfe, auch zu einem Befehl
+  --help, -h  Hilfe, auch zu einem Befehl; so auch: hilfe BEFEHL
   --version   die Version des Programms
   --manpage   die Handbuchseite für man
   --bash-completion
@@ -73,8 +78,9 @@ const EXAMPLE_DAYS: &[(Parameter, &str)] = &[
 /// The list of all subcommands.
 pub fn general() -> String {
     let row = |command: &Command| {
-        let german = command.german.map_or(String::new(), |name| format!(", auch {name}"));
-        format!("  {}{german}\n      {}\n", command.usage(), command.summary)
+        let also = command.german.map_or(String::new(), |_| format!(", auch {}", command.name));
+        let usage = command.usage(command.german_name());
+        format!("  {usage}{also}\n      {}\n", command.summary)
     };
     let groups = GROUPS.map(|(heading, commands)| {
         let rows: Vec<String> = commands.iter().map(row).collect();
@@ -84,22 +90,31 @@ pub fn general() -> String {
     format!("{HEAD}\n\nAufruf: {called} {CALLED}\n{}\n{FOOT}", groups.concat())
 }
 
-/// The usage, the other names, the meaning, the shapes and the examples with their output.
-pub fn of(command: &Command) -> String {
-    let (called, usage) = (program::called(), command.usage());
-    let others: Vec<String> = command.names().skip(1).collect();
+/// The usage by this name, the other names, the meaning, the shapes and the examples with their
+/// output.
+pub fn of(command: &Command, name: &str) -> String {
+    let name = command.known_by(name);
+    let (called, usage) = (program::called(), command.usage(&name));
+    let others: Vec<String> = command.names().filter(|other| *other != name).collect();
     let also = match others.is_empty() {
         false => format!("Auch: {}\n", others.join(", ")),
         true => String::new(),
     };
     let heading = if command.examples.len() == 1 { "Beispiel" } else { "Beispiele" };
-    let examples: Vec<String> = command.examples.iter().map(example).collect();
-    let (shapes, numbers, examples) = (shapes(command), numbers(command), examples.join("\n"));
+    let shown = |it: &Example| example(it, &by_name(command, &name, it.call));
+    let examples: Vec<String> = command.examples.iter().map(shown).collect();
+    let (shapes, numbers, examples) =
+        (shapes(command, &name), numbers(command), examples.join("\n"));
     let meaning = command.meaning.replace(IN_TEXTS, called);
     format!("Aufruf: {called} {usage}\n{also}\n{meaning}\n{shapes}{numbers}\n{heading}\n{examples}")
 }
 
-fn example(Example { call, output, file }: &Example) -> String {
+/// A call of a subcommand, with another of its names.
+fn by_name(command: &Command, name: &str, call: &str) -> String {
+    call.strip_prefix(command.name).map_or_else(|| call.to_owned(), |rest| format!("{name}{rest}"))
+}
+
+fn example(Example { output, file, .. }: &Example, call: &str) -> String {
     let file =
         file.map_or(String::new(), |(name, content)| format!("  $ cat {name}\n{}", block(content)));
     format!("{file}  $ {} {call}\n{}", program::called(), block(output))
@@ -117,7 +132,7 @@ fn indented(line: &str) -> String {
 }
 
 /// Each shape that the subcommand takes: its names, what it says, and a call.
-fn shapes(command: &Command) -> String {
+fn shapes(command: &Command, name: &str) -> String {
     let rows = shape_rows(command);
     if rows.is_empty() {
         return String::new();
@@ -125,6 +140,7 @@ fn shapes(command: &Command) -> String {
     let row = |Shape { names, counts, meaning, call }: Shape| {
         let names = names.join(", auch ");
         let counts: String = counts.iter().map(|count| format!(" {count}")).collect();
+        let call = by_name(command, name, &call);
         format!("  {names}{counts}\n      {meaning}\n      $ {} {call}\n", program::called())
     };
     format!("\nFORM\n{}", rows.into_iter().map(row).collect::<String>())

@@ -56,6 +56,17 @@ impl Inquiry {
         Inquiry { call, question: Question { call, date: stichtag, ..self.question }, ..self }
     }
 
+    /// For what was read; of several refusals the first, and why each of that number.
+    pub fn refuse(&mut self, refused: Refused) {
+        match &mut self.refused {
+            None => self.refused = Some(refused),
+            Some(first) if first.refusal == refused.refusal => {
+                first.sentence += &format!(" {}", refused.sentence);
+            }
+            Some(_) => {}
+        }
+    }
+
     /// The answer of the call, read: neither a refusal nor bytes that the documents do not have.
     pub fn answer(&self) -> Result<Answer, Error> {
         if let Some(refused) = &self.refused {

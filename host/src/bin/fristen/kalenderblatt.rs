@@ -6,6 +6,7 @@ use crate::reading::is_number;
 use crate::report::values::weekday;
 use crate::report::Asked;
 use crate::skipped::{is_ostersonntag, Closed};
+use crate::words::normal;
 use mako_fristen_host::{day_reason, Date, DayReason, Error, Feiertag, Refusal, Weekday};
 use std::ffi::OsString;
 use std::ops::RangeInclusive;
@@ -18,17 +19,22 @@ pub struct Period {
 }
 
 impl Period {
-    /// `2026`, `2026-04`, `04.2026` or `4.2026`.
-    pub fn read(word: &str) -> Option<Period> {
-        if is_number(word) {
-            // A number too large is a year that the calendar does not have.
-            return Some(Period { year: word.parse().unwrap_or(u32::MAX), month: None });
+    /// `2026`, `2026-04`, `04.2026`, `4/2026`, `April 2026`, or `April` of the year of a day.
+    pub fn read(word: &str, today: Option<Date>) -> Option<Period> {
+        if let Some(month) = month_named(word) {
+            return Some(Period { year: today?.year.into(), month: Some(month) });
+        }
+        if let Some((month, year)) = word.split_once(' ') {
+            let (month, year) = (month_named(month)?, Some(year).filter(|year| is_year(year))?);
+            return Some(Period { year: year.parse().ok()?, month: Some(month) });
+        }
+        if is_number(word) && word.len() > 2 {
+            return Some(Period { year: word.parse().ok()?, month: None });
         }
         let parts = word.split_once('-').filter(|(_, month)| month.len() == 2);
         let (year, month) =
-            parts.or_else(|| word.split_once('.').map(|(month, year)| (year, month)))?;
-        let digits = year.len() == 4 && (1..=2).contains(&month.len());
-        if !digits || !is_number(year) || !is_number(month) {
+            parts.or_else(|| word.split_once(['.', '/']).map(|(month, year)| (year, month)))?;
+        if !is_year(year) || !is_number(month) || month.len() > 2 {
             return None;
         }
         Some(Period { year: year.parse().ok()?, month: Some(month.parse().ok()?) })
@@ -57,6 +63,16 @@ impl Period {
     fn months(self) -> RangeInclusive<u8> {
         self.month.map_or(1..=12, |month| month..=month)
     }
+}
+
+/// The number of a month's name.
+fn month_named(word: &str) -> Option<u8> {
+    let word = normal(word);
+    (1..=12).find(|month| normal(&monat(*month)) == word)
+}
+
+fn is_year(word: &str) -> bool {
+    word.len() == 4 && is_number(word)
 }
 
 /// How a closed day is shown.
@@ -351,17 +367,32 @@ mod tests {
 
     #[test]
     fn a_year_or_a_month_as_people_write_it() {
+        let read = |word| Period::read(word, Some(Date::new(2027, 1, 5)));
         let month = |year, month| Some(Period { year, month: Some(month) });
-        assert_eq!(Period::read("2026"), Some(Period { year: 2026, month: None }));
-        assert_eq!(Period::read("99999999999"), Some(Period { year: u32::MAX, month: None }));
-        for word in ["2026-04", "04.2026", "4.2026"] {
-            assert_eq!(Period::read(word), month(2026, 4), "{word}");
+        assert_eq!(read("2026"), Some(Period { year: 2026, month: None }));
+        for word in ["2026-04", "04.2026", "4.2026", "4/2026", "April 2026", "APRIL 2026"] {
+            assert_eq!(read(word), month(2026, 4), "{word}");
         }
-        assert_eq!(Period::read("2026-13"), month(2026, 13), "the calendar judges it");
-        for word in
-            ["", "-2026", "2026-4", "2026-", "26-04", "2026.04", "4.26", "April", "2026-04-02"]
-        {
-            assert_eq!(Period::read(word), None, "{word}");
+        assert_eq!((read("März"), read("maerz")), (month(2027, 3), month(2027, 3)), "this year's");
+        assert_eq!(read("2026-13"), month(2026, 13), "the calendar judges it");
+        for word in [
+            "",
+            "-2026",
+            "2026-4",
+            "2026-",
+            "26-04",
+            "2026.04",
+            "4.26",
+            "2026-04-02",
+            "4",
+            "12",
+            "99999999999",
+            "April 26",
+            "Lenz",
+            "Lenz 2026",
+            "2026 April",
+        ] {
+            assert_eq!(read(word), None, "{word}");
         }
     }
 }

@@ -20,6 +20,7 @@ mod json;
 mod kalenderblatt;
 mod kinds;
 mod labels;
+mod leaves;
 mod lines;
 mod manpage;
 mod names;
@@ -55,6 +56,8 @@ use std::io::{self, IsTerminal};
 use std::process::ExitCode;
 use usage::Usage;
 
+const HELP: [&str; 2] = ["hilfe", "help"];
+
 fn main() -> ExitCode {
     let arguments: Vec<OsString> = env::args_os().skip(1).collect();
     if arguments.is_empty() {
@@ -65,9 +68,9 @@ fn main() -> ExitCode {
 
 fn run(arguments: Vec<OsString>) -> Result<Outcome, Usage> {
     let first = arguments.iter().find(|argument| !is_option(argument));
-    let likely = first.and_then(|name| Command::find(name.to_str()?));
-    let of_likely = |usage: Usage| match likely {
-        Some(command) => usage.of(command),
+    let first = first.and_then(|name| name.to_str()).unwrap_or_default().to_owned();
+    let of_likely = |usage: Usage| match Command::find(&first) {
+        Some(command) => usage.of(command, &first),
         None => usage,
     };
     let arguments = Arguments::read(arguments).map_err(of_likely)?;
@@ -80,8 +83,8 @@ fn run(arguments: Vec<OsString>) -> Result<Outcome, Usage> {
             About::Completion => completion::script(),
         }));
     }
-    if name.is_some_and(|name| name.eq_ignore_ascii_case("help") || name == "hilfe") {
-        let about = words.next();
+    if name.is_some_and(is_help) {
+        let about = words.next().filter(|about| !is_help(about));
         return match words.next() {
             Some(word) => Err(operands::too_much(word)),
             None => helped(about),
@@ -90,21 +93,29 @@ fn run(arguments: Vec<OsString>) -> Result<Outcome, Usage> {
     if arguments.help {
         return helped(name);
     }
-    let command = find(name)?;
-    answered(command, &arguments).map_err(|usage| usage.of(command))
+    let (command, called) = find(name)?;
+    answered(command, &arguments).map_err(|usage| usage.of(command, called))
 }
 
-fn find(name: Option<&OsString>) -> Result<&'static Command, Usage> {
+fn is_help(word: &OsString) -> bool {
+    HELP.iter().any(|help| word.eq_ignore_ascii_case(help))
+}
+
+/// The subcommand, and the name by which it is called.
+fn find(name: Option<&OsString>) -> Result<(&'static Command, &str), Usage> {
     let name = name.ok_or_else(|| Usage::new("es fehlt: BEFEHL"))?;
-    let command = name.to_str().and_then(Command::find);
+    let found = name.to_str().and_then(|name| Some((Command::find(name)?, name)));
     let known: Vec<String> = command::all().flat_map(Command::names).collect();
-    let known = known.iter().map(String::as_str);
-    command.ok_or_else(|| Usage::unknown("unbekannter Befehl", name, known))
+    let known = known.iter().map(String::as_str).chain(HELP);
+    found.ok_or_else(|| Usage::unknown("unbekannter Befehl", name, known))
 }
 
 fn helped(name: Option<&OsString>) -> Result<Outcome, Usage> {
     Ok(Outcome::answer(match name {
-        Some(_) => help::of(find(name)?),
+        Some(_) => {
+            let (command, called) = find(name)?;
+            help::of(command, called)
+        }
         None => help::general(),
     }))
 }

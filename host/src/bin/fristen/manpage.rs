@@ -40,7 +40,7 @@ fn commands(names: &str) -> String {
 }
 
 fn command(command: &Command) -> String {
-    let usage = command.usage();
+    let usage = command.usage(command.name);
     let (name, operands) = usage.split_at(usage.find(' ').unwrap_or(usage.len()));
     let others: Vec<String> = command.names().skip(1).collect();
     let also = match others.is_empty() {

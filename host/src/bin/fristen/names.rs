@@ -189,8 +189,9 @@ pub const FRISTEN: [Named<Frist>; 4] = [
     },
 ];
 
+/// With hyphens or without, as the names of commands have them.
 pub fn find<T: Copy>(table: &[Named<T>], word: &str) -> Option<T> {
-    let word = normal(word);
+    let word = normal(word).replace('-', "");
     table.iter().find(|row| row.names().any(|name| normal(name) == word)).map(|row| row.value)
 }
 
@@ -199,9 +200,9 @@ pub fn name_of<T>(table: &[Named<T>], is: impl Fn(&T) -> bool) -> Option<&'stati
     table.iter().find(|row| is(&row.value)).map(|row| row.name)
 }
 
-/// As in 'erwartet …': the source's names, the last behind an 'oder'.
+/// As in 'erwartet …': the German names, the last behind an 'oder'.
 pub fn expected<T>(table: &[Named<T>]) -> String {
-    let names: Vec<&str> = table.iter().map(|row| row.name).collect();
+    let names: Vec<&str> = table.iter().map(|row| row.german.unwrap_or(row.name)).collect();
     one_of(&names)
 }
 
@@ -248,7 +249,7 @@ mod tests {
                 assert_eq!((found.shape)(1, 2), (row.value.shape)(1, 2), "{name}");
             }
         }
-        assert!(find(&FRISTEN, "werktagum").is_some());
+        assert!(find(&FRISTEN, "werktagum").is_some() && find(&FRISTEN, "werktag-um").is_some());
         assert!(find(&FRISTEN, "Werktag").is_none());
     }
 }

@@ -48,19 +48,26 @@ pub fn periods(arguments: &Arguments) -> Result<Vec<Period>, Usage> {
     let mut words = Words::new(arguments);
     let (left, now) = (mem::take(&mut words.left), words.now);
     words.end()?;
-    let read = |word: &OsString| {
-        read_as("JAHR", word, |word| {
-            let expected = "ein Jahr wie 2026 oder einen Monat wie 2026-04";
-            Period::read(word).ok_or_else(|| expected.to_owned())
-        })
-    };
-    let periods = left.map(read).collect::<Result<Vec<_>, _>>()?;
-    if !periods.is_empty() {
-        return Ok(periods);
-    }
     let today = reading::date("heute", now);
     let no_year = || Usage::new("die Uhr des Rechners geht falsch; erwartet ein Jahr wie 2026");
-    Ok(vec![Period::year_of(today.ok_or_else(no_year)?)])
+    if left.as_slice().is_empty() {
+        return Ok(vec![Period::year_of(today.ok_or_else(no_year)?)]);
+    }
+    let (mut left, mut periods) = (left.peekable(), Vec::new());
+    while let Some(word) = left.next() {
+        // The year may stand behind the month's name.
+        let year =
+            left.peek().and_then(|year| Some(word.to_str()?.to_owned() + " " + year.to_str()?));
+        if let Some(period) = year.and_then(|words| Period::read(&words, today)) {
+            left.next();
+            periods.push(period);
+            continue;
+        }
+        let expected = "ein Jahr wie 2026 oder einen Monat wie 12.2026 oder Dezember";
+        let read = |word: &str| Period::read(word, today).ok_or_else(|| expected.to_owned());
+        periods.push(read_as("JAHR", word, read)?);
+    }
+    Ok(periods)
 }
 
 /// The file of a subcommand that takes one; none for the standard input.
@@ -74,7 +81,11 @@ pub fn file(arguments: &Arguments) -> Result<Option<&OsStr>, Usage> {
 /// A date at the place of this label, `heute` by this instant.
 pub fn date(label: &str, word: &OsStr, now: Instant) -> Result<Date, Usage> {
     let date = |word: &str| reading::date(word, now);
-    read_as(label, word, |word| date(word).ok_or_else(|| reading::DATE.to_owned()))
+    let read = read_as(label, word, |word| date(word).ok_or_else(|| reading::DATE.to_owned()));
+    let meant = word.to_str().and_then(|word| reading::date_meant(word, now));
+    read.map_err(|usage| {
+        usage.meaning(meant.map_or(String::new(), |meant| format!(". Meinten Sie {meant}?")))
+    })
 }
 
 pub fn missing(label: &str) -> Usage {
@@ -142,7 +153,7 @@ fn instant(
             Ok(instant)
         }
         Err(refused) => {
-            inquiry.refused.get_or_insert(refused);
+            inquiry.refuse(refused);
             inquiry.absent.push(label);
             Ok(Instant::default())
         }
@@ -202,30 +213,59 @@ impl<'a> Words<'a> {
         date(label, self.next(label)?, self.now)
     }
 
-    fn clock(&mut self, label: &str) -> Result<Clock, Usage> {
-        self.read(label, |word| reading::clock(word).ok_or_else(|| reading::CLOCK.to_owned()))
-    }
-
-    /// One word, or a date and its clock time in two; or the refusal of a time that Berlin's clock
-    /// does not show.
-    fn moment(&mut self, label: &str) -> Result<Result<Moment, Refused>, Usage> {
-        let now = self.now;
-        let mut word = self.next(label)?.to_owned();
-        let is_date = word.to_str().is_some_and(|word| reading::date(word, now).is_some());
-        let time =
-            self.left.clone().next().filter(|time| time.to_str().is_some_and(reading::is_time));
-        if let Some(time) = time.filter(|_| is_date) {
-            word.push(" ");
-            word.push(time);
+    /// The next word if it is this one, in any letter case.
+    fn passes(&mut self, said: &str) -> bool {
+        let is_said = |word: &OsString| word.eq_ignore_ascii_case(said);
+        let said = self.left.clone().next().is_some_and(is_said);
+        if said {
             self.left.next();
         }
-        read_as(label, &word, |word| match reading::moment(word, now) {
+        said
+    }
+
+    fn clock(&mut self, label: &str) -> Result<Clock, Usage> {
+        let clock =
+            self.read(label, |word| reading::clock(word).ok_or_else(|| reading::CLOCK.to_owned()))?;
+        self.passes("Uhr");
+        Ok(clock)
+    }
+
+    /// One word, or a date and its clock time in several; or the refusal of a time that Berlin's
+    /// clock does not show.
+    fn moment(&mut self, label: &str) -> Result<Result<Moment, Refused>, Usage> {
+        let (text, now) = (self.moment_text(label)?, self.now);
+        read_as(label, &text, |text| match reading::moment(text, now) {
             Ok(moment) => Ok(Ok(moment)),
             Err(NoMoment::Refused(refusal, date, at)) => {
                 Ok(Err(Refused { refusal, sentence: culprit::of_berlin(label, refusal, date, at) }))
             }
             Err(NoMoment::Expected(expected)) => Err(expected),
         })
+    }
+
+    /// The next word; behind a date also `um`, a clock time and `Uhr`, and what stands where that
+    /// time should.
+    fn moment_text(&mut self, label: &str) -> Result<OsString, Usage> {
+        let mut text = self.next(label)?.to_owned();
+        if text.to_str().is_none_or(|word| reading::date(word, self.now).is_none()) {
+            return Ok(text);
+        }
+        self.passes("um");
+        let is_time = |word: &OsString| word.to_str().is_some_and(reading::may_be_time);
+        if let Some(time) = self.left.clone().next().filter(|word| is_time(word)) {
+            self.left.next();
+            text.push(" ");
+            text.push(time);
+            if self.passes("Uhr") {
+                text.push(" Uhr");
+            }
+            let is_offset = |word: &OsString| word.to_str().is_some_and(reading::is_offset);
+            if let Some(offset) = self.left.clone().next().filter(|word| is_offset(word)) {
+                self.left.next();
+                text.push(offset);
+            }
+        }
+        Ok(text)
     }
 
     fn vorlauf(&mut self, label: &str) -> Result<VorlaufShape, Usage> {
@@ -237,19 +277,31 @@ impl<'a> Words<'a> {
         Ok((row.shape)(counts[0], counts[1]))
     }
 
+    /// A date in its place means that it was left out.
     fn count(&mut self, label: &str) -> Result<u32, Usage> {
-        self.read(label, |word| {
+        let word = self.next(label)?;
+        if word.to_str().is_some_and(|word| reading::date(word, self.now).is_some()) {
+            let missing = format!("es fehlt: {label}, eine Zahl vor {}", quoted(word));
+            return Err(Usage::new(missing));
+        }
+        read_as(label, word, |word| {
             let count = word.parse().ok().filter(|_| is_number(word));
-            count.ok_or_else(|| "eine Zahl von 0 bis 4294967295".to_owned())
+            let expected =
+                if is_number(word) { "höchstens 4294967295" } else { "eine Zahl wie 5" };
+            count.ok_or_else(|| expected.to_owned())
         })
     }
 
+    /// The label may name what stands behind the word too.
     fn name<T: Copy>(&mut self, label: &str, table: &[Named<T>]) -> Result<T, Usage> {
-        let word = self.next(label)?;
+        let label = label.split(' ').next().unwrap_or(label);
+        let Some(word) = self.left.next() else {
+            return Err(Usage::new(format!("es fehlt: {label}, also {}", names::expected(table))));
+        };
         let found = read_as(label, word, |word| {
             names::find(table, word).ok_or_else(|| names::expected(table))
         });
-        found.map_err(|usage| usage.and(&perhaps(word, table.iter().flat_map(Named::names))))
+        found.map_err(|usage| usage.meaning(perhaps(word, table.iter().flat_map(Named::names))))
     }
 
     /// The mark's code. An option: it is asked for here, and stands anywhere.

@@ -21,7 +21,7 @@ pub fn name() -> &'static str {
     Path::new(called()).file_name().and_then(|name| name.to_str()).unwrap_or("fristen")
 }
 
-/// `fristen 1.0.0`
+/// With its number, as the package has it.
 pub fn version() -> String {
     format!("fristen {}\n", env!("CARGO_PKG_VERSION"))
 }

@@ -2,16 +2,13 @@
 
 use crate::deutsch::zeitpunkt;
 use crate::words::normal;
-use mako_fristen_host::{
-    berlin_at, berlin_date, BerlinTime, Clock, Date, Error, Instant, InstantError, Refusal,
-};
+use mako_fristen_host::{berlin_at, berlin_date, BerlinTime, Clock, Date, Error, Instant, Refusal};
 use std::time::SystemTime;
 
 pub const DATE: &str = "ein Datum wie 2026-04-02 oder 2.4.2026";
 pub const CLOCK: &str = "eine Uhrzeit wie 13:00, 13:00:00 oder 13:00:00,5";
-const INSTANT: &str =
-    "einen Zeitpunkt wie „2026-03-31 11:59“ in Berlin, 2026-03-31T11:59:59+02:00 \
-                       oder @SEKUNDEN seit 1970";
+const INSTANT: &str = "einen Zeitpunkt wie 31.3.2026 11:59 oder heute 11:59 in Berlin, \
+                       2026-03-31T11:59:59+02:00 oder @SEKUNDEN seit 1970";
 
 /// The largest offset is some hours short of a day.
 const HOUR: i64 = 3600;
@@ -25,7 +22,9 @@ pub fn date(word: &str, now: Instant) -> Option<Date> {
     let days = match &normal(word)[..] {
         "heute" => 0,
         "morgen" => 1,
+        "uebermorgen" => 2,
         "gestern" => -1,
+        "vorgestern" => -2,
         _ => return word.parse().ok().or_else(|| german_date(word)),
     };
     berlin_date(now).ok()?.plus_days(days)
@@ -39,6 +38,24 @@ fn german_date(word: &str) -> Option<Date> {
     let (day, month, year) = (part(1, 2)?, part(1, 2)?, part(4, 4)?);
     parts.next().is_none().then_some(())?;
     Some(Date::new(year.parse().ok()?, month.parse().ok()?, day.parse().ok()?))
+}
+
+/// The date that a word may have been meant for, in the German form: one with other marks between
+/// its numbers, with fewer digits, or without a year, which is this one then.
+pub fn date_meant(word: &str, now: Instant) -> Option<String> {
+    let word = word.trim_matches([' ', ',', ';', '.']);
+    let parts: Vec<&str> = word.split(['.', '/', '-']).map(str::trim).collect();
+    let this_year = berlin_date(now).ok()?.year.to_string();
+    let (day, month, year) = match parts[..] {
+        [day, month] => (day, month, this_year),
+        [year, month, day] if year.len() == 4 => (day, month, year.to_owned()),
+        [day, month, year] if year.len() == 2 => (day, month, format!("20{year}")),
+        [day, month, year] => (day, month, year.to_owned()),
+        _ => return None,
+    };
+    let date = german_date(&format!("{day}.{month}.{year}"))?;
+    let Date { year, month, day } = Some(date).filter(|date| date.is_in_calendar())?;
+    Some(format!("{day}.{month}.{year}"))
 }
 
 /// A clock time with one digit of an hour or two, and a comma or a point before its fraction.
@@ -63,7 +80,7 @@ pub struct Moment {
 pub enum NoMoment {
     /// It is not written as one: this was expected.
     Expected(String),
-    /// `berlin_at` refuses the date and the clock time.
+    /// The date or the clock time is none, or Berlin's clock does not show it.
     Refused(Refusal, Date, Clock),
 }
 
@@ -71,27 +88,50 @@ pub enum NoMoment {
 pub fn moment(word: &str, now: Instant) -> Result<Moment, NoMoment> {
     let plain = |instant| Moment { instant, note: None, twice: false };
     if normal(word) == "jetzt" {
-        return Ok(plain(now));
+        // Nobody reads out the fraction of a second.
+        return Ok(plain(Instant { nanos: 0, ..now }));
     }
     if word.starts_with('@') {
         return word.replacen(',', ".", 1).parse().map(plain).map_err(|_| expected());
     }
+    if is_time(word) {
+        return Err(NoMoment::Expected(format!("zur Uhrzeit ein Datum, wie heute {word}")));
+    }
     let (day, time) = parted(word).ok_or_else(expected)?;
     let date = date(day, now).ok_or_else(expected)?;
     let Some(time) = time else {
-        let missing = "zum Datum eine Uhrzeit, wie „2026-03-31 11:59“";
-        return Err(NoMoment::Expected(missing.to_owned()));
+        return Err(NoMoment::Expected(format!("zum Datum eine Uhrzeit, wie {day} 11:59")));
     };
-    let (clock, offset) = timed(time).ok_or_else(expected)?;
+    let (clock, offset) = timed(time).ok_or_else(|| no_time(day, time))?;
     match offset {
         None => in_berlin(date, clock),
         Some(offset) => with_offset(date, clock, offset),
     }
 }
 
-/// Whether a word can be the clock time of the date before it.
-pub fn is_time(word: &str) -> bool {
+fn is_time(word: &str) -> bool {
     timed(word).is_some()
+}
+
+/// Whether a word is the offset of the clock time before it: `+02:00`, `-0430`, `Z`.
+pub fn is_offset(word: &str) -> bool {
+    matches!(word, "Z" | "z")
+        || (word.starts_with(['+', '-']) && word.len() >= 5 && east(word).is_some())
+}
+
+/// Whether a word can be meant as the clock time of the date before it: no count stands there.
+pub fn may_be_time(word: &str) -> bool {
+    is_time(word) || (is_number(word) && word.len() <= 2)
+}
+
+/// Behind a date only the clock time is to blame, or its offset.
+fn no_time(day: &str, time: &str) -> NoMoment {
+    if time.contains(['+', '-']) {
+        return NoMoment::Expected("einen Abstand zu UTC wie +02:00".to_owned());
+    }
+    let hour = Some(time).filter(|time| is_number(time) && time.len() <= 2);
+    let example = hour.map_or_else(|| "11:59".to_owned(), |hour| format!("{hour}:00"));
+    NoMoment::Expected(format!("zum Datum eine Uhrzeit, wie {day} {example}"))
 }
 
 fn expected() -> NoMoment {
@@ -101,14 +141,13 @@ fn expected() -> NoMoment {
 /// The date and the clock time, with blanks or a `T` between.
 fn parted(word: &str) -> Option<(&str, Option<&str>)> {
     let word = word.trim();
-    if let Some((day, time)) = word.split_once([' ', '\t']) {
-        return Some((day, Some(time.trim_start())));
-    }
-    let mark = word.char_indices().skip(1).find(|(at, c)| {
-        matches!(c, 'T' | 't') && word.as_bytes().get(at - 1).is_some_and(u8::is_ascii_digit)
-    });
+    let behind_digit = |at: usize| word.as_bytes().get(at - 1).is_some_and(u8::is_ascii_digit);
+    let mark = word
+        .char_indices()
+        .skip(1)
+        .find(|(at, c)| matches!(c, ' ' | '\t') || (matches!(c, 'T' | 't') && behind_digit(*at)));
     match mark {
-        Some((at, _)) => Some((word.get(..at)?, Some(word.get(at + 1..)?))),
+        Some((at, _)) => Some((word.get(..at)?, Some(word.get(at + 1..)?.trim_start()))),
         None => Some((word, None)),
     }
 }
@@ -122,7 +161,14 @@ enum Offset {
     TooLarge,
 }
 
+/// Also `um 11:59 Uhr` and `11 Uhr`, as it is said.
 fn timed(text: &str) -> Option<(Clock, Option<Offset>)> {
+    let text = text.trim().strip_prefix("um ").unwrap_or(text.trim());
+    if let Some(said) = text.strip_suffix("Uhr").map(str::trim_end) {
+        let hour = Some(said).filter(|hour| is_number(hour) && hour.len() <= 2);
+        let padded = hour.map_or_else(|| said.to_owned(), |hour| format!("{hour}:00"));
+        return Some((clock(&padded)?, None));
+    }
     let end = text.find(['Z', 'z', '+', '-']).unwrap_or(text.len());
     let (time, offset) = text.split_at(end);
     let offset = match offset {
@@ -161,26 +207,20 @@ fn in_berlin(date: Date, clock: Clock) -> Result<Moment, NoMoment> {
 }
 
 fn with_offset(date: Date, clock: Clock, offset: Offset) -> Result<Moment, NoMoment> {
-    let no = |error| NoMoment::Expected(of_instant(error).to_owned());
-    let shown = Instant::of_utc(date, clock).ok_or_else(|| no(InstantError::Date))?;
-    clock.second_of_day().ok_or_else(|| no(InstantError::Clock))?;
+    // As `berlin_at` refuses them, but a date outside the calendar may be one of an instant inside.
+    let no = |refusal| NoMoment::Refused(refusal, date, clock);
+    let shown = Instant::of_utc(date, clock).ok_or_else(|| no(Refusal::NoDate))?;
+    clock.second_of_day().ok_or_else(|| no(Refusal::NoClock))?;
     let east = match offset {
         Offset::Utc => 0,
         Offset::East(east) => east,
-        Offset::TooLarge => return Err(no(InstantError::Offset)),
+        Offset::TooLarge => {
+            return Err(NoMoment::Expected("einen Abstand zu UTC bis 23:59".to_owned()));
+        }
     };
     let instant = shown.plus_seconds(-east).ok_or_else(expected)?;
     let note = if offset == Offset::Utc { None } else { not_berlins(instant, east) };
     Ok(Moment { instant, note, twice: false })
-}
-
-fn of_instant(error: InstantError) -> &'static str {
-    match error {
-        InstantError::Form => INSTANT,
-        InstantError::Date => "einen Tag, den es gibt",
-        InstantError::Clock => "eine Stunde bis 23, eine Minute und eine Sekunde bis 59",
-        InstantError::Offset => "einen Abstand zu UTC bis 23:59",
-    }
 }
 
 /// That Berlin's clock has another offset then; nothing where the calls know no Berlin clock.
@@ -239,7 +279,7 @@ mod tests {
             "2.4.02026",
             "+2.4.2026",
             "2. 4. 2026",
-            "uebermorgen",
+            "bald",
             "20260402",
         ] {
             assert_eq!(date(word, NOW), None, "{word}");
@@ -281,6 +321,7 @@ mod tests {
             "2026-03-31T11:59:00+0200",
             "2026-03-31 11:59+02",
             "2026-03-31 11:59 +02:00",
+            "2026-03-31T11:59 +02:00",
             "2026-03-31T09:59Z",
             "31.3.2026 9:59z",
             "2026-03-31T05:29-04:30",
@@ -343,32 +384,71 @@ mod tests {
 
     #[test]
     fn what_is_no_instant_says_what_was_expected() {
-        let expected = |word| match instant(word) {
+        let expected = |word: &str| match instant(word) {
             Err(NoMoment::Expected(expected)) => expected,
             other => panic!("{word}: {other:?}"),
         };
-        for word in [
-            "",
-            "@",
-            "11:59",
-            "morgens 11:59",
-            "2026-03-31 11",
-            "2026-03-31 11:59 Uhr",
-            "@1,5,5",
-            "2026-03-31T11:59+2",
-            "2026-03-31T11:59+020",
-            "2026-03-31T11:59+02:0",
-            "2026-03-31T11:59+0:200",
-            "2026-03-31T11:59++02:00",
-            "2026-03-31T11:59ZZ",
-            "T11:59",
-        ] {
+        for word in ["", "@", "morgens 11:59", "@1,5,5", "T11:59", "31.3. 11:59"] {
             assert!(expected(word).starts_with("einen Zeitpunkt wie"), "{word}");
         }
-        assert!(expected("2026-03-31").contains("zum Datum eine Uhrzeit"));
-        assert!(expected("heute").contains("zum Datum eine Uhrzeit"));
-        assert_eq!(expected("2026-02-30T11:59Z"), "einen Tag, den es gibt");
-        assert!(expected("2026-03-31T24:00Z").starts_with("eine Stunde bis 23"));
+        let of_date = "zum Datum eine Uhrzeit, wie 2026-03-31 11:59";
+        for word in ["2026-03-31", "2026-03-31 bald", "2026-03-31T", "2026-03-31 11.59"] {
+            assert_eq!(expected(word), of_date, "{word}");
+        }
+        assert_eq!(expected("heute 9"), "zum Datum eine Uhrzeit, wie heute 9:00");
+        assert_eq!(expected("11:59"), "zur Uhrzeit ein Datum, wie heute 11:59");
+        for offset in ["+2", "+020", "+02:0", "+0:200", "++02:00"] {
+            let word = format!("2026-03-31T11:59{offset}");
+            assert_eq!(expected(&word), "einen Abstand zu UTC wie +02:00", "{word}");
+        }
         assert_eq!(expected("2026-03-31T11:59+24:00"), "einen Abstand zu UTC bis 23:59");
+    }
+
+    /// With an offset as without.
+    #[test]
+    fn a_date_or_a_clock_time_that_is_none_is_refused() {
+        let refused = |word: &str| match instant(word) {
+            Err(NoMoment::Refused(refusal, ..)) => refusal,
+            other => panic!("{word}: {other:?}"),
+        };
+        for offset in ["", "Z", "+02:00"] {
+            assert_eq!(refused(&format!("2026-02-30T11:59{offset}")), Refusal::NoDate);
+            assert_eq!(refused(&format!("2026-03-31T24:00{offset}")), Refusal::NoClock);
+            assert_eq!(refused(&format!("2016-12-31T23:59:60{offset}")), Refusal::NoClock);
+        }
+        assert!(instant("1995-12-31T23:59Z").is_ok(), "Berlin has the next year");
+    }
+
+    #[test]
+    fn a_clock_time_as_it_is_said() {
+        let nine = instant("2026-03-31 09:00");
+        for time in ["9 Uhr", "9:00 Uhr", "um 9 Uhr", "um 09:00", "um 9:00:00 Uhr", " 9:00"] {
+            assert_eq!(instant(&format!("31.3.2026 {time}")), nine, "{time}");
+        }
+        for time in ["9", "um", "Uhr", "900 Uhr", "9.00 Uhr"] {
+            assert!(instant(&format!("31.3.2026 {time}")).is_err(), "{time}");
+        }
+        assert!(may_be_time("9") && may_be_time("9:00") && !may_be_time("900"));
+        assert!(is_offset("+02:00") && is_offset("-0430") && is_offset("Z"));
+        assert!(!is_offset("-3") && !is_offset("+2") && !is_offset("2"));
+    }
+
+    #[test]
+    fn the_date_that_was_meant() {
+        let meant = [
+            ("8.5.", "8.5.2026"),
+            ("8.5", "8.5.2026"),
+            ("08.05.26", "8.5.2026"),
+            ("2026-5-8", "8.5.2026"),
+            ("8/5/2026", "8.5.2026"),
+            (" 8.5.2026,", "8.5.2026"),
+            ("8-5-2026", "8.5.2026"),
+        ];
+        for (word, date) in meant {
+            assert_eq!(date_meant(word, NOW).as_deref(), Some(date), "{word}");
+        }
+        for word in ["", "bald", "8", "8.5.2026.1", "8.13.", "30.2.2026", "8.5.226", "08.05.1926"] {
+            assert_eq!(date_meant(word, NOW), None, "{word}");
+        }
     }
 }

@@ -1,4 +1,5 @@
 use crate::command::{Command, GROUPS};
+use crate::names::one_of;
 use crate::program;
 use crate::words::meant;
 use std::ffi::OsStr;
@@ -7,12 +8,15 @@ use std::ffi::OsStr;
 #[derive(Debug)]
 pub struct Usage {
     pub message: String,
-    pub command: Option<&'static Command>,
+    /// With the name by which it was called.
+    command: Option<(&'static Command, String)>,
+    /// Whether the message names what was meant.
+    meant: bool,
 }
 
 impl Usage {
     pub fn new(message: impl Into<String>) -> Usage {
-        Usage { message: message.into(), command: None }
+        Usage { message: message.into(), command: None, meant: false }
     }
 
     /// A word that is none of those known, with the one that may have been meant.
@@ -21,27 +25,27 @@ impl Usage {
         word: &OsStr,
         known: impl IntoIterator<Item = &'a str>,
     ) -> Usage {
-        Usage::new(format!("{what} {}{}", quoted(word), perhaps(word, known)))
+        Usage::new(format!("{what} {}", quoted(word))).meaning(perhaps(word, known))
     }
 
-    /// With this behind its message.
-    pub fn and(self, text: &str) -> Usage {
-        Usage { message: self.message + text, ..self }
+    /// With a question behind its message.
+    pub fn meaning(self, perhaps: String) -> Usage {
+        Usage { meant: !perhaps.is_empty(), message: self.message + &perhaps, ..self }
     }
 
-    pub fn of(self, command: &'static Command) -> Usage {
-        Usage { command: Some(command), ..self }
+    pub fn of(self, command: &'static Command, called: &str) -> Usage {
+        Usage { command: Some((command, command.known_by(called))), ..self }
     }
 
     /// What was expected, and how the subcommand is called.
     pub fn text(&self) -> String {
         let (message, name, program) = (&self.message, program::name(), program::called());
-        match self.command {
-            Some(command) => format!(
-                "{name}: {message}\nAufruf: {program} {}\nMehr: {program} {} --help\n",
-                command.usage(),
-                command.name
+        match &self.command {
+            Some((command, called)) => format!(
+                "{name}: {message}\nAufruf: {program} {}\nMehr: {program} {called} --help\n",
+                command.usage(called)
             ),
+            None if self.meant => format!("{name}: {message}\nMehr: {program} --help\n"),
             None => {
                 format!("{name}: {message}\nBefehle:\n{}Mehr: {program} --help\n", commands())
             }
@@ -51,26 +55,28 @@ impl Usage {
     /// The same on one line, of a line of a file.
     pub fn of_line(&self, line: u64) -> String {
         let message = &self.message;
-        let form = self.command.map(|command| format!(" (Aufbau: {})", command.usage_in_line()));
-        format!("{}: Zeile {line}: {message}{}\n", program::name(), form.unwrap_or_default())
+        let form = self.command.as_ref().map(|(command, called)| command.usage_in_line(called));
+        let form = form.map_or(String::new(), |form| format!(" (Aufbau: {form})"));
+        format!("{}: Zeile {line}: {message}{form}\n", program::name())
     }
 }
 
 /// How much of a text a complaint quotes.
 const MOST_QUOTED: usize = 80;
 
-/// As it stands behind a complaint: the known word that is nearest, if one is near.
+/// As it stands behind a complaint: the known words that may have been meant, if there are any.
 pub fn perhaps<'a>(word: &OsStr, known: impl IntoIterator<Item = &'a str>) -> String {
-    match meant(&word.to_string_lossy(), known) {
-        Some(meant) => format!(". Meinten Sie {meant}?"),
-        None => String::new(),
+    let meant = meant(&word.to_string_lossy(), known);
+    if meant.is_empty() {
+        return String::new();
     }
+    format!(". Meinten Sie {}?", one_of(&meant))
 }
 
 /// The names of all, a line for each heading.
 fn commands() -> String {
     let line = |(heading, commands): &(&str, &[Command])| {
-        let names: Vec<_> = commands.iter().map(|command| command.name).collect();
+        let names: Vec<_> = commands.iter().map(Command::german_name).collect();
         format!("  {heading}: {}\n", names.join(", "))
     };
     GROUPS.iter().map(line).collect()
@@ -93,7 +99,10 @@ pub fn quoted_bytes(text: &[u8]) -> String {
 }
 
 fn visible(c: char) -> Vec<char> {
-    if c.is_control() {
+    // The direction of writing is steered too.
+    let turns =
+        matches!(c, '\u{200e}' | '\u{200f}' | '\u{202a}'..='\u{202e}' | '\u{2066}'..='\u{2069}');
+    if c.is_control() || turns {
         return c.escape_unicode().collect();
     }
     vec![c]

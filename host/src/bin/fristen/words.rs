@@ -17,16 +17,34 @@ pub fn normal(word: &str) -> String {
 /// Of longer words no more than these characters are compared: no name is as long.
 const LONGEST: usize = 64;
 
-/// The name that was meant, if one is near: the nearest, of which one letter in three may be wrong.
-pub fn meant<'a>(word: &str, names: impl IntoIterator<Item = &'a str>) -> Option<&'a str> {
-    let word: Vec<char> = normal(word).chars().take(LONGEST).collect();
+/// So many letters of a name say which is meant, and so many names can be read out.
+const FEWEST_LETTERS: usize = 3;
+const MOST_NAMES: usize = 5;
+
+/// The names that may have been meant: the nearest, of which one letter in three may be wrong, else
+/// those of which the word is a part.
+pub fn meant<'a>(word: &str, names: impl IntoIterator<Item = &'a str>) -> Vec<&'a str> {
+    let names: Vec<&str> = names.into_iter().collect();
+    let word: String = normal(word).chars().take(LONGEST).collect();
+    match nearest(&word, &names) {
+        Some(name) => vec![name],
+        None => names.into_iter().filter(|name| is_part(&word, name)).take(MOST_NAMES).collect(),
+    }
+}
+
+fn nearest<'a>(word: &str, names: &[&'a str]) -> Option<&'a str> {
+    let word: Vec<char> = word.chars().collect();
     let distance = |name: &str| {
         let name: Vec<char> = normal(name).chars().collect();
         let allowed = (name.len().min(word.len()) / 3).max(1);
         Some(distance(&word, &name)).filter(|distance| *distance <= allowed)
     };
-    let near = names.into_iter().filter_map(|name| Some((distance(name)?, name)));
+    let near = names.iter().filter_map(|name| Some((distance(name)?, *name)));
     near.min_by_key(|(distance, _)| *distance).map(|(_, name)| name)
+}
+
+fn is_part(word: &str, name: &str) -> bool {
+    word.chars().count() >= FEWEST_LETTERS && normal(name).contains(word)
 }
 
 /// How many letters are to be put in, taken out, replaced, or swapped with their neighbour.
@@ -60,13 +78,22 @@ mod tests {
     #[test]
     fn what_was_meant_is_near() {
         let names = ["tag", "add-werktage", "sub-werktage", "span"];
-        assert_eq!(meant("add-wertkage", names), Some("add-werktage"));
-        assert_eq!(meant("adwerktage", names), Some("add-werktage"));
-        assert_eq!(meant("Sub_Werktag", names), Some("sub-werktage"));
-        assert_eq!(meant("tga", names), Some("tag"));
-        assert_eq!(meant("spann", names), Some("span"));
-        assert_eq!(meant("gestern", names), None);
-        assert_eq!(meant("", names), None);
-        assert_eq!(meant(&"x".repeat(1_000_000), names), None);
+        let one = |word: &str| meant(word, names);
+        for word in ["add-wertkage", "adwerktage", "ADD_WERKTAG"] {
+            assert_eq!(one(word), ["add-werktage"], "{word}");
+        }
+        assert_eq!(one("tga"), ["tag"]);
+        assert_eq!(one("spann"), ["span"]);
+        for word in ["gestern", "", "w", "we", &"x".repeat(1_000_000)] {
+            assert!(one(word).is_empty(), "{word}");
+        }
+    }
+
+    #[test]
+    fn what_was_meant_may_be_a_part() {
+        let names = ["aperak-strom", "aperak-gas", "aperak-gas-folgeprozess", "contrl"];
+        assert_eq!(meant("APERAK", names), names[..3]);
+        assert_eq!(meant("Gas", names), names[1..3]);
+        assert_eq!(meant("rak", ["aperak"; 9]).len(), MOST_NAMES);
     }
 }

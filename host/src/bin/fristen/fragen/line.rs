@@ -24,20 +24,27 @@ pub fn read(line: &Line) -> Option<Result<Asked, Usage>> {
 
 fn asked(text: &str) -> Result<Asked, Usage> {
     let words: Vec<&str> = text.split([' ', '\t']).filter(|word| !word.is_empty()).collect();
-    let (command, call) = find(words.first().copied().unwrap_or_default())?;
-    question(command, call, &words).map_err(|usage| usage.of(command))
+    let name = words.first().copied().unwrap_or_default();
+    let (command, call) = find(name)?;
+    question(command, call, &words).map_err(|usage| usage.of(command, name))
 }
 
 fn find(name: &str) -> Result<(&'static Command, Call), Usage> {
-    questions().find(|(command, _)| command.is_named(name)).ok_or_else(|| {
-        let all: Vec<_> = questions().map(|(command, _)| command.name).collect();
-        let expected = names::one_of(&all);
-        let (name, known) =
-            (OsStr::new(name), questions().flat_map(|(command, _)| command.names()));
-        let known: Vec<String> = known.collect();
-        let meant = perhaps(name, known.iter().map(String::as_str));
-        Usage::new(format!("erwartet {expected}, nicht {}{meant}", quoted(name)))
-    })
+    let found = questions().find(|(command, _)| command.is_named(name));
+    found.ok_or_else(|| unknown(OsStr::new(name)))
+}
+
+/// A command of its own may not be one of a file.
+fn unknown(name: &OsStr) -> Usage {
+    let all: Vec<_> = questions().map(|(command, _)| command.german_name()).collect();
+    let expected = names::one_of(&all);
+    if let Some(command) = name.to_str().and_then(Command::find) {
+        let name = command.known_by(&name.to_string_lossy());
+        return Usage::new(format!("{name} gibt es in einer Datei nicht; erwartet {expected}"));
+    }
+    let known: Vec<String> = questions().flat_map(|(command, _)| command.names()).collect();
+    let perhaps = perhaps(name, known.iter().map(String::as_str));
+    Usage::new(format!("erwartet {expected}, nicht {}", quoted(name))).meaning(perhaps)
 }
 
 fn question(command: &Command, call: Call, words: &[&str]) -> Result<Asked, Usage> {
@@ -116,9 +123,12 @@ mod tests {
         let cases: [(&[u8], &str); 6] = [
             (
                 b"chekc Korridor 1 2026-01-01 2026-01-02",
-                "erwartet contrl, frist, check oder span, nicht „chekc“. Meinten Sie check?",
+                "erwartet contrl, frist, pruefen oder spanne, nicht „chekc“. Meinten Sie check?",
             ),
-            (b"tag 2026-01-01", "erwartet contrl, frist, check oder span, nicht „tag“"),
+            (
+                b"tag 2026-01-01",
+                "tag gibt es in einer Datei nicht; erwartet contrl, frist, pruefen oder spanne",
+            ),
             (b"\xc4ndern", "erwartet Text in UTF-8, nicht „\u{fffd}ndern“"),
             (
                 b"span Korridor 1 2026-01-01 --json",
@@ -129,7 +139,7 @@ mod tests {
             (
                 b"span Korridor 1 2026-01-01\r 5",
                 "ÜBERTRAGUNGSTAG: erwartet ein Datum wie 2026-04-02 oder 2.4.2026, nicht \
-                 „2026-01-01\\u{d}“ \
+                 „2026-01-01\\u{d}“. Meinten Sie 1.1.2026? \
                  (Aufbau: span FORM [ZAHLEN] ÜBERTRAGUNGSTAG)",
             ),
         ];
