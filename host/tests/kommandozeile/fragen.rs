@@ -451,7 +451,9 @@ fn bad_usage() {
 #[test]
 fn a_reader_that_goes_away_has_read_enough() {
     let path = file("viele.txt", format!("{SPAN}\n").repeat(200_000));
-    assert_may_go_away("fragen", &path, b"Zeile 1: ");
+    assert_may_go_away("fragen", &path, b"Zeile 1: ", 0);
+    let path = file("viele-abgelehnt.txt", format!("{REFUSED}\n{SPAN}\n").repeat(100_000));
+    assert_may_go_away("fragen", &path, b"Zeile 1: ", 2);
 }
 
 #[cfg(target_os = "linux")]

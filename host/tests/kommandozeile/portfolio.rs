@@ -293,7 +293,7 @@ fn a_very_long_line() {
 #[test]
 fn a_reader_that_goes_away_has_read_enough() {
     let path = file("zeilen.csv", "2026-04-02;2026-04-07\n".repeat(200_000));
-    assert_may_go_away("portfolio", &path, b"1\n");
+    assert_may_go_away("portfolio", &path, b"1\n", 0);
 }
 
 #[cfg(target_os = "linux")]

@@ -152,15 +152,15 @@ pub fn assert_shows_progress(name: &str, line: &str, what: &str) {
     }
 }
 
-/// A reader that goes away behind `first` is no failure.
-pub fn assert_may_go_away<const N: usize>(name: &str, path: &Path, first: &[u8; N]) {
+/// A reader that goes away behind `first` is no failure: the status is that of the lines until then.
+pub fn assert_may_go_away<const N: usize>(name: &str, path: &Path, first: &[u8; N], status: i32) {
     let (mut reader, writer) = std::io::pipe().expect("a pipe");
     let child = program().arg(name).arg(path).stdout(writer).stderr(Stdio::piped()).spawn();
     let mut read = [0; N];
     reader.read_exact(&mut read).expect("an answer");
     drop(reader);
     let output = child.expect("the program runs").wait_with_output().expect("it ends");
-    assert_eq!((output.status.code(), output.stderr, &read), (Some(0), vec![], first));
+    assert_eq!((output.status.code(), output.stderr, &read), (Some(status), vec![], first));
 }
 
 /// Of a file with a line that cannot be read: neither the answers nor the complaint can be written.
