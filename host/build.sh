@@ -5,10 +5,18 @@ started=$target/fristen.started
 proved=$archive.sources # what the archive was built from
 built=$target/host/fristen.built # when the program was built, and with which archive
 log=$target/fristen.log
-job='' reader=''
+job='' reader='' locked=''
 declare -A below number
 
+# Removes what this build has begun. Without the lock it is another's.
+clean() {
+    [[ -n $locked ]] || return 0
+    rm -f -- "$started" "$built.new" "$seen.new"
+    [[ -n $library ]] || rm -f -- "$archive.new" "$proved.new"
+}
+
 unavailable() {
+    clean
     echo "fristen: $1" >&2
     exit 69
 }
@@ -21,8 +29,7 @@ interrupted() {
         wait "$job"
     fi 2>/dev/null
     tool_ended
-    rm -f -- "$started" "$built.new" "$seen.new"
-    [[ -n $library ]] || rm -f -- "$archive.new" "$proved.new"
+    clean
     echo "fristen: abgebrochen; der nächste Aufruf baut weiter." >&2
     kill -s "$1" "$$"
 }
@@ -57,17 +64,22 @@ number_crates() {
     number_crate mako_fristen_c
 }
 
-# The sources with their folders. What changes while it is built is newer than the build: the time that counts is that
-# of the beginning.
+# The sources with their folders. Of a crate they are its code: specs and proofs change none of it, and whether it meets
+# them is what ./test asks.
 find_sources() {
     local crate
-    touch -- "$started"
     number_crates
     shopt -s globstar nullglob
     crates=("$root/crates.txt")
-    for crate in "${!number[@]}"; do crates+=("$root/crates/$crate"/{src,specs,proofs}/**); done
+    for crate in "${!number[@]}"; do crates+=("$root/crates/$crate"/src/**); done
     host=("$root"/host/{Cargo.toml,Cargo.lock,build.rs} "$root"/host/src/**)
     shopt -u globstar nullglob
+}
+
+# What changes while it is built is newer than the build: the time that counts is that of the beginning.
+begin() {
+    touch -- "$started"
+    find_sources
 }
 
 # What is not there counts as newer, so that it is built again or said to be missing.
@@ -91,10 +103,12 @@ program_is_old() {
     [[ ! -x $program || ! -f $built || $(<"$built") != "$library" ]] || newer_than "$built" "$archive" "${host[@]}"
 }
 
-# On a terminal one line, which is written over.
+# Whether a line can be written over.
+can_write_over() { [[ -t 2 && ${TERM:-dumb} != dumb ]]; }
+
 show_crate() {
     local text="fristen: beweist Teil ${number[$1]} von ${#number[@]}: $1 ..."
-    if [[ -t 2 ]]; then printf '\r\033[K%s' "$text"; else echo "$text"; fi >&2
+    if can_write_over; then printf '\r\033[K%s' "$text"; else echo "$text"; fi >&2
     shown=1
 }
 
@@ -123,7 +137,7 @@ follow() {
         part=
     done
     printf '%s' "$part" >&7
-    [[ -z $shown || ! -t 2 ]] || printf '\r\033[K' >&2
+    [[ -z $shown ]] || ! can_write_over || printf '\r\033[K' >&2
 }
 
 run_tool() {
@@ -139,10 +153,11 @@ tool_ended() {
     reader=
 }
 
+need() { command -v "$1" >/dev/null || unavailable "$1 fehlt; ohne das lässt sich $2 nicht bauen."; }
+
 # A tool is quiet unless it fails. What it prints is kept in a file that has no name any more.
 build() {
-    local what=$1 tool=$2 command=$3 status
-    command -v "$tool" >/dev/null || unavailable "$tool fehlt; ohne das lässt sich $what nicht bauen."
+    local what=$1 command=$2 status
     exec 7>"$log" 6<"$log" || unavailable "kein Platz für das Protokoll."
     rm -f -- "$log"
     exec 8> >(follow >/dev/null)
@@ -171,7 +186,7 @@ put() { touch -r "$started" -- "$1.new" && mv -f -- "$1.new" "$1"; }
 
 build_archive() {
     echo "fristen: beweist und übersetzt die Bibliothek, einmalig, etwa zehn Minuten ..." >&2
-    build "die Bibliothek" rt prove
+    build "die Bibliothek" prove
     cp -- "$root/crates/mako_fristen_c/out/libmako_fristen_c.a" "$archive.new" && put "$archive" &&
         echo "${crates[*]#"$root/"}" >"$proved.new" && put "$proved" ||
         unavailable "die Bibliothek ließ sich nicht ablegen."
@@ -179,7 +194,7 @@ build_archive() {
 
 build_program() {
     echo "fristen: übersetzt das Programm, einmalig, einige Sekunden ..." >&2
-    build "das Programm" cargo compile
+    build "das Programm" compile
     echo "$library" >"$built.new" && put "$built" || unavailable "das Programm ließ sich nicht ablegen."
 }
 
@@ -202,18 +217,22 @@ trap 'interrupted HUP' HUP
 trap 'interrupted INT' INT
 trap 'interrupted TERM' TERM
 if ! lock; then
-    find_sources 2>/dev/null
+    find_sources
     ! archive_is_old && ! program_is_old || unavailable "$target lässt sich nicht beschreiben."
     return
 fi
-find_sources
+locked=1
+begin
 if archive_is_old || program_is_old; then
+    # Both tools are looked for before one of them works for minutes.
+    ! archive_is_old || need rt "die Bibliothek"
+    need cargo "das Programm"
     ! archive_is_old || build_archive
     ! program_is_old || build_program
     # What has been changed meanwhile is for the next call to build.
-    find_sources
+    begin
 fi
 archive_is_old || program_is_old || remember
-rm -f -- "$started"
+clean
 exec 9>&-
 trap - HUP INT TERM

@@ -37,10 +37,10 @@ const CRATES: &str =
 const SOURCES: [&str; 14] = [
     "crates/unten/src/lib.rt",
     "crates/unten/specs/Eins.antt",
-    "crates/unten/proofs/Nur.antt",
+    "crates/unten/src/tief/tiefer/zwei.rt",
     "crates/oben/src/lib.rt",
-    "crates/oben/proofs/tief/tiefer/Zwei.antt",
-    "crates/oben/proofs/Drei.antt",
+    "crates/oben/src/drei.rt",
+    "crates/oben/proofs/tief/Vier.antt",
     "crates/mako_fristen_c/src/lib.rt",
     "crates/fremd/src/lib.rt",
     "host/src/lib.rs",
@@ -149,7 +149,8 @@ impl Tree {
         let folders = ["target", "target/host", "target/staticlib"].map(|it| self.at(it));
         let files = folders.iter().filter_map(|it| fs::read_dir(it).ok()).flatten();
         let names = files.map(|it| it.expect("a file").file_name().to_string_lossy().into_owned());
-        names.filter(|it| it.ends_with(".new") || it.ends_with(".log")).collect()
+        let ends = [".new", ".log", ".started"];
+        names.filter(|it| ends.iter().any(|end| it.ends_with(end))).collect()
     }
 }
 
@@ -189,6 +190,7 @@ fn a_later_call_starts_no_process() {
     assert_eq!(output.status.code(), Some(0));
 }
 
+/// Specs and proofs change no code.
 #[test]
 fn an_edited_source_is_built() {
     let tree = Tree::built("bearbeitet");
@@ -197,6 +199,7 @@ fn an_edited_source_is_built() {
         tree.write(source, CRATES);
         let expected = match source {
             "crates/fremd/src/lib.rt" => "",
+            _ if source.ends_with(".antt") => "",
             _ if source.starts_with("host") => PROGRAM_ALONE,
             _ => BOTH,
         };
@@ -209,12 +212,15 @@ fn an_edited_source_is_built() {
 #[test]
 fn an_added_source_is_built() {
     let tree = Tree::built("dazu");
-    for source in
-        ["crates/oben/proofs/Neu.antt", "crates/unten/src/neu/neu.rt", "crates/oben/specs/Neu.antt"]
-    {
+    for source in ["crates/oben/src/neu.rt", "crates/unten/src/neu/neu.rt"] {
         later();
         tree.write(source, "new");
         assert_eq!(tree.built_by(&mut tree.call()), BOTH, "{source}");
+    }
+    for source in ["crates/oben/proofs/Neu.antt", "crates/oben/specs/Neu.antt"] {
+        later();
+        tree.write(source, "new");
+        assert_eq!(tree.built_by(&mut tree.call()), "", "{source}");
     }
     for source in ["host/src/neu.rs", "host/src/neu/neu.rs"] {
         later();
@@ -228,16 +234,19 @@ fn an_added_source_is_built() {
 #[test]
 fn a_removed_source_is_noticed() {
     let tree = Tree::new("fort");
-    tree.write("alt.antt", "old");
+    tree.write("alt.rt", "old");
     later();
     assert_eq!(tree.built_by(&mut tree.call()), BOTH);
     later();
-    fs::remove_file(tree.at("crates/oben/proofs/Drei.antt")).expect("it is removed");
+    fs::remove_file(tree.at("crates/oben/src/drei.rt")).expect("it is removed");
     assert_eq!(tree.built_by(&mut tree.call()), BOTH);
-    fs::remove_dir_all(tree.at("crates/unten/proofs")).expect("it is removed");
+    fs::remove_dir_all(tree.at("crates/unten/src/tief")).expect("it is removed");
     assert_eq!(tree.built_by(&mut tree.call()), BOTH);
     later();
-    fs::rename(tree.at("alt.antt"), tree.at("crates/unten/specs/Eins.antt")).expect("it is moved");
+    fs::rename(tree.at("alt.rt"), tree.at("crates/unten/src/lib.rt")).expect("it is moved");
+    assert_eq!(tree.built_by(&mut tree.call()), BOTH);
+    later();
+    fs::remove_dir_all(tree.at("crates/mako_fristen_c/src")).expect("it is removed");
     assert_eq!(tree.built_by(&mut tree.call()), BOTH);
     later();
     fs::remove_dir_all(tree.at("host/src/bin/fristen/tief")).expect("it is removed");
@@ -326,10 +335,47 @@ fn a_tool_that_fails_is_heard() {
     assert_fails(&tree, &format!("{said}fristen: das Programm ließ sich nicht bauen.\n"));
     fs::remove_file(tree.at("bin/cargo")).expect("it is removed");
     let missing = "fristen: cargo fehlt; ohne das lässt sich das Programm nicht bauen.\n";
-    assert_fails(&tree, &format!("{compiling}\n{missing}"));
+    assert_fails(&tree, missing);
     fs::remove_file(tree.at("fail-cargo")).expect("it is removed");
     tree.tool("bin/cargo", CARGO);
     assert_eq!(tree.built_by(&mut tree.call()), PROGRAM_ALONE);
+}
+
+/// The first minutes would be lost if the second tool were looked for behind them.
+#[test]
+fn both_tools_are_there_before_one_is_called() {
+    for (tool, what) in [("rt", "die Bibliothek"), ("cargo", "das Programm")] {
+        let tree = Tree::new(&format!("ohne-{tool}"));
+        fs::remove_file(tree.at(&format!("bin/{tool}"))).expect("it is removed");
+        let missing = format!("fristen: {tool} fehlt; ohne das lässt sich {what} nicht bauen.\n");
+        assert_fails(&tree, &missing);
+        assert_eq!(tree.calls(), "", "{tool}");
+    }
+    let tree = Tree::built("ohne-beide");
+    for tool in ["rt", "cargo"] {
+        fs::remove_file(tree.at(&format!("bin/{tool}"))).expect("it is removed");
+    }
+    later();
+    tree.write("host/src/lib.rs", "two");
+    assert_fails(&tree, "fristen: cargo fehlt; ohne das lässt sich das Programm nicht bauen.\n");
+}
+
+/// What a terminal shows, of this kind.
+fn shown(tree: &Tree, kind: &str) -> String {
+    let mut call = tree.command("script");
+    call.args(["-qec", "./fristen -c :", "/dev/null"]).env("TERM", kind).env("SHELL", "/bin/sh");
+    let output = call.output().expect("it runs");
+    assert_eq!(output.status.code(), Some(0), "{kind}");
+    text(&output.stdout).replace("\r\n", "\n")
+}
+
+#[test]
+fn a_terminal_shows_one_crate_over_the_other() {
+    let parts: Vec<_> = FIRST.lines().collect();
+    let over = parts[1..4].iter().map(|part| format!("\r\u{1b}[K{part}"));
+    let expected = format!("{}\n{}\r\u{1b}[K{}\n", parts[0], over.collect::<String>(), parts[4]);
+    assert_eq!(shown(&Tree::new("bildschirm"), "xterm"), expected);
+    assert_eq!(shown(&Tree::new("bildschirm-einfach"), "dumb"), FIRST);
 }
 
 fn is_there(pid: &str) -> bool {
@@ -374,10 +420,12 @@ fn an_interrupted_build_goes_on() {
                 .ends_with("\nfristen: abgebrochen; der nächste Aufruf baut weiter.\n");
             assert_eq!(told, signal != "KILL", "{}", text(&output.stderr));
             until("the tool has ended", || !is_there(&pid));
-            assert_eq!(tree.left_over(), [""; 0], "{tool} {signal}");
+            let left: &[&str] = if told { &[] } else { &["fristen.started"] };
+            assert_eq!(tree.left_over(), left, "{tool} {signal}");
             fs::remove_file(tree.at(&format!("hang-{tool}"))).expect("it is removed");
             assert_eq!(tree.built_by(&mut tree.call()), rest, "{tool} {signal}");
             assert_eq!(tree.built_by(&mut tree.call()), "", "{tool} {signal}");
+            assert_eq!(tree.left_over(), [""; 0], "{tool} {signal}");
         }
     }
 }
@@ -441,6 +489,24 @@ fn two_calls_at_once_build_once() {
     assert_eq!(text(&first.wait_with_output().expect("it ends").stderr), FIRST);
     assert_eq!(text(&second.wait_with_output().expect("it ends").stdout), "./fristen\n");
     assert_eq!((told.count(), tree.calls().as_str()), (0, BOTH));
+}
+
+/// It was not its build.
+#[test]
+fn a_call_that_waits_leaves_the_other_alone() {
+    let tree = Tree::new("wartend");
+    let (first, _) = hanging(&tree, "cargo");
+    let mut second = tree.command("env");
+    second.args(["--default-signal=TERM", "./fristen"]).stderr(Stdio::piped());
+    let mut second = second.spawn().expect("it runs");
+    let mut told = BufReader::new(second.stderr.take().expect("an output")).lines();
+    assert!(told.next().is_some(), "it waits");
+    send("TERM", &second);
+    assert_eq!(second.wait().expect("it ends").signal(), Some(15));
+    assert_eq!(tree.left_over(), ["fristen.started"]);
+    fs::remove_file(tree.at("hang-cargo")).expect("it is removed");
+    assert_eq!(first.wait_with_output().expect("it ends").status.code(), Some(0));
+    assert_eq!(tree.built_by(&mut tree.call()), "");
 }
 
 /// The program is called by the name that was called.
@@ -508,9 +574,9 @@ const PROGRAM: &str = r#"#!/bin/bash
 echo "new $1"
 "#;
 const INSTALLED: [(&str, u32, &str); 3] = [
-    ("bin/fristen", 0o755, PROGRAM),
     ("share/man/man1/fristen.1", 0o644, "new --manpage\n"),
     ("share/bash-completion/completions/fristen", 0o644, "new --bash-completion\n"),
+    ("bin/fristen", 0o755, PROGRAM),
 ];
 
 /// Whose program is the script.
@@ -519,6 +585,18 @@ fn installing(name: &str) -> Tree {
     fs::remove_file(tree.at("target/host/release/fristen")).expect("it is removed");
     tree.tool("target/host/release/fristen", PROGRAM);
     tree
+}
+
+/// With folders that nobody else may read, unless it sees to that.
+fn install(tree: &Tree) -> Command {
+    let mut call = tree.command("sh");
+    call.args(["-c", "umask 077 && exec ./install \"$@\"", "sh"]).env("TMPDIR", tree.at("tmp"));
+    fs::create_dir_all(tree.at("tmp")).expect("it is made");
+    call
+}
+
+fn mode(place: &Path) -> u32 {
+    fs::metadata(place).expect("it is there").permissions().mode() & 0o777
 }
 
 /// Every file below a folder, without it.
@@ -540,7 +618,7 @@ fn what_is_installed() {
         (&[], Some("paket"), "paket/usr/local"),
     ];
     for (arguments, below, folder) in calls {
-        let mut call = tree.command("./install");
+        let mut call = install(&tree);
         if let Some(below) = below {
             let below = if below.is_empty() { PathBuf::new() } else { tree.at(below) };
             call.env("DESTDIR", below);
@@ -550,25 +628,77 @@ fn what_is_installed() {
         let places = INSTALLED.map(|(file, ..)| tree.at(folder).join(file));
         let told = places.each_ref().map(|place| format!("{}\n", place.display()));
         assert_eq!(text(&output.stdout), told.concat());
-        for (place, (file, mode, content)) in places.iter().zip(INSTALLED) {
+        for (place, (file, given, content)) in places.iter().zip(INSTALLED) {
             assert_eq!(fs::read_to_string(place).expect("it is there"), content, "{file}");
-            let given = fs::metadata(place).expect("it is there").permissions().mode();
-            assert_eq!(given & 0o777, mode, "{file}");
+            assert_eq!(mode(place), given, "{file}");
+            let folders = place.ancestors().skip(1).take_while(|it| *it != tree.0);
+            folders.for_each(|it| assert_eq!(mode(it), 0o755, "{}", it.display()));
         }
         assert_eq!(files(&tree.at(folder)).len(), INSTALLED.len());
     }
+    assert_eq!(files(&tree.at("tmp")), [""; 0]);
 }
 
-/// An older file stays whole, and nothing lies beside it.
+/// It is the link that is replaced, not a file of that folder.
+#[test]
+fn a_link_to_a_folder_in_the_place_of_a_file() {
+    let tree = installing("abgelegt-link");
+    tree.write("woanders/datei", "old");
+    fs::create_dir_all(tree.at("usr/bin")).expect("it is made");
+    symlink("../../woanders", tree.at("usr/bin/fristen")).expect("it is a link");
+    let output = install(&tree).arg("usr").output().expect("it runs");
+    assert_eq!((output.status.code(), text(&output.stderr)), (Some(0), ""));
+    assert_eq!(fs::read_to_string(tree.at("usr/bin/fristen")).expect("a file"), PROGRAM);
+    assert_eq!(files(&tree.at("woanders")), ["datei"]);
+}
+
+/// The real one: what is installed needs nothing of the repository.
+#[test]
+fn the_program_that_is_installed() {
+    let tree = installing("abgelegt-echt");
+    let built = tree.at("target/host/release/fristen");
+    fs::remove_file(&built).expect("it is removed");
+    symlink(env!("CARGO_BIN_EXE_fristen"), built).expect("it is a link");
+    let output = install(&tree).arg("usr").output().expect("it runs");
+    assert_eq!((output.status.code(), text(&output.stderr)), (Some(0), ""));
+    let moved = tree.0.with_file_name("abgelegt-echt-usr");
+    let _ = fs::remove_dir_all(&moved);
+    fs::rename(tree.at("usr"), &moved).expect("it is moved");
+    fs::remove_dir_all(&tree.0).expect("it is removed");
+    let run = |script: &str| {
+        let mut bash = Command::new("bash");
+        let bash = bash.args(["--norc", "-c", script]).current_dir(&moved);
+        let output = bash.output().expect("it runs");
+        assert_eq!((output.status.code(), text(&output.stderr)), (Some(0), ""), "{script}");
+        text(&output.stdout).to_owned()
+    };
+    let version = format!("fristen {}\n", env!("CARGO_PKG_VERSION"));
+    assert_eq!(run("bin/fristen --version"), version);
+    // Of a printed calendar: a Wednesday, eleven days before the first Sunday of Advent.
+    let day = "Mittwoch, der 18. November 2026, ist kein Werktag: Buß- und Bettag.\n";
+    assert_eq!(run("bin/fristen tag 2026-11-18"), day);
+    let page = fs::read_to_string(moved.join("share/man/man1/fristen.1")).expect("a page");
+    assert!(page.starts_with(".TH FRISTEN 1 "), "{page}");
+    assert!(page.contains("\n$ fristen tag ") && !page.contains("./fristen"), "as it is called");
+    let completed = "source share/bash-completion/completions/fristen
+        PATH=$PWD/bin COMP_WORDS=(fristen kalen) COMP_CWORD=1
+        complete -p fristen >/dev/null && _fristen && echo \"${COMPREPLY[@]}\"";
+    assert_eq!(run(completed).trim(), "kalender");
+}
+
+/// Of an older one all files stay, each whole, and nothing lies beside them.
 #[test]
 fn an_installation_that_does_not_end() {
-    for what in ["fails", "hangs"] {
-        let tree = installing(&format!("abgelegt-{what}"));
+    let rows = [("--manpage", "Handbuchseite"), ("--bash-completion", "Vervollständigung")];
+    for (what, (option, name)) in
+        ["fails", "hangs"].into_iter().flat_map(|it| rows.map(|row| (it, row)))
+    {
+        let tree = installing(&format!("abgelegt-{what}{option}"));
         for (file, ..) in INSTALLED {
             tree.write(&format!("usr/{file}"), "old");
         }
-        tree.write(what, "--bash-completion");
-        let mut call = tree.command("./install");
+        tree.write(what, option);
+        let mut call = install(&tree);
         call.arg("usr").stdout(Stdio::piped()).stderr(Stdio::piped());
         let child = call.spawn().expect("it runs");
         if what == "hangs" {
@@ -576,32 +706,67 @@ fn an_installation_that_does_not_end() {
             send("TERM", &child);
         }
         let output = child.wait_with_output().expect("it ends");
-        let expected = if what == "hangs" { (None, Some(15)) } else { (Some(73), None) };
+        let expected = if what == "hangs" { (None, Some(15)) } else { (Some(69), None) };
         assert_eq!((output.status.code(), output.status.signal()), expected);
+        let told = format!("install: die {name} ließ sich nicht erzeugen.\n");
+        let told = if what == "hangs" { "" } else { &told };
+        assert_eq!((text(&output.stdout), text(&output.stderr)), ("", told));
         let found = INSTALLED.map(|(file, ..)| fs::read_to_string(tree.at("usr").join(file)));
-        let found = found.map(|it| it.expect("it is there"));
-        assert_eq!(found.each_ref().map(|it| it.as_str()), [PROGRAM, INSTALLED[1].2, "old"]);
+        assert_eq!(found.map(|it| it.expect("it is there")), ["old"; 3]);
         assert_eq!(files(&tree.at("usr")).len(), INSTALLED.len());
+        assert_eq!(files(&tree.at("tmp")), [""; 0]);
     }
 }
 
 #[test]
-fn what_cannot_be_installed() {
+fn what_cannot_be_built_is_not_installed() {
     let tree = Tree::new("nicht-abgelegt");
     tree.write("fail-rt", "");
     let output = tree.command("./install").arg("usr").output().expect("it runs");
     assert_eq!(output.status.code(), Some(69));
     assert!(text(&output.stderr).ends_with("\nfristen: die Bibliothek ließ sich nicht bauen.\n"));
     assert!(!tree.at("usr").exists());
-    for arguments in [&["a", "b"][..], &["--prefix=usr"]] {
+}
+
+#[test]
+fn how_it_is_not_installed() {
+    let tree = Tree::new("falsch-abgelegt");
+    let calls: [(&[&str], &str); 3] = [
+        (&["a", "b"], "erwartet nur ein PREFIX"),
+        (&["--prefix=usr"], "unbekannte Option: --prefix=usr"),
+        (&[""], "das PREFIX ist leer"),
+    ];
+    for (arguments, why) in calls {
         let output = tree.command("./install").args(arguments).output().expect("it runs");
         assert_eq!((output.status.code(), text(&output.stdout)), (Some(64), ""));
-        assert!(text(&output.stderr).starts_with("install: "));
+        let told = format!("install: {why}. Mehr: ./install --help\n");
+        assert_eq!((text(&output.stderr), tree.calls().as_str()), (told.as_str(), ""));
     }
-    let tree = installing("nicht-zu-schreiben");
-    tree.write("usr/share", "no folder");
-    let output = tree.command("./install").arg("usr").output().expect("it runs");
-    assert_eq!(output.status.code(), Some(73));
-    let told = text(&output.stderr).lines().last().unwrap_or_default();
-    assert!(told.ends_with("/usr/share/man/man1/fristen.1 lässt sich nicht schreiben."), "{told}");
+    let help = tree.command("./install").arg("--help").output().expect("it runs");
+    assert_eq!((help.status.code(), text(&help.stderr)), (Some(0), ""));
+    let help = text(&help.stdout);
+    assert!(help.starts_with("Aufruf: ./install [PREFIX]\n"), "{help}");
+    for status in ["64", "69", "73"] {
+        assert!(help.contains(&format!("mit {status}, wenn ")), "{help}");
+    }
+}
+
+/// A folder in the place of a file, and a file in that of a folder; in the last place that is tried.
+#[test]
+fn where_nothing_can_be_installed() {
+    let rows: [(&str, &str, &str); 2] = [
+        ("usr/bin/fristen/datei", "usr/bin/fristen", "ist ein Verzeichnis."),
+        ("usr/bin", "usr/bin/fristen", "lässt sich nicht schreiben."),
+    ];
+    for (number, (there, place, why)) in rows.into_iter().enumerate() {
+        let tree = installing(&format!("nicht-zu-schreiben-{number}"));
+        tree.write(there, "old");
+        let output = install(&tree).arg("usr").output().expect("it runs");
+        assert_eq!((output.status.code(), text(&output.stdout)), (Some(73), ""));
+        let told = text(&output.stderr).lines().last().unwrap_or_default();
+        assert_eq!(told, format!("install: {} {why}", tree.at(place).display()));
+        let file = there.strip_prefix("usr/").expect("below it");
+        assert_eq!(files(&tree.at("usr")), [file], "nothing new");
+        assert_eq!(files(&tree.at("tmp")), [""; 0]);
+    }
 }

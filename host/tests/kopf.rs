@@ -8,6 +8,7 @@ use mako_fristen_host::{
     Question, Reason, Refusal, Sparte, VorlaufShape, MOST_PAIRS, MOST_QUESTIONS, OUT_OF_RANGE,
 };
 use std::fmt::Debug;
+use std::fs;
 use std::io::Write;
 use std::path::{Path, PathBuf};
 use std::process::{Command, Stdio};
@@ -22,7 +23,7 @@ const UNTOUCHED: u8 = 0xa5;
 
 /// The program of kopf.c; none where there is no such compiler.
 fn compiled(compiler: &str, language: &[&str]) -> Option<PathBuf> {
-    let program = Path::new(env!("CARGO_TARGET_TMPDIR")).join(format!("kopf-{compiler}"));
+    let program = temporary(&format!("kopf-{compiler}"));
     let mut command = Command::new(compiler);
     command.args(language).args(["-pedantic", "-Wall", "-Wextra", "-Werror", "-Iinclude"]);
     command.args(["tests/kopf.c", "-x", "none", env!("MAKO_FRISTEN_ARCHIVE"), "-o"]);
@@ -48,6 +49,32 @@ fn written(program: &Path, what: &str, input: &[u8]) -> Vec<u8> {
     let output = child.wait_with_output().expect("it ends");
     assert!(output.status.success(), "{what}");
     output.stdout
+}
+
+/// The line of docs/host-calls.md, with another place of the archive. 2026-02-30 is refused with 3.
+#[test]
+fn a_program_is_compiled_as_the_page_says() {
+    let root = Path::new(env!("CARGO_MANIFEST_DIR")).join("..");
+    let page = fs::read_to_string(root.join("docs/host-calls.md")).expect("the page");
+    let line = page.lines().find_map(|line| line.strip_prefix("    cc ")).expect("a line");
+    let (source, program) = (temporary("kopf-x.c"), temporary("kopf-x"));
+    let asks = "#include <mako_fristen.h>\nint main(void) {\n  uint8_t answer[32];\n  \
+                return mf_next_werktag(2026, 2, 30, answer, sizeof answer);\n}\n";
+    fs::write(&source, asks).expect("it is written");
+    let (folder, name) = ("target/staticlib", "libmako_fristen.a");
+    let words = line.split(' ').map(|word| match word {
+        "x.c" => source.clone(),
+        _ if word == format!("{folder}/{name}") => PathBuf::from(env!("MAKO_FRISTEN_ARCHIVE")),
+        _ => PathBuf::from(word),
+    });
+    let mut cc = Command::new("cc");
+    let output = cc.args(words).arg("-o").arg(&program).current_dir(root).output().expect("cc");
+    assert!(output.status.success(), "{}", String::from_utf8_lossy(&output.stderr));
+    assert_eq!(Command::new(program).status().expect("it runs").code(), Some(3));
+}
+
+fn temporary(name: &str) -> PathBuf {
+    Path::new(env!("CARGO_TARGET_TMPDIR")).join(name)
 }
 
 fn question(call: Call, random: &mut Random) -> Question {

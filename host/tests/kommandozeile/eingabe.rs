@@ -557,9 +557,12 @@ fn a_closed_standard_output_is_an_error() {
     let output = super::zeilen::file("eine.txt", "contrl Regelfall 2026-03-31 11:00\n");
     let path = output.to_str().expect("UTF-8");
     assert_eq!(closed(&format!("fragen {path}")), unwritten);
+    assert_eq!(ended("tag 2026-11-18 1</dev/null"), unwritten, "opened for reading alone");
+    assert_eq!(ended("tag 2026-11-18 >/dev/full"), unwritten);
+    assert_eq!(ended("tag 2>/dev/full").0, Some(74), "a complaint that cannot be written");
     assert_eq!(closed("tag").0, Some(64), "a complaint goes elsewhere");
-    // Whoever wants no answer may say so, be it opened for reading too.
-    for null in [">/dev/null", "1<>/dev/null"] {
+    // Whoever wants no answer may say so, be it opened for reading too. No input is needed.
+    for null in [">/dev/null", "1<>/dev/null", ">/dev/null <&-"] {
         assert_eq!(ended(&format!("tag 2026-11-18 {null}")), (Some(0), String::new()), "{null}");
     }
 }

@@ -1,6 +1,8 @@
 //! `fristen fragen`: the questions of a file.
 
-use super::zeilen::{assert_at_once, assert_may_go_away, assert_unread, file, lines, said};
+use super::zeilen::{
+    assert_at_once, assert_may_go_away, assert_shows_progress, assert_unread, file, lines, said,
+};
 use super::{complaint, program, run, words, zeilen, Random, COUNTS, DATES, INSTANTS, SHAPES};
 use mako_fristen_host::{
     answer_records, Clock, ContrlAnlass, Date, Frage, Fragesatz, FristShape, Instant, VorlaufShape,
@@ -183,8 +185,8 @@ fn lines_that_cannot_be_read_are_named_and_the_others_answered() {
              MonateUndWerktageVorher (Aufbau: span FORM [ZAHLEN] ÜBERTRAGUNGSTAG)"),
         (
             b"contrl Fall @0",
-            "ANLASS: erwartet Regelfall, StromUtilmdOderOrders oder GasAlocat, nicht „Fall“. Meinten Sie Regelfall? (Aufbau: \
-             contrl ANLASS EINGANG)",
+            "ANLASS: erwartet Regelfall, StromUtilmdOderOrders oder GasAlocat, nicht „Fall“. Meinten \
+             Sie Regelfall? (Aufbau: contrl ANLASS EINGANG)",
         ),
         (
             b"frist SameDay @0 --json",
@@ -379,11 +381,9 @@ fn records_of_a_wrong_length_are_refused_as_a_whole() {
     for len in [1, 31, 33, 63, 65, 65_535, 65_537, 70_000] {
         let output = fed(&["--roh"], &records[..len]);
         assert_eq!((output.status.code(), output.stdout.as_slice()), (Some(2), &b""[..]), "{len}");
-        let complaint = String::from_utf8(output.stderr).expect("UTF-8");
-        assert!(
-            complaint.starts_with("Abgelehnt (9): ") && complaint.ends_with(".\n"),
-            "{complaint}"
-        );
+        let bytes = if len == 1 { "1 Byte ist".to_owned() } else { format!("{len} Bytes sind") };
+        let complaint = format!("fristen: Abgelehnt (9): {bytes} kein Vielfaches von 32.\n");
+        assert_eq!(String::from_utf8_lossy(&output.stderr), complaint);
     }
 }
 
@@ -409,6 +409,11 @@ fn input_in_pieces() {
 #[test]
 fn a_file_that_cannot_be_read() {
     assert_unread("fragen", &[&[], &["--json"], &["--roh"]]);
+}
+
+#[test]
+fn a_long_file_shows_how_far_it_has_come() {
+    assert_shows_progress("fragen", "span Korridor 1 2026-01-12", "Fragen beantwortet");
 }
 
 /// A name that would be an option, and one of a file that `-` does not mean.
@@ -446,7 +451,9 @@ fn bad_usage() {
 #[test]
 fn a_reader_that_goes_away_has_read_enough() {
     let path = file("viele.txt", format!("{SPAN}\n").repeat(200_000));
-    assert_may_go_away("fragen", &path, b"Zeile 1: ");
+    assert_may_go_away("fragen", &path, b"Zeile 1: ", 0);
+    let path = file("viele-abgelehnt.txt", format!("{REFUSED}\n{SPAN}\n").repeat(100_000));
+    assert_may_go_away("fragen", &path, b"Zeile 1: ", 2);
 }
 
 #[cfg(target_os = "linux")]

@@ -1,7 +1,8 @@
 //! `fristen portfolio`: the pairs of dates of a file.
 
 use super::zeilen::{
-    assert_at_once, assert_may_go_away, assert_unread, complaints, file, lines, said,
+    assert_at_once, assert_may_go_away, assert_shows_progress, assert_unread, complaints, file,
+    lines, said,
 };
 use super::{complaint, program, zeilen, Random, DATES};
 use mako_fristen_host::{werktage_between, Date};
@@ -83,6 +84,13 @@ fn a_line_without_dates_keeps_its_place() {
         assert_eq!(counts(&[], input), expected, "{input:?}");
         assert_eq!(counts(&["--json"], input).len(), expected.len(), "{input:?}");
     }
+}
+
+/// From a day to itself it is 0.
+#[test]
+fn dates_in_words_are_no_heading() {
+    assert_eq!(counts(&[], "heute;heute\n2026-04-02;2026-04-07\n"), ["0", "1"]);
+    assert_eq!(counts(&["--bytes"], "# VON BIS\nmorgen\tMorgen\n"), ["", "00000000"]);
 }
 
 #[test]
@@ -248,6 +256,11 @@ fn a_file_that_cannot_be_read() {
 }
 
 #[test]
+fn a_long_portfolio_shows_how_far_it_has_come() {
+    assert_shows_progress("portfolio", "2026-04-02 2026-04-07", "Paare gezählt");
+}
+
+#[test]
 fn bad_usage() {
     for (arguments, expected) in [
         (&["--roh", "--json"][..], "--roh gibt es zu diesem Befehl nicht"),
@@ -280,7 +293,7 @@ fn a_very_long_line() {
 #[test]
 fn a_reader_that_goes_away_has_read_enough() {
     let path = file("zeilen.csv", "2026-04-02;2026-04-07\n".repeat(200_000));
-    assert_may_go_away("portfolio", &path, b"1\n");
+    assert_may_go_away("portfolio", &path, b"1\n", 0);
 }
 
 #[cfg(target_os = "linux")]

@@ -261,7 +261,11 @@ const ASKED: &[(&str, &[&str], &[&str])] = &[
         &["WerktageVorher 1 2026-04-07", "Korridor 2 2026-04-07", "Zeitfenster 0 5 2026-01-12"],
         &["WerktageVorher 1 1996-01-01", "TagVorLetztemWerktag 2026-02-29"],
     ),
-    ("abmeldung-fuer", &["Z33 --eeg ja", "ZQ7 --eeg nein"], &[]),
+    (
+        "abmeldung-fuer",
+        &["Z33 --eeg ja", "Z33 --eeg nein", "Z33 --eeg unbekannt", "ZQ7 --eeg nein"],
+        &[],
+    ),
     (
         "abmeldung",
         &["Z33 2026-01-31 2026-02-28 --eeg ja", "ZQ7 2026-01-08 2026-01-12 --eeg unbekannt"],
@@ -331,6 +335,84 @@ fn each_command_prints_the_keys_of_the_page() {
     let of_calls = Call::ALL.map(|call| Value::Text(call.name().to_owned()));
     let others = ["bis-wann", "kalender"].map(|name| Value::Text(name.to_owned()));
     assert_eq!(calls, of_calls.into_iter().chain(others).collect());
+}
+
+/// The names that the page has as values of an answer's key.
+fn values(page: &str, key: &str) -> BTreeSet<String> {
+    let row = tables(page, ANSWER)[1].iter().find(|row| named(&row[0]) == [key]).cloned();
+    let row = row.unwrap_or_else(|| panic!("no row of {key}"));
+    named(&row[3]).into_iter().map(str::to_owned).collect()
+}
+
+/// Each of them is given, and no other. The names of days are not all there.
+#[test]
+fn the_page_has_the_names_that_are_values() {
+    let mut seen: BTreeMap<&str, BTreeSet<String>> = BTreeMap::new();
+    for (command, answered, _) in ASKED.iter().filter(|(command, ..)| *command != "tag") {
+        for arguments in *answered {
+            let object = object(&format!("{command} {arguments}"), 0);
+            for key in ["kind_name", "label", "corner"] {
+                let value = object.members().iter().find(|(name, _)| name == key);
+                if let Some((_, Value::Text(name))) = value {
+                    seen.entry(key).or_default().insert(name.clone());
+                }
+            }
+        }
+    }
+    let page = page();
+    let mut kinds = values(&page, "kind_name");
+    for other in ["Werktag", "case", "abmeldung-fuer"] {
+        assert!(kinds.remove(other), "{other}");
+    }
+    kinds.extend(values(&page, "case"));
+    let expected = [("kind_name", kinds)]
+        .into_iter()
+        .chain(["label", "corner"].map(|key| (key, values(&page, key))));
+    assert_eq!(seen, expected.collect());
+}
+
+/// By its date, its clock time or Berlin's clock. With an offset it may lie outside the calendar.
+#[test]
+fn a_time_that_is_refused_in_reading_is_no_instant() {
+    let number = |object: &Value| object.get("refusal").get("number").clone();
+    let times = [
+        ("2026-02-30T10:00", 3),
+        ("1995-12-31T10:00", 3),
+        ("2026-01-10T24:00", 5),
+        ("2026-03-29T02:30", 6),
+        ("2026-02-30T10:00+01:00", 3),
+        ("2026-01-10T24:00Z", 5),
+    ];
+    for (time, refusal) in times {
+        let first = object(&format!("contrl Regelfall {time}"), 2);
+        assert_eq!(number(&first), Value::Number(refusal), "{time}");
+        assert_eq!(first.get("read").get("instant"), &Value::Null, "{time}");
+        let second = object(&format!("check-at Korridor 1 2026-01-08T10:00 {time} Gas"), 2);
+        assert_eq!(number(&second), Value::Number(refusal), "{time}");
+        assert_eq!(second.get("read").get("instant2"), &Value::Null, "{time}");
+        assert_ne!(second.get("read").get("instant"), &Value::Null, "{time}");
+    }
+    let outside = object("contrl Regelfall 1995-12-31T10:00+01:00", 2);
+    assert_eq!(number(&outside), Value::Number(4));
+    assert_ne!(outside.get("read").get("instant"), &Value::Null);
+}
+
+/// The options for a form are left out, wherever they stand.
+#[test]
+fn the_arguments_are_as_they_were_given() {
+    let rows = [
+        ("--status tag -- 2026-11-18", "-- 2026-11-18"),
+        ("-- tag 2026-11-18", "-- 2026-11-18"),
+        ("abmeldung --eeg ja Z33 2026-01-31 28.2.2026", "--eeg ja Z33 2026-01-31 28.2.2026"),
+        ("contrl --stichtag=6.6.2026 Regelfall @0s0ns", "--stichtag=6.6.2026 Regelfall @0s0ns"),
+    ];
+    for (line, expected) in rows {
+        let output = run(&[&["--json"], &words(line)[..]].concat());
+        let text = String::from_utf8(output.stdout).expect("UTF-8");
+        let object = Value::read(text.trim_end()).unwrap_or_else(|error| panic!("{line}: {error}"));
+        let given = words(expected).into_iter().map(|word| Value::Text(word.to_owned()));
+        assert_eq!(object.get("arguments"), &Value::List(given.collect()), "{line}");
+    }
 }
 
 /// The value at a path such as `instant.berlin`, as a script takes it.

@@ -4,7 +4,7 @@ use super::program;
 use std::fs;
 use std::io::{Read, Write};
 use std::path::{Path, PathBuf};
-use std::process::{Output, Stdio};
+use std::process::{Command, Output, Stdio};
 use std::sync::mpsc;
 use std::thread;
 use std::time::Duration;
@@ -105,17 +105,62 @@ pub fn assert_unread(name: &str, forms: &[&[&str]]) {
     let expected =
         "fristen: Die Standardeingabe lässt sich nicht lesen. Das ist ein Verzeichnis.\n";
     assert_eq!(complaints(&output), expected);
+    #[cfg(target_os = "linux")]
+    assert_not_open(name, forms);
 }
 
-/// A reader that goes away behind `first` is no failure.
-pub fn assert_may_go_away<const N: usize>(name: &str, path: &Path, first: &[u8; N]) {
+/// A standard input that is closed or open for writing alone is not an empty one.
+#[cfg(target_os = "linux")]
+fn assert_not_open(name: &str, forms: &[&[&str]]) {
+    let program = env!("CARGO_BIN_EXE_fristen");
+    let fed = |form: &[&str], input: &str| {
+        let script = format!("exec \"$0\" \"$@\" {input}");
+        let mut shell = Command::new("sh");
+        shell.args(["-c", &script, program, name]).args(form).output().expect("it runs")
+    };
+    let why = "Die Standardeingabe lässt sich nicht lesen. Sie ist nicht zum Lesen geöffnet.";
+    for form in forms.iter().copied().chain([&["-"][..]]) {
+        for input in ["<&-", "0>/dev/null"] {
+            let output = fed(form, input);
+            assert_eq!((output.status.code(), output.stdout.as_slice()), (Some(66), &b""[..]));
+            assert_eq!(complaints(&output), format!("fristen: {why}\n"), "{form:?} {input}");
+        }
+        for input in ["</dev/null", "0<>/dev/null"] {
+            let output = fed(form, input);
+            assert_eq!((output.status.code(), output.stderr), (Some(0), vec![]), "{input}");
+        }
+    }
+}
+
+/// How far it has come, which a terminal that can go back in its line shows after a second.
+pub fn assert_shows_progress(name: &str, line: &str, what: &str) {
+    let script = format!(
+        "(echo {line}; sleep 1.3; echo {line}) | {} {name} >/dev/null",
+        env!("CARGO_BIN_EXE_fristen")
+    );
+    for (kind, expected) in
+        [("xterm", format!("\r\u{1b}[Kfristen: 2 {what} ...\r\u{1b}[K")), ("dumb", String::new())]
+    {
+        let mut terminal = Command::new("script");
+        terminal
+            .args(["-qec", &script, "/dev/null"])
+            .env("TERM", kind)
+            .env("SHELL", "/bin/sh")
+            .stdin(Stdio::null());
+        let output = terminal.output().expect("it runs");
+        assert_eq!((output.status.code(), output.stdout), (Some(0), expected.into_bytes()));
+    }
+}
+
+/// A reader that goes away behind `first` is no failure: the status is that of the lines until then.
+pub fn assert_may_go_away<const N: usize>(name: &str, path: &Path, first: &[u8; N], status: i32) {
     let (mut reader, writer) = std::io::pipe().expect("a pipe");
     let child = program().arg(name).arg(path).stdout(writer).stderr(Stdio::piped()).spawn();
     let mut read = [0; N];
     reader.read_exact(&mut read).expect("an answer");
     drop(reader);
     let output = child.expect("the program runs").wait_with_output().expect("it ends");
-    assert_eq!((output.status.code(), output.stderr, &read), (Some(0), vec![], first));
+    assert_eq!((output.status.code(), output.stderr, &read), (Some(status), vec![], first));
 }
 
 /// Of a file with a line that cannot be read: neither the answers nor the complaint can be written.

@@ -3,6 +3,7 @@
 mod line;
 
 use crate::arguments::Form;
+use crate::errors;
 use crate::input::Input;
 use crate::lines::Line;
 use crate::outcome::{hint, Outcome, Status};
@@ -75,7 +76,7 @@ fn answer_all(run: &mut Run, mut input: Input) -> Result<(), Outcome> {
     let mut records = Vec::new();
     input.read_to_end(&mut records).map_err(|error| input.unread(&error))?;
     if records.len() % Fragesatz::LEN != 0 {
-        return Err(Outcome::of_error(Refusal::FileLength.into()));
+        return Err(no_records(records.len()));
     }
     let (mut done, all) = (0, records.len() as u64);
     for file in records.chunks(BATCH * Fragesatz::LEN) {
@@ -87,4 +88,12 @@ fn answer_all(run: &mut Run, mut input: Input) -> Result<(), Outcome> {
         run.show(done, Some(all));
     }
     run.flush()
+}
+
+/// Of so many bytes. Unlike a file of the call the input may have any length.
+fn no_records(bytes: usize) -> Outcome {
+    let are = if bytes == 1 { "Byte ist" } else { "Bytes sind" };
+    let sentence = format!("{bytes} {are} kein Vielfaches von {}.", Fragesatz::LEN);
+    let refused = errors::refused_as(Refusal::FileLength, &sentence);
+    Outcome::complaint(format!("{}: {refused}\n", program::name()), Status::Refused)
 }

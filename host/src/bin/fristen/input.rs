@@ -1,6 +1,6 @@
 use crate::outcome::{Outcome, Status};
-use crate::program;
 use crate::usage::quoted_bytes;
+use crate::{program, streams};
 use std::ffi::OsStr;
 use std::fs::File;
 use std::io::{self, IsTerminal, Read, Write};
@@ -24,7 +24,7 @@ impl Input {
     /// That there is none that can be opened.
     pub fn open(file: Option<&OsStr>) -> Result<Input, Outcome> {
         let Some(file) = file else {
-            return Ok(Input::standard());
+            return Input::standard();
         };
         let name = quoted_bytes(file.as_encoded_bytes());
         let opened = File::open(file).map_err(|error| unread(&name, &error))?;
@@ -32,7 +32,9 @@ impl Input {
         Ok(Input { name, bytes: Box::new(opened), len, typed: false })
     }
 
-    fn standard() -> Input {
+    fn standard() -> Result<Input, Outcome> {
+        let name = "Die Standardeingabe".to_owned();
+        let bytes = streams::input().map_err(|error| unread(&name, &error))?;
         let typed = io::stdin().is_terminal();
         if typed && io::stderr().is_terminal() {
             // That it waits must not be missed; whether this can be written is no matter.
@@ -42,8 +44,7 @@ impl Input {
                 program::name()
             );
         }
-        let (name, bytes) = ("Die Standardeingabe".to_owned(), Box::new(io::stdin().lock()));
-        Input { name, bytes, len: None, typed }
+        Ok(Input { name, bytes: Box::new(bytes), len: None, typed })
     }
 
     /// What is said of an error in reading.
@@ -62,6 +63,7 @@ fn unread(name: &str, error: &io::Error) -> Outcome {
     let why = match error.kind() {
         io::ErrorKind::NotFound => "Diese Datei gibt es nicht.".to_owned(),
         io::ErrorKind::PermissionDenied => "Die Berechtigung fehlt.".to_owned(),
+        io::ErrorKind::NotConnected => "Sie ist nicht zum Lesen geöffnet.".to_owned(),
         io::ErrorKind::IsADirectory => "Das ist ein Verzeichnis.".to_owned(),
         _ => error.to_string(),
     };

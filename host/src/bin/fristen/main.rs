@@ -26,7 +26,6 @@ mod manpage;
 mod names;
 mod operands;
 mod outcome;
-mod output;
 mod portfolio;
 mod program;
 mod progress;
@@ -37,6 +36,7 @@ mod run;
 mod sentences;
 mod short;
 mod skipped;
+mod streams;
 mod uebertragung;
 mod umstellung;
 mod usage;
@@ -223,9 +223,8 @@ fn is_coloured() -> bool {
 
 /// Whether a terminal does, for someone who wants them (no-color.org).
 fn shows_colours(terminal: Option<OsString>, no_colour: Option<OsString>) -> bool {
-    let dumb = terminal.is_none_or(|terminal| terminal == "dumb");
     let unwanted = no_colour.is_some_and(|set| !set.is_empty());
-    !dumb && !unwanted
+    !progress::is_dumb(terminal.as_deref()) && !unwanted
 }
 
 #[cfg(test)]

@@ -1,4 +1,4 @@
-use crate::output::Output;
+use crate::streams::Output;
 use crate::{errors, program};
 use mako_fristen_host::{Error, Unreadable};
 use std::io::{self, Write};

@@ -1,4 +1,6 @@
 use crate::program;
+use std::env;
+use std::ffi::OsStr;
 use std::io::{self, IsTerminal, Write};
 use std::time::{Duration, Instant};
 
@@ -21,10 +23,11 @@ pub struct Progress {
 }
 
 impl Progress {
-    /// On the standard error, if that is a terminal. Where the answers go to one, they are their
-    /// own progress, and what is `typed` there should stay readable.
+    /// On the standard error, if that is a terminal that can go back in its line. Where the answers
+    /// go to one, they are their own progress, and what is `typed` there should stay readable.
     pub fn new(typed: bool, what: &'static str) -> Progress {
-        let on = io::stderr().is_terminal() && !io::stdout().is_terminal() && !typed;
+        let terminal = io::stderr().is_terminal() && !is_dumb(env::var_os("TERM").as_deref());
+        let on = terminal && !io::stdout().is_terminal() && !typed;
         Progress { on, what, due: Instant::now() + NOTICEABLE, shown: false }
     }
 
@@ -53,6 +56,11 @@ impl Drop for Progress {
     fn drop(&mut self) {
         self.clear();
     }
+}
+
+/// Whether a terminal of this kind only shows one character behind the other.
+pub fn is_dumb(kind: Option<&OsStr>) -> bool {
+    kind.is_none_or(|kind| kind == "dumb")
 }
 
 /// Whether it can be written is no matter: nothing depends on it.

@@ -1,9 +1,9 @@
 use crate::input::Input;
 use crate::lines::{Line, Lines};
 use crate::outcome::{Outcome, Status};
-use crate::output::Output;
 use crate::program;
 use crate::progress::Progress;
+use crate::streams::Output;
 use std::io::{self, BufWriter, Write};
 
 /// Where the answers to an input go, and what came of them so far. What ends the work early is an

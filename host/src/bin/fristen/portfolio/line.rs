@@ -38,13 +38,13 @@ impl Reader {
     }
 
     /// The two dates of a line, or why it cannot be read. None if it is blank, a comment, or, as the
-    /// first of the others, without any digit.
+    /// first of the others, a heading.
     pub fn read(&mut self, line: &Line) -> Result<Option<Given>, Usage> {
         if line.is_passed_over() {
             return Ok(None);
         }
         let first = !mem::replace(&mut self.begun, true);
-        if first && !line.cut && !line.text.iter().any(u8::is_ascii_digit) {
+        if first && is_heading(line) {
             return Ok(None);
         }
         let (pair, words) = pair(line.read()?)?;
@@ -53,14 +53,26 @@ impl Reader {
     }
 }
 
+/// Without any digit, and no two dates such as `heute;morgen`.
+fn is_heading(line: &Line) -> bool {
+    let has_dates = || line.read().is_ok_and(|mut text| dates(&mut text).is_ok());
+    !line.cut && !line.text.iter().any(u8::is_ascii_digit) && !has_dates()
+}
+
 fn pair(mut text: &str) -> Result<(Pair, [&str; 2]), Usage> {
-    let (words, now) = ([field(&mut text), field(&mut text)], reading::now());
-    let pair = (date(LABELS[0], words[0], now)?, date(LABELS[1], words[1], now)?);
+    let read = dates(&mut text)?;
     // A table may end its lines with empty fields.
     match text.trim_matches(separates) {
-        "" => Ok((pair, words)),
+        "" => Ok(read),
         rest => Err(operands::too_much(OsStr::new(rest))),
     }
+}
+
+/// The first two fields, and what they are.
+fn dates<'a>(text: &mut &'a str) -> Result<(Pair, [&'a str; 2]), Usage> {
+    let (words, now) = ([field(text), field(text)], reading::now());
+    let pair = (date(LABELS[0], words[0], now)?, date(LABELS[1], words[1], now)?);
+    Ok((pair, words))
 }
 
 fn date(label: &str, field: &str, now: Instant) -> Result<Date, Usage> {
@@ -196,5 +208,19 @@ mod tests {
         assert!(reader.read(&line(b"Beginn;Ende")).is_err());
         let mut reader = Reader::default();
         assert!(reader.read(&Line { cut: true, ..line(b"Beginn") }).is_err());
+    }
+
+    /// Nor is it one if more stands behind them.
+    #[test]
+    fn a_first_line_with_two_dates_in_words_is_no_heading() {
+        let first = |text: &str| Reader::default().read(&line(text.as_bytes()));
+        for text in ["heute;morgen", "Gestern heute", "\"heute\";\"HEUTE\";"] {
+            assert!(first(text).is_ok_and(|read| read.is_some()), "{text}");
+        }
+        let rest = first("heute;morgen;Gas").map_err(|usage| usage.message);
+        assert_eq!(rest, Err("zu viel: „Gas“".to_owned()));
+        for text in ["heute;Ende", "Beginn;morgen", "heute", "heute;;morgen", "von heute;bis"] {
+            assert!(first(text).is_ok_and(|read| read.is_none()), "{text}");
+        }
     }
 }
