@@ -24,11 +24,8 @@ impl BisWann {
     pub fn of((shape, anchor): (VorlaufShape, Date)) -> Result<BisWann, Error> {
         let days = Uebertragungstage::of(shape, anchor)?;
         let months = Monatsschritt::of(shape, anchor)?;
-        // Months pass over nothing; Werktage are counted from the day to which they lead.
-        let skipped = match shape {
-            VorlaufShape::LatestMonateBefore(_) => Skipped::default(),
-            _ => skipped::between(months.map_or(anchor, |step| step.to), days.last)?,
-        };
+        // Months pass over nothing: Werktage are counted from the day to which they lead.
+        let skipped = skipped::between(months.map_or(anchor, |step| step.to), days.last)?;
         Ok(BisWann { shape, anchor, days, months, skipped })
     }
 
