@@ -53,11 +53,10 @@ const SHORT: &[(&str, &str)] = &[
 #[test]
 fn the_bare_value() {
     for (line, expected) in SHORT {
-        assert_eq!(
-            printed(&words(&format!("{line} --kurz")), 0),
-            format!("{expected}\n"),
-            "{line}"
-        );
+        // A hint may stand beside it.
+        let output = run(&words(&format!("{line} --kurz")));
+        assert_eq!(output.status.code(), Some(0), "{line}");
+        assert_eq!(String::from_utf8_lossy(&output.stdout), format!("{expected}\n"), "{line}");
     }
     assert_eq!(printed(&words("--kurz kalender 2026 2026-04 4.2026"), 0), "249\n20\n20\n");
 }

@@ -702,6 +702,14 @@ const SPANS: &[(&str, &str)] = &[
 /// What may be a slip; any other line here is answered without a hint.
 const HINTS: &[(&str, &str)] = &[
     (
+        "bis-wann WindowWerktageBefore 0 5 2026-01-19",
+        "VON ist kleiner als BIS; meinten Sie Zeitfenster 5 0?",
+    ),
+    (
+        "bis-wann WindowWerktageBefore 1 2 2026-01-19",
+        "VON ist kleiner als BIS; meinten Sie Zeitfenster 2 1?",
+    ),
+    (
         "check LatestWerktageBefore 0 2026-01-13 2026-01-12",
         "der TERMIN liegt vor dem ÜBERTRAGUNGSTAG.",
     ),
@@ -1182,9 +1190,7 @@ fn spans() {
 #[test]
 fn until_when() {
     assert_prints(BIS_WANN);
-    for (line, expected) in NEVER {
-        assert_eq!(answered(line).0, format!("{expected}\n"), "{line}");
-    }
+    assert_answers(NEVER);
     for (line, expected) in NOT_UNTIL {
         assert_eq!(printed(&words(line), 2), format!("{expected}\n"), "{line}");
     }
@@ -1198,7 +1204,7 @@ fn deregistrations() {
 /// Each hint stands beside an answer above.
 #[test]
 fn each_hint_is_one_of_a_line() {
-    let tables = [WINDOWS, BEFORE, EARLIEST, LAST_WERKTAG, MONTHS, SPANS, DEREGISTRATIONS];
+    let tables = [WINDOWS, BEFORE, EARLIEST, LAST_WERKTAG, MONTHS, SPANS, NEVER, DEREGISTRATIONS];
     let lines: Vec<&str> = tables.concat().iter().map(|(line, _)| *line).collect();
     assert!(HINTS.iter().all(|(line, _)| lines.contains(line)));
 }

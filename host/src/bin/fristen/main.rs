@@ -188,6 +188,7 @@ fn bis_wann(command: &Command, arguments: &Arguments) -> Result<Outcome, Usage> 
             report::bis_wann(asked, &arguments.given, refusal, answer.map(|answer| answer.days))
         },
     );
+    let outcome = outcome.noted(hints::window(asked.0).into_iter().collect());
     Ok(if arguments.status && none { outcome.ending(Status::No) } else { outcome })
 }
 

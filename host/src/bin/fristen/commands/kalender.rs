@@ -10,8 +10,10 @@ pub const COMMANDS: [Command; 8] = [
         options: &[],
         summary: "ob der Tag ein Werktag ist, und warum nicht",
         meaning: "\
-Keine Werktage sind die Samstage, die Sonntage und die Feiertage der Liste, die in
-allen Jahren dieselbe ist, dazu der 24. und der 31. Dezember (GPKE Teil 1).
+Keine Werktage sind die Samstage, die Sonntage und die Feiertage der Liste, zu der auch
+der 24. und der 31. Dezember gehören (GPKE Teil 1). Sie ist in allen Jahren dieselbe:
+Feiertage eines einzigen Jahres, wie in Berlin der 8. Mai 2020 und der 8. Mai 2025,
+stehen nicht darin.
 Samstag und Sonntag gehen einem Feiertag vor, der dann hinter „auch“ steht (in
 --json „also“); dort steht auch Ostersonntag, der keiner der Liste ist. Von zwei
 Feiertagen an einem Tag wird der mit der kleineren Nummer zuerst genannt; Christi
