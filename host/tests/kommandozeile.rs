@@ -255,7 +255,7 @@ fn the_margin_of_a_verdict() {
     assert!(help.contains("\n„margin“ in --json: die Tage vom Übertragungstag "), "{help}");
     for command in ["check", "check-at", "abmeldung"] {
         let help = printed(&["help", command], 0).replace('\n', " ");
-        assert!(help.contains("mit den Tagen, die noch Luft sind oder zu spät"), "{help}");
+        assert!(help.contains("um wie viele Kalendertage"), "{help}");
     }
     assert_eq!(object("check Korridor 1 1996-01-01 1996-01-01", 2).get("margin"), &Value::Null);
 }

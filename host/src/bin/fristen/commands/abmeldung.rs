@@ -35,9 +35,9 @@ solchen ist.",
         options: &[],
         summary: "ob eine Abmeldung durch den Netzbetreiber rechtzeitig kam",
         meaning: "\
-Das Urteil nach der Vorlauffrist, die abmeldung-fuer nennt, mit den Tagen, die noch
-Luft sind oder zu spät; „margin“ in --json wie bei check. Hat der Fall keine, so gibt
-es kein Urteil und „margin“ ist null; das heißt nicht, dass die Frist gewahrt ist.",
+Das Urteil nach der Vorlauffrist, die abmeldung-fuer nennt, auch um wie viele
+Kalendertage; „margin“ in --json wie bei check. Hat der Fall keine, so gibt es kein
+Urteil und „margin“ ist null; das heißt nicht, dass die Frist gewahrt ist.",
         examples: &[Example::new(
             "abmeldung ZT0 --eeg nein 2026-01-08 2026-01-12",
             "Frist gewahrt, am letzten zulässigen Tag: Übertragungstag Donnerstag, 8. Januar 2026, \

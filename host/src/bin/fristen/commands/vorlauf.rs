@@ -12,11 +12,12 @@ pub const COMMANDS: [Command; 4] = [
         options: &[],
         summary: "ob eine Nachricht für ihren Termin rechtzeitig kam",
         meaning: "\
-Das Urteil über Übertragungstag und Termin: gewahrt, zu spät oder zu früh, mit den
-Tagen, die noch Luft sind oder zu spät. Dann, welche Termine der Übertragungstag
-zulässt, und an welchen Tagen für den Termin übertragen werden muss. Bei „zu
-spät“ auch die fehlenden Werktage und der Termin, den die Quelle als frühesten
-nennt; der ist nicht immer zulässig. Ist er der erste zulässige, so fehlt er.
+Das Urteil über Übertragungstag und Termin: gewahrt, zu spät oder zu früh, und um wie
+viele Kalendertage. Darunter, welche Termine der Übertragungstag zulässt, und an welchen
+Tagen für den Termin übertragen werden muss. Bei „zu spät“ auch, wie viele Werktage
+fehlen, und zuletzt der Termin, den die Quelle als frühesten nennt, wenn es nicht der
+erste zulässige ist; zulässig ist er nicht immer.
+
 „margin“ in --json: die Tage vom Übertragungstag bis zum spätesten, negativ nach
 diesem; bei EarliestWerktageAfter vom frühesten Termin bis zum Termin, negativ
 vor jenem. In --bytes das 29. bis 32. Byte, im Zweierkomplement, das
@@ -54,9 +55,9 @@ niederwertigste zuerst.",
         options: &[],
         summary: "dasselbe mit Zeitpunkten",
         meaning: "\
-Das Urteil wie bei check, mit den Tagen, die noch Luft sind oder zu spät. Der
-Übertragungstag ist der Tag in Berlin; der Termin ist als Beginn seines Tages in
-der Sparte gegeben, sonst wird abgelehnt (7). SPARTE ist Strom oder Gas.",
+Das Urteil wie bei check, auch um wie viele Kalendertage. Der Übertragungstag ist der
+Tag in Berlin; der Termin ist als Beginn seines Tages in der Sparte gegeben, sonst wird
+abgelehnt (7). SPARTE ist Strom oder Gas.",
         examples: &[Example::new(
             "check-at TagVorDemLetztenWerktagVor 2026-01-08T10:00:00+01:00 \
              2026-01-09T00:00:00+01:00 Strom",
