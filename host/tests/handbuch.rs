@@ -96,7 +96,7 @@ fn the_man_page_is_what_groff_reads() {
     assert_eq!(String::from_utf8_lossy(&output.stderr), "");
     assert!(output.status.success());
     let text = String::from_utf8(output.stdout).expect("UTF-8");
-    for line in ["ÜBERSICHT", "$ fristen tag 2026-11-18", "fristen help [BEFEHL]", "STATUS"] {
+    for line in ["ÜBERSICHT", "$ fristen tag 2026-11-18", "fristen hilfe [BEFEHL]", "STATUS"] {
         assert!(text.lines().any(|it| it.trim() == line), "{line}");
     }
 }
@@ -119,7 +119,7 @@ printf '%s\n' "${COMPREPLY[@]}""#;
 
 #[test]
 fn words_are_completed() {
-    let rows: [(&str, &str); 31] = [
+    let rows: [(&str, &str); 33] = [
         ("kal", "kalender"),
         ("CONTRL-D", "contrl-due-at contrl-due-at-change"),
         ("xyz", ""),
@@ -145,7 +145,9 @@ fn words_are_completed() {
         ("abmeldung ZQ7 --eeg = u", "unbekannt"),
         ("abmeldung-fuer --e", "--eeg"),
         ("tag --e", ""),
-        ("contrl --st", "--status --stichtag"),
+        ("contrl --st", "--stichtag"),
+        ("tag --st", "--status"),
+        ("kalender --by", ""),
         ("tag --st", "--status"),
         ("fragen --r", "--roh"),
         ("--m", "--manpage"),

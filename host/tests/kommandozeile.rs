@@ -179,7 +179,7 @@ fn a_time_that_the_clock_shows_twice_is_named() {
     assert_prints(TWICE);
     let given = "contrl Regelfall 2026-10-25T02:30:00+02:00";
     assert!(!printed(&words(given), 0).contains("zweimal"), "its offset tells it");
-    let end = "zeigt die Uhr in Berlin zweimal 02:30 Uhr; gemeint ist die frühere.\n";
+    let end = "zeigt die Uhr in Berlin zweimal 02:30 Uhr; gemeint ist die frühere. Nach der späteren fragt, wer +01:00 dahinter schreibt.\n";
     for line in [
         "aperak-strom 2026-10-25T02:30",
         "aperak-strom-allgemein 2026-10-25T02:30",
@@ -405,6 +405,10 @@ const WRONG: &[(&str, &str)] = &[
     ("bis-wann Fenster 5 2", "nicht „Fenster“. Meinten Sie Zeitfenster?"),
     ("contrl utilmd", "nicht „utilmd“. Meinten Sie StromUtilmdOderOrders?"),
     ("abmeldung-fuer Z33", "es fehlt: --eeg ja|nein|unbekannt"),
+    ("abmeldung --eeg nein 8.1.2026 9.1.2026", "es fehlt: GRUND"),
+    ("tag morgn", "nicht „morgn“. Meinten Sie morgen?"),
+    ("contrl Regelfall 2.4. 11:00", "Meinten Sie 2.4."),
+    ("kalender Dezembr", "nicht „Dezembr“. Meinten Sie Dezember?"),
     ("abmeldung-fuer Z33 --eeg", "erwartet ja, nein oder unbekannt nach --eeg"),
     ("abmeldung-fuer Z33 --eeg vielleicht", "--eeg: erwartet nein, ja oder unbekannt"),
     ("abmeldung-fuer Z33 --eeg ja --eeg ja", "erwartet --eeg nur einmal"),
@@ -496,6 +500,11 @@ fn a_call_of_no_command() {
         ("aperak-gas-f", "Meinten Sie aperak-gas?"),
         ("aperak", "Meinten Sie aperak-strom, "),
         ("bis wann", "Meinten Sie bis-wann?"),
+        (
+            "werktag 8.5.2026",
+            "Meinten Sie tag, naechster-werktag, werktage-nach, werktage-vor oder ",
+        ),
+        ("mf_question -", "unbekannter Befehl „mf_question“"),
         ("help gestern", "unbekannter Befehl „gestern“"),
         ("gestern --help", "unbekannter Befehl „gestern“"),
         ("help tag check", "zu viel: „check“"),
@@ -633,9 +642,9 @@ fn the_calendar_of_a_year() {
     let lines: Vec<_> = sheet.lines().collect();
     assert_eq!(lines[0], "Kalender 2008 (* kein Werktag)");
     assert_eq!(lines[4], "    1* 2  3  4  5* 6*                1  2* 3*                   1* 2*");
-    assert!(sheet.contains("\n 1. Mai        Donnerstag  Tag der Arbeit\n"));
+    let both = "\n 1. Mai        Donnerstag  Tag der Arbeit; auch Christi Himmelfahrt\n";
+    assert!(sheet.contains(both), "{sheet}");
     assert!(sheet.contains("\n11. Mai        Sonntag     Pfingstsonntag\n"));
-    assert!(!sheet.contains("Christi Himmelfahrt"), "it is on 1 May too");
     assert!(!sheet.contains('\x1b'));
     assert!(lines.iter().all(|line| line.chars().count() <= 80 && !line.ends_with(' ')));
 }

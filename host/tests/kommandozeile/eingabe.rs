@@ -23,7 +23,12 @@ fn assert_same(lines: &[&str]) {
 
 #[test]
 fn a_date_in_any_of_its_forms() {
-    assert_same(&["tag 2026-04-02", "tag 02.04.2026", "tag 2.4.2026"]);
+    assert_same(&["tag 2026-04-02", "tag 02.04.2026", "tag 2.4.2026", "tag 2. April 2026"]);
+    assert_same(&[
+        "check Korridor 1 2026-04-02 2026-04-07",
+        "check Korridor 1 2. April 2026 7. april 2026",
+    ]);
+    assert_same(&["contrl Regelfall 2026-04-02 11:00", "contrl Regelfall 2. April 2026 um 11 Uhr"]);
     assert_same(&[
         "check LatestWerktageBefore 1 2026-01-10 2026-01-12",
         "check LatestWerktageBefore 1 10.01.2026 12.1.2026",
@@ -83,7 +88,20 @@ fn an_instant_by_berlins_clock() {
         "check-at Korridor 1 2026-01-12 00:00 12.1.2026 06:00 Gas",
     ]);
     assert_same(&["berlin-at 2026-10-25 02:30:00.5", "berlin-at 25.10.2026 2:30:00,5"]);
-    assert_same(&["berlin-at 2026-10-25 13:00", "berlin-at 2026-10-25 13:00 Uhr"]);
+    assert_same(&[
+        "berlin-at 2026-10-25 13:00",
+        "berlin-at 2026-10-25 13:00 Uhr",
+        "berlin-at 2026-10-25 13 Uhr",
+        "berlin-at 2026-10-25 13.00 uhr",
+    ]);
+    assert_same(&[
+        "nth-werktag-at 2026-04-02 10:00 2 11:00",
+        "nth-werktag-at 2.4.2026 10 Uhr 2 11 Uhr",
+    ]);
+    assert_same(&[
+        "frist SameDayAt 12:00 2026-04-02 10:30",
+        "frist SameDayAt 12 Uhr 2.4.2026 10.30 Uhr",
+    ]);
     assert!(complaint(&words("next-werktag-at 2026-04-02 11:00")).contains("es fehlt: UHRZEIT"));
 }
 
@@ -261,7 +279,7 @@ const REFUSED: &[(&str, &str)] = &[
     ),
     ("berlin-at 2026-01-01 25:00", "(5): 25:00:00: die letzte Stunde ist 23."),
     ("berlin-at 2026-01-01 13:60", "(5): 13:60:00: die letzte Minute ist 59."),
-    ("frist WerktagAt 1 13:00:60 2026-01-01 12:00", "(5): 13:00:60: die letzte Sekunde ist 59."),
+    ("frist WerktagAt 1 13:00:60 2026-01-01 12:00", "(5): UHRZEIT 13:00:60: die letzte Sekunde ist 59."),
     ("contrl Regelfall 2026-01-01 25:00", "(5): EINGANG 25:00:00: die letzte Stunde ist 23."),
     (
         "tag-des-beginns 2026-03-29T05:00:00Z Gas",
@@ -361,17 +379,22 @@ const REFUSED: &[(&str, &str)] = &[
     ),
     (
         "check LatestMonateBefore 1 2899-12-15 2899-12-31",
-        "(8): Der früheste Termin für diesen Übertragungstag liegt hinter dem 31. Dezember 2899, dem \
+        "(8): Der Termin, den die Quelle als frühesten nennt, liegt hinter dem 31. Dezember 2899, dem \
+         letzten Tag des Kalenders.",
+    ),
+    (
+        "check LatestWerktageBefore 3 2899-12-28 2899-12-28",
+        "(8): Der Termin, den die Quelle als frühesten nennt, liegt hinter dem 31. Dezember 2899, dem \
          letzten Tag des Kalenders.",
     ),
     (
         "check EarliestWerktageAfter 5 2899-12-29 2899-12-31",
-        "(8): Der früheste Termin für diesen Übertragungstag liegt hinter dem 31. Dezember 2899, dem \
+        "(8): Der Termin, den die Quelle als frühesten nennt, liegt hinter dem 31. Dezember 2899, dem \
          letzten Tag des Kalenders.",
     ),
     (
         "abmeldung Z33 --eeg ja 2899-12-15 2899-12-31",
-        "(8): Das früheste Zuordnungsende für diesen Übertragungstag liegt hinter dem 31. Dezember 2899, \
+        "(8): Das Zuordnungsende, das die Quelle als frühestes nennt, liegt hinter dem 31. Dezember 2899, \
          dem letzten Tag des Kalenders.",
     ),
     (

@@ -540,3 +540,19 @@ fn the_file_of_the_documents_is_answered() {
     assert_eq!(marks, ["Zeile 2", "Zeile 3", "Zeile 4", "Zeile 7", "Zeile 8"].map(Some));
     assert!(given[4].starts_with("Zeile 8: Abgelehnt (3): "), "{}", given[4]);
 }
+
+/// The only place of a refusal, where a value is asked for.
+#[cfg(target_os = "linux")]
+#[test]
+fn a_refusal_that_cannot_be_said_is_a_failure() {
+    for (command, form, line) in [
+        ("fragen", "--kurz", "span Korridor 1 2026-02-30"),
+        ("portfolio", "--json", "2026-02-30;2026-03-01"),
+        ("mf_questions", "--json", "gestern"),
+    ] {
+        let path = file("ungesagt.txt", line);
+        let full = std::fs::OpenOptions::new().write(true).open("/dev/full").expect("/dev/full");
+        let status = program().args([command, form]).arg(&path).stderr(full).status();
+        assert_eq!(status.expect("it runs").code(), Some(74), "{command}");
+    }
+}

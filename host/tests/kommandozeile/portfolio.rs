@@ -98,7 +98,7 @@ fn a_line_that_cannot_be_read_is_named_and_keeps_its_place() {
     let expected = "erwartet ein Datum wie 2026-04-02 oder 2.4.2026, nicht";
     let no_date = |label, text: &str| format!("{label}: {expected} „{text}“");
     let cases: [(&[u8], String); 9] = [
-        (b"morgens", no_date("VON", "morgens")),
+        (b"morgens", no_date("VON", "morgens") + ". Meinten Sie morgen?"),
         (b"Beginn;Ende", no_date("VON", "Beginn")),
         (b"30.06.2025;30.06.35", no_date("BIS", "30.06.35") + ". Meinten Sie 30.6.2035?"),
         (b"2025-06-30;offen", no_date("BIS", "offen")),

@@ -36,8 +36,7 @@ pub const CASES: &[(&str, &str)] = &[
     (
         "berlin-at 2026-10-25 02:30",
         "Sonntag, der 25. Oktober 2026, 02:30 Uhr Sommerzeit in Berlin ist Sonntag, der 25. \
-         Oktober 2026, 00:30 Uhr Weltzeit (UTC). Die Uhr zeigt diese Zeit zweimal; gemeint ist \
-         die frühere.",
+         Oktober 2026, 00:30 Uhr Weltzeit (UTC). Die Uhr zeigt diese Zeit zweimal; gemeint ist die frühere.",
     ),
     (
         "tagesbeginn-utc 2026-03-29 Gas",
@@ -72,7 +71,7 @@ pub const ANNOUNCEMENTS: &[(&str, &str)] = &[
         "ankuendigung 2026-01-12T00:00:00+01:00 2026-01-12",
         "Weder fristgerecht noch verspätet: Eingang am Montag, dem 12. Januar 2026, um 00:00 Uhr, \
          Zuordnungsbeginn Montag, 12. Januar 2026.\n\
-         Der Zuordnungsbeginn liegt nicht in der Zukunft; dann gilt „unverzüglich“, und ab wann, \
+         Der Zuordnungsbeginn liegt nicht nach dem Eingang; dann gilt „unverzüglich“, und ab wann, \
          steht in keiner Nachricht.",
     ),
     (
@@ -86,8 +85,8 @@ pub const ANNOUNCEMENTS: &[(&str, &str)] = &[
         "ankuendigung 2026-01-08T23:59:59.999999999+01:00 2026-01-12",
         "Zu früh: Eingang am Donnerstag, dem 8. Januar 2026, um 23:59:59,999999999 Uhr, \
          Zuordnungsbeginn Montag, 12. Januar 2026.\n\
-         Fristgerecht wäre sie nur am letzten Werktag vor dem Zuordnungsbeginn gewesen, am \
-         Freitag, dem 9. Januar 2026, von 00:00 bis 13:00 Uhr.",
+         Fristgerecht ist sie nur am letzten Werktag vor dem Zuordnungsbeginn, am Freitag, dem 9. \
+         Januar 2026, von 00:00 bis 13:00 Uhr.",
     ),
     (
         "ankuendigung 2026-01-11T23:59:59+01:00 2026-01-12",
@@ -100,7 +99,7 @@ pub const ANNOUNCEMENTS: &[(&str, &str)] = &[
         "ankuendigung 2026-02-01T10:00:00+01:00 2026-01-12",
         "Weder fristgerecht noch verspätet: Eingang am Sonntag, dem 1. Februar 2026, um 10:00 \
          Uhr, Zuordnungsbeginn Montag, 12. Januar 2026.\n\
-         Der Zuordnungsbeginn liegt nicht in der Zukunft; dann gilt „unverzüglich“, und ab wann, \
+         Der Zuordnungsbeginn liegt nicht nach dem Eingang; dann gilt „unverzüglich“, und ab wann, \
          steht in keiner Nachricht.",
     ),
 ];
@@ -708,8 +707,7 @@ pub const TWICE: &[(&str, &str)] = &[
         "Eingang am Sonntag, dem 25. Oktober 2026, um 02:30 Uhr Sommerzeit: Die CONTRL im \
          Regelfall ist fällig am Sonntag, dem 25. Oktober 2026, um 07:30 Uhr. Dazwischen wird die \
          Uhr um eine Stunde zurückgestellt.\n\
-         Am Sonntag, dem 25. Oktober 2026, zeigt die Uhr in Berlin zweimal 02:30 Uhr; gemeint ist \
-         die frühere.",
+         Am Sonntag, dem 25. Oktober 2026, zeigt die Uhr in Berlin zweimal 02:30 Uhr; gemeint ist die frühere. Nach der späteren fragt, wer +01:00 dahinter schreibt.",
     ),
     (
         "contrl Regelfall 2026-10-25T02:30 --stichtag 2026-06-06",
@@ -719,22 +717,19 @@ pub const TWICE: &[(&str, &str)] = &[
          Stichtag der Formatumstellung ist Samstag, der 6. Juni 2026; ihr Zeitraum geht von \
          Freitag, dem 5. Juni 2026, 18:00 Uhr, bis Sonntag, den 7. Juni 2026, 00:00 Uhr.\n\
          An dieser Fälligkeit ändert er nichts.\n\
-         Am Sonntag, dem 25. Oktober 2026, zeigt die Uhr in Berlin zweimal 02:30 Uhr; gemeint ist \
-         die frühere.",
+         Am Sonntag, dem 25. Oktober 2026, zeigt die Uhr in Berlin zweimal 02:30 Uhr; gemeint ist die frühere. Nach der späteren fragt, wer +01:00 dahinter schreibt.",
     ),
     (
         "berlin-date 2026-10-25T02:30",
         "In Berlin ist es dann Sonntag, der 25. Oktober 2026, 02:30 Uhr Sommerzeit.\n\
-         Am Sonntag, dem 25. Oktober 2026, zeigt die Uhr in Berlin zweimal 02:30 Uhr; gemeint ist \
-         die frühere.",
+         Am Sonntag, dem 25. Oktober 2026, zeigt die Uhr in Berlin zweimal 02:30 Uhr; gemeint ist die frühere. Nach der späteren fragt, wer +01:00 dahinter schreibt.",
     ),
     (
         "add-hours 25.10.2026 02:30 1",
         "1 Stunde nach Sonntag, dem 25. Oktober 2026, 02:30 Uhr Sommerzeit, ist es Sonntag, der \
          25. Oktober 2026, 02:30 Uhr Winterzeit. Dazwischen wird die Uhr um eine Stunde \
          zurückgestellt.\n\
-         Am Sonntag, dem 25. Oktober 2026, zeigt die Uhr in Berlin zweimal 02:30 Uhr; gemeint ist \
-         die frühere.",
+         Am Sonntag, dem 25. Oktober 2026, zeigt die Uhr in Berlin zweimal 02:30 Uhr; gemeint ist die frühere. Nach der späteren fragt, wer +01:00 dahinter schreibt.",
     ),
     (
         "check-at Korridor 0 2026-10-25T02:30 2026-10-25T00:00 Strom",
@@ -742,7 +737,6 @@ pub const TWICE: &[(&str, &str)] = &[
          um 02:30 Uhr Sommerzeit, Termin Sonntag, 25. Oktober 2026, Sparte Strom.\n\
          Zulässig ist nur der Termin am Sonntag, dem 25. Oktober 2026.\n\
          Der Übertragungstag muss der Termin selbst sein: Sonntag, der 25. Oktober 2026.\n\
-         Am Sonntag, dem 25. Oktober 2026, zeigt die Uhr in Berlin zweimal 02:30 Uhr; gemeint ist \
-         die frühere.",
+         Am Sonntag, dem 25. Oktober 2026, zeigt die Uhr in Berlin zweimal 02:30 Uhr; gemeint ist die frühere. Nach der späteren fragt, wer +01:00 dahinter schreibt.",
     ),
 ];

@@ -140,14 +140,14 @@ const WINDOWS: &[(&str, &str)] = &[
         "Zu früh: Übertragungstag Samstag, 10. Januar 2026, Termin Sonntag, 11. Januar 2026.\n\
          Zulässig ist nur der Termin am Samstag, dem 10. Januar 2026.\n\
          Der Übertragungstag muss der Termin selbst sein: Sonntag, der 11. Januar 2026.\n\
-         Zu früh ist es um 1 Tag, der kein Werktag ist.",
+         Zu früh ist es um 1 Kalendertag.",
     ),
     (
         "check WindowWerktageBefore 0 0 2026-04-03 2026-04-05",
         "Zu früh: Übertragungstag Freitag, 3. April 2026, Termin Sonntag, 5. April 2026.\n\
          Zulässig ist nur der Termin am Freitag, dem 3. April 2026.\n\
          Der Übertragungstag muss der Termin selbst sein: Sonntag, der 5. April 2026.\n\
-         Zu früh ist es um 2 Tage, die keine Werktage sind.",
+         Zu früh ist es um 2 Kalendertage.",
     ),
     (
         "check WindowWerktageBefore 0 5 2026-01-09 2026-01-19",
@@ -320,14 +320,14 @@ const AFTER: &[(&str, &str)] = &[
         "Zu früh: Übertragungstag Samstag, 10. Januar 2026, Termin Sonntag, 11. Januar 2026.\n\
          Zulässig ist nur der Termin am Samstag, dem 10. Januar 2026.\n\
          Der Übertragungstag muss der Termin selbst sein: Sonntag, der 11. Januar 2026.\n\
-         Zu früh ist es um 1 Tag, der kein Werktag ist.",
+         Zu früh ist es um 1 Kalendertag.",
     ),
     (
         "check Korridor 0 2026-04-03 2026-04-05",
         "Zu früh: Übertragungstag Freitag, 3. April 2026, Termin Sonntag, 5. April 2026.\n\
          Zulässig ist nur der Termin am Freitag, dem 3. April 2026.\n\
          Der Übertragungstag muss der Termin selbst sein: Sonntag, der 5. April 2026.\n\
-         Zu früh ist es um 2 Tage, die keine Werktage sind.",
+         Zu früh ist es um 2 Kalendertage.",
     ),
     (
         "check Korridor 0 2026-01-08 2026-01-11",
@@ -711,7 +711,7 @@ const HINTS: &[(&str, &str)] = &[
     ),
     (
         "check LatestWerktageBefore 0 2026-01-13 2026-01-12",
-        "der TERMIN liegt vor dem ÜBERTRAGUNGSTAG.",
+        "der Termin liegt vor dem Übertragungstag.",
     ),
     (
         "check WindowWerktageBefore 0 5 2026-01-09 2026-01-19",
@@ -735,27 +735,27 @@ const HINTS: &[(&str, &str)] = &[
     ),
     (
         "check EarliestWerktageAfter 0 2026-04-07 2026-04-02",
-        "der TERMIN liegt vor dem ÜBERTRAGUNGSTAG.",
+        "der Termin liegt vor dem Übertragungstag.",
     ),
     (
         "check EarliestWerktageAfter 0 2026-04-03 2026-04-02",
-        "der TERMIN liegt vor dem ÜBERTRAGUNGSTAG.",
+        "der Termin liegt vor dem Übertragungstag.",
     ),
     (
         "check EarliestWerktageAfter 0 2026-04-06 2026-04-02",
-        "der TERMIN liegt vor dem ÜBERTRAGUNGSTAG.",
+        "der Termin liegt vor dem Übertragungstag.",
     ),
     (
         "check EarliestWerktageAfter 1 1996-01-02 1996-01-01",
-        "der TERMIN liegt vor dem ÜBERTRAGUNGSTAG.",
+        "der Termin liegt vor dem Übertragungstag.",
     ),
     (
         "check TagVorDemLetztenWerktagVor 2026-01-14 2026-01-09",
-        "der TERMIN liegt vor dem ÜBERTRAGUNGSTAG.",
+        "der Termin liegt vor dem Übertragungstag.",
     ),
     (
         "check LatestMonateBefore 0 2026-01-11 2026-01-10",
-        "der TERMIN liegt vor dem ÜBERTRAGUNGSTAG.",
+        "der Termin liegt vor dem Übertragungstag.",
     ),
     (
         "span WindowWerktageBefore 0 1 2026-01-13",
@@ -763,7 +763,7 @@ const HINTS: &[(&str, &str)] = &[
     ),
     (
         "abmeldung Z33 2026-01-14 2026-01-09 --eeg nein",
-        "das ZUORDNUNGSENDE liegt vor dem ÜBERTRAGUNGSTAG.",
+        "das Zuordnungsende liegt vor dem Übertragungstag.",
     ),
 ];
 
@@ -1216,7 +1216,7 @@ fn a_termin_is_looked_at_only_where_it_may_be_a_slip() {
         "check LatestWerktageAfter 3 2026-04-09 2026-04-02",
         "check Korridor 2 2026-04-29 2026-04-24",
         "check LatestWerktageBefore 1 2026-01-09 2026-01-09",
-        "check-at MonateVorher 1 2026-01-13T12:00 2026-01-12T00:00 Strom",
+        "check-at MonateVorher 1 2026-01-13T12:00 2026-01-14T00:00 Strom",
     ] {
         assert_eq!(answered(line).1, "", "{line}");
     }
@@ -1228,11 +1228,11 @@ fn a_termin_is_looked_at_only_where_it_may_be_a_slip() {
         assert!(printed(&words(line), 2).starts_with("Abgelehnt (3)"), "{line}");
     }
     let swapped = answered("check MonateVorher 1 31.3.2026 1.3.2026 --json").1;
-    assert_eq!(swapped, "fristen: Hinweis: der TERMIN liegt vor dem ÜBERTRAGUNGSTAG.\n");
+    assert_eq!(swapped, "fristen: Hinweis: der Termin liegt vor dem Übertragungstag.\n");
     let file = "check Zeitfenster 2 5 2026-01-12 2026-01-09\n";
     let output = fed("fragen", &[], file.as_bytes());
     let hints = "\
         fristen: Zeile 1: Hinweis: VON ist kleiner als BIS; meinten Sie Zeitfenster 5 2?\n\
-        fristen: Zeile 1: Hinweis: der TERMIN liegt vor dem ÜBERTRAGUNGSTAG.\n";
+        fristen: Zeile 1: Hinweis: der Termin liegt vor dem Übertragungstag.\n";
     assert_eq!(complaints(&output), hints);
 }

@@ -83,7 +83,7 @@ impl Arguments {
                     read.given.extend(value);
                 }
                 _ if is_option(&argument) => {
-                    return Err(Usage::unknown("unbekannte Option", &argument, OPTIONS));
+                    return Err(Usage::unknown("unbekannte Option", &argument, OPTIONS, OPTIONS));
                 }
                 _ => read.word(argument),
             }

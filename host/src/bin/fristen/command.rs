@@ -4,6 +4,9 @@ use crate::commands::{abmeldung, berlin, fragen, fristen, kalender, portfolio, v
 use crate::words::normal;
 use mako_fristen_host::{Call, Parameter};
 
+/// More bytes than any name has.
+const LONGEST_NAME: usize = 64;
+
 /// What a subcommand does.
 #[derive(Clone, Copy, Debug, PartialEq, Eq)]
 pub enum Task {
@@ -95,9 +98,21 @@ impl Command {
     }
 
     pub fn is_named(&self, name: &str) -> bool {
+        if name.len() > LONGEST_NAME {
+            return false;
+        }
         let name = normal(name);
-        self.names().any(|known| known == name)
-            || self.call().is_some_and(|call| normal(call.name()) == name)
+        self.names().any(|known| known == name) || self.host_call().as_ref() == Some(&name)
+    }
+
+    /// The host call's name, with hyphens.
+    fn host_call(&self) -> Option<String> {
+        match self.task {
+            Task::Ask(call) => Some(normal(call.name())),
+            Task::Fragen => Some("mf-questions".to_owned()),
+            Task::Portfolio => Some("mf-portfolio".to_owned()),
+            Task::Kalender | Task::BisWann => None,
+        }
     }
 
     /// Its names but the host call's.
@@ -170,8 +185,8 @@ mod tests {
                 assert_eq!(Command::find(&name.to_uppercase()), Some(command), "{name}");
                 assert_eq!(name, normal(&name), "{name}");
             }
-            let host_name = command.call().map_or(command.name, Call::name);
-            assert_eq!(Command::find(host_name), Some(command), "{host_name}");
+            let host_name = command.host_call().unwrap_or_else(|| command.name.to_owned());
+            assert_eq!(Command::find(&host_name), Some(command), "{host_name}");
             for example in command.examples {
                 assert!(example.call.starts_with(&format!("{} ", command.name)));
             }

@@ -2,13 +2,14 @@
 
 use crate::arguments::OPTIONS;
 use crate::command::{self, Command, Task};
+use crate::ja_nein;
 use crate::names::{Named, ANLAESSE, EEG, FRISTEN, SPARTEN, VORLAUF};
 use mako_fristen_host::Parameter;
 
 const SCRIPT: &str = include_str!("completion.bash");
 
 /// Options that only some subcommands have; of the others each does.
-const OF_SOME: [&str; 3] = ["--eeg", "--stichtag", "--roh"];
+const OF_SOME: [&str; 5] = ["--eeg", "--stichtag", "--roh", "--bytes", "--status"];
 /// Options without a subcommand.
 const OF_NONE: [&str; 3] = ["--version", "--manpage", "--bash-completion"];
 
@@ -67,6 +68,10 @@ fn all_names<T>(table: &'static [Named<T>]) -> Vec<&'static str> {
 fn own_options(command: &Command) -> Vec<&'static str> {
     let shown = command.operands.iter().map(|(_, label)| *label).chain(command.options.to_vec());
     let shown: Vec<&str> = shown.collect();
-    let has = |option: &&str| shown.iter().any(|it| it.trim_start_matches('[').starts_with(option));
+    let has = |option: &&str| match *option {
+        "--bytes" => !matches!(command.task, Task::Kalender | Task::BisWann),
+        "--status" => ja_nein::is_of(command.task),
+        option => shown.iter().any(|it| it.trim_start_matches('[').starts_with(option)),
+    };
     OF_SOME.into_iter().filter(has).collect()
 }

@@ -16,7 +16,12 @@ pub fn of(inquiry: &Inquiry, refusal: Refusal) -> String {
     let found = match refusal {
         Refusal::NoDate => no_date(inquiry),
         Refusal::InstantOutside => outside(inquiry),
-        Refusal::NoClock => clock(question.clock).map(|why| format!("{why}.")),
+        Refusal::NoClock => {
+            clock(question.clock).map(|why| match inquiry.call.takes(Parameter::Instant) {
+                true => format!("UHRZEIT {why}."),
+                false => format!("{why}."),
+            })
+        }
         Refusal::LocalTimeAbsent => absent_in(inquiry),
         Refusal::NoBeginning => no_beginning(inquiry),
         Refusal::LeavesCalendar => leaves::of(inquiry),

@@ -2,7 +2,7 @@
 
 use mako_fristen_host::{BerlinTime, Clock, Date, Instant};
 
-const MONATE: [&str; 12] = [
+pub const MONATE: [&str; 12] = [
     "Januar",
     "Februar",
     "März",
@@ -122,7 +122,10 @@ pub fn uhr(time: BerlinTime) -> String {
 /// Of an instant that was given by a clock time which the clock shows twice.
 pub fn zweimal(time: BerlinTime) -> String {
     let (day, uhr) = (dem(time.date), time.clock.uhr());
-    format!("Am {day}, zeigt die Uhr in Berlin zweimal {uhr}; gemeint ist die frühere.")
+    format!(
+        "Am {day}, zeigt die Uhr in Berlin zweimal {uhr}; gemeint ist die frühere. Nach der späteren \
+         fragt, wer +01:00 dahinter schreibt."
+    )
 }
 
 /// `Sonntag, der 25. Oktober 2026, 00:30 Uhr Weltzeit (UTC)`

@@ -26,7 +26,8 @@ Angaben
               2026-03-31T09:59:59Z; oder @SEKUNDEN seit 1970, auch @1774951199,5.
               Zeigt die Uhr in Berlin eine Zeit zweimal, so gilt die frühere. Auch
               EINGANG, ÜBERTRAGEN und TERMINBEGINN
-  JAHR, MONAT wie 2026, und wie 2026-04, 4.2026, April oder April 2026
+  JAHR        wie 2026
+  MONAT       wie 2026-04, 4.2026, April oder April 2026
   N           eine Zahl von 0 bis 4294967295; so auch VON und BIS hinter Zeitfenster
   PID         der Prüfidentifikator der Nachricht, eine Zahl wie 44001
   GRUND       der Transaktionsgrund, genau wie in der Nachricht
@@ -110,7 +111,7 @@ pub fn of(command: &Command, name: &str) -> String {
 }
 
 /// A call of a subcommand, with another of its names.
-fn by_name(command: &Command, name: &str, call: &str) -> String {
+pub fn by_name(command: &Command, name: &str, call: &str) -> String {
     call.strip_prefix(command.name).map_or_else(|| call.to_owned(), |rest| format!("{name}{rest}"))
 }
 
@@ -140,7 +141,7 @@ fn shapes(command: &Command, name: &str) -> String {
     let row = |Shape { names, counts, meaning, call }: Shape| {
         let names = names.join(", auch ");
         let counts: String = counts.iter().map(|count| format!(" {count}")).collect();
-        let call = by_name(command, name, &call);
+        let call = call.replacen(command.german_name(), name, 1);
         format!("  {names}{counts}\n      {meaning}\n      $ {} {call}\n", program::called())
     };
     format!("\nFORM\n{}", rows.into_iter().map(row).collect::<String>())
@@ -188,7 +189,7 @@ fn frist(command: &Command, row: &Named<Frist>) -> Shape {
 fn call(command: &Command, shape: &str) -> String {
     let value = |parameter| EXAMPLE_DAYS.iter().find(|(known, _)| *known == parameter);
     let values = command.operands.iter().filter_map(|(operand, _)| Some(value(*operand)?.1));
-    [command.name, shape].into_iter().chain(values).collect::<Vec<_>>().join(" ")
+    [command.german_name(), shape].into_iter().chain(values).collect::<Vec<_>>().join(" ")
 }
 
 /// The numbers of the day test, in its help.

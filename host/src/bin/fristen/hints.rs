@@ -33,19 +33,17 @@ pub fn window(shape: VorlaufShape) -> Option<String> {
 
 /// An anchor before the transmission day, where it is too late in any case: the two may be swapped.
 fn swapped(inquiry: &Inquiry) -> Option<String> {
-    let Anchor { article, .. } = may_not_be_past(inquiry)?;
-    let (day, anchor) = (inquiry.question.date, inquiry.question.date2);
+    let Anchor { article, noun, .. } = may_not_be_past(inquiry)?;
+    let (day, anchor) = (inquiry.transmission_day().ok()?, inquiry.anchor().ok()?);
     let are_dates = day.is_in_calendar() && anchor.is_in_calendar();
-    let [day_label, label] =
-        [Parameter::Date, Parameter::SecondDate].map(|parameter| inquiry.label(parameter));
-    (are_dates && anchor < day).then(|| format!("{article} {label} liegt vor dem {day_label}"))
+    (are_dates && anchor < day).then(|| format!("{article} {noun} liegt vor dem Übertragungstag"))
 }
 
-/// The anchor of a verdict on two dates, unless the shape takes one that lies behind.
+/// The anchor of a verdict, unless the shape takes one that lies behind.
 fn may_not_be_past(inquiry: &Inquiry) -> Option<Anchor> {
     match (inquiry.call, inquiry.vorlauf) {
         (_, Some(VorlaufShape::LatestWerktageAfter(_) | VorlaufShape::Korridor(_))) => None,
-        (Call::VorlaufCheck, _) => Some(TERMIN),
+        (Call::VorlaufCheck | Call::VorlaufCheckAt, _) => Some(TERMIN),
         (Call::AbmeldungCheck, _) => Some(ZUORDNUNGSENDE),
         _ => None,
     }

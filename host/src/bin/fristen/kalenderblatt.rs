@@ -2,11 +2,10 @@
 
 use crate::deutsch::{monat, werktage};
 use crate::json::Json;
-use crate::reading::is_number;
+use crate::reading::{is_number, month_named};
 use crate::report::values::weekday;
 use crate::report::Asked;
 use crate::skipped::{is_ostersonntag, Closed};
-use crate::words::normal;
 use mako_fristen_host::{day_reason, Date, DayReason, Error, Feiertag, Refusal, Weekday};
 use std::ffi::OsString;
 use std::ops::RangeInclusive;
@@ -65,12 +64,6 @@ impl Period {
     }
 }
 
-/// The number of a month's name.
-fn month_named(word: &str) -> Option<u8> {
-    let word = normal(word);
-    (1..=12).find(|month| normal(&monat(*month)) == word)
-}
-
 fn is_year(word: &str) -> bool {
     word.len() == 4 && is_number(word)
 }
@@ -112,15 +105,25 @@ struct Holiday {
     date: Date,
     holiday: Feiertag,
     reason: DayReason,
+    /// The second of two on one day.
+    also: Option<Closed>,
 }
 
 impl Holiday {
     fn of((date, holiday): (Date, Feiertag)) -> Result<Holiday, Error> {
-        Ok(Holiday { date, holiday, reason: day_reason(date)? })
+        let reason = day_reason(date)?;
+        let hidden = matches!(reason, DayReason::Samstag | DayReason::Sonntag);
+        let also = if hidden { None } else { Closed::also(date, reason)? };
+        Ok(Holiday { date, holiday, reason, also })
+    }
+
+    fn name(&self) -> String {
+        let also = self.also.map_or(String::new(), |also| format!("; auch {}", also.name()));
+        format!("{}{also}", self.holiday)
     }
 
     fn json(&self) -> Json {
-        let Holiday { date, holiday, reason } = self;
+        let Holiday { date, holiday, reason, .. } = self;
         Json::Object(vec![
             ("date", (*date).into()),
             ("weekday", weekday(Some(*date))),
@@ -206,10 +209,9 @@ impl Sheet {
     }
 
     /// The holidays and Ostersonntag by date.
-    fn listed(&self) -> Vec<(Date, &'static str)> {
-        let holidays =
-            self.holidays.iter().map(|Holiday { date, holiday, .. }| (*date, holiday.name()));
-        let easter = self.ostersonntag.map(|date| (date, Closed::Ostersonntag.name()));
+    fn listed(&self) -> Vec<(Date, String)> {
+        let holidays = self.holidays.iter().map(|it| (it.date, it.name()));
+        let easter = self.ostersonntag.map(|date| (date, Closed::Ostersonntag.name().to_owned()));
         let mut listed: Vec<_> = holidays.chain(easter).collect();
         listed.sort_unstable();
         listed

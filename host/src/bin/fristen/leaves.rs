@@ -49,10 +49,10 @@ fn verdict(inquiry: &Inquiry, the_anchor: &str) -> Option<String> {
         return Some(of_anchor(shape, anchor, the_anchor));
     }
     let earliest = match inquiry.call {
-        Call::AbmeldungCheck => "Das früheste Zuordnungsende",
-        _ => "Der früheste Termin",
+        Call::AbmeldungCheck => "Das Zuordnungsende, das die Quelle als frühestes nennt",
+        _ => "Der Termin, den die Quelle als frühesten nennt",
     };
-    Some(format!("{earliest} für diesen Übertragungstag {BEHIND}"))
+    Some(format!("{earliest}, {BEHIND}"))
 }
 
 /// Of the transmission days that an anchor allows: only the last one of some shapes lies behind it.

@@ -107,7 +107,8 @@ fn find(name: Option<&OsString>) -> Result<(&'static Command, &str), Usage> {
     let found = name.to_str().and_then(|name| Some((Command::find(name)?, name)));
     let known: Vec<String> = command::all().flat_map(Command::names).collect();
     let known = known.iter().map(String::as_str).chain(HELP);
-    found.ok_or_else(|| Usage::unknown("unbekannter Befehl", name, known))
+    let german: Vec<&str> = command::all().map(Command::german_name).collect();
+    found.ok_or_else(|| Usage::unknown("unbekannter Befehl", name, known, german))
 }
 
 fn helped(name: Option<&OsString>) -> Result<Outcome, Usage> {

@@ -21,7 +21,7 @@ fn head() -> String {
     format!(
         ".TH FRISTEN 1 \"\" \"{NAME} {version}\"\n.nr HY 0\n.nh\n.ad l\n.ss 12 0\n\
          {}{NAME} \\- {what}\n\
-         {}.B {NAME}\n{called}\n.br\n.B {NAME} help\n[BEFEHL]\n",
+         {}.B {NAME}\n{called}\n.br\n.B {NAME} hilfe\n[BEFEHL]\n",
         heading("NAME"),
         heading("ÜBERSICHT")
     )
@@ -40,9 +40,10 @@ fn commands(names: &str) -> String {
 }
 
 fn command(command: &Command) -> String {
-    let usage = command.usage(command.name);
+    let usage = command.usage(command.german_name());
     let (name, operands) = usage.split_at(usage.find(' ').unwrap_or(usage.len()));
-    let others: Vec<String> = command.names().skip(1).collect();
+    let first = command.german_name();
+    let others: Vec<String> = command.names().filter(|name| name != first).collect();
     let also = match others.is_empty() {
         false => format!(".br\n{}\n", escaped(&format!("Auch: {}", others.join(", ")))),
         true => String::new(),
@@ -55,7 +56,8 @@ fn command(command: &Command) -> String {
         .filter(|paragraph| !paragraph.is_empty())
         .map(|paragraph| format!(".IP\n{}", filled(paragraph)))
         .collect();
-    let examples: Vec<String> = command.examples.iter().map(example).collect();
+    let shown = |it: &Example| example(it, &help::by_name(command, first, it.call));
+    let examples: Vec<String> = command.examples.iter().map(shown).collect();
     format!(
         "{}{}\n{also}{}{}",
         tag(name, operands),
@@ -71,7 +73,7 @@ fn tag(name: &str, behind: &str) -> String {
 }
 
 /// As it is printed where it is called, with the file that it takes.
-fn example(Example { call, output, file }: &Example) -> String {
+fn example(Example { output, file, .. }: &Example, call: &str) -> String {
     let cat = |(name, content): (&str, &str)| format!("$ cat {name}\n{}\n", content.trim_end());
     let text = format!("{}$ {NAME} {call}\n{output}", file.map_or(String::new(), cat));
     format!(".IP\n{}", as_it_is(text.lines()))
@@ -87,8 +89,8 @@ fn shapes() -> String {
             continue;
         }
         match groups.iter_mut().find(same) {
-            Some((commands, _)) => commands.push(command.name),
-            None => groups.push((vec![command.name], shapes)),
+            Some((commands, _)) => commands.push(command.german_name()),
+            None => groups.push((vec![command.german_name()], shapes)),
         }
     }
     let group = |(commands, shapes): &(Vec<&str>, Vec<Shape>)| {
@@ -213,11 +215,15 @@ mod tests {
     fn every_option_and_subcommand_has_its_paragraph() {
         let page = page();
         let options = crate::arguments::OPTIONS.map(escaped);
-        let names = command::all().map(|command| escaped(command.name));
+        let names = command::all().map(|command| escaped(command.german_name()));
         for name in options.into_iter().chain(names) {
             let begins = format!(".TP\n\\fB{name}");
             assert!(page.contains(&begins), "{name}");
         }
         assert!(page.is_ascii());
+        let lines: Vec<&str> = page.lines().collect();
+        for rows in lines.windows(3).filter(|rows| rows[0] == ".TP") {
+            assert!(!rows[2].starts_with('.'), "{} has no text", rows[1]);
+        }
     }
 }

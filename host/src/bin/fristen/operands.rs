@@ -2,6 +2,7 @@
 
 use crate::arguments::Arguments;
 use crate::command::Command;
+use crate::deutsch::MONATE;
 use crate::inquiry::{Inquiry, Refused};
 use crate::kalenderblatt::Period;
 use crate::names::{self, Named, ANLAESSE, EEG, FRISTEN, SPARTEN, VORLAUF};
@@ -65,7 +66,8 @@ pub fn periods(arguments: &Arguments) -> Result<Vec<Period>, Usage> {
         }
         let expected = "ein Jahr wie 2026 oder einen Monat wie 12.2026 oder Dezember";
         let read = |word: &str| Period::read(word, today).ok_or_else(|| expected.to_owned());
-        periods.push(read_as("JAHR", word, read)?);
+        let read = read_as("JAHR", word, read);
+        periods.push(read.map_err(|usage| usage.meaning(perhaps(word, MONATE, [])))?);
     }
     Ok(periods)
 }
@@ -82,10 +84,15 @@ pub fn file(arguments: &Arguments) -> Result<Option<&OsStr>, Usage> {
 pub fn date(label: &str, word: &OsStr, now: Instant) -> Result<Date, Usage> {
     let date = |word: &str| reading::date(word, now);
     let read = read_as(label, word, |word| date(word).ok_or_else(|| reading::DATE.to_owned()));
-    let meant = word.to_str().and_then(|word| reading::date_meant(word, now));
-    read.map_err(|usage| {
-        usage.meaning(meant.map_or(String::new(), |meant| format!(". Meinten Sie {meant}?")))
-    })
+    read.map_err(|usage| usage.meaning(date_meant(word, now)))
+}
+
+/// What may have been meant for a date, as a question.
+fn date_meant(word: &OsStr, now: Instant) -> String {
+    match word.to_str().and_then(|word| reading::date_meant(word, now)) {
+        Some(meant) => format!(". Meinten Sie {meant}?"),
+        None => perhaps(word, reading::DAYS, []),
+    }
 }
 
 pub fn missing(label: &str) -> Usage {
@@ -127,7 +134,7 @@ fn read(
         Parameter::Shape => frist(inquiry, label, words)?,
         Parameter::VorlaufShape => vorlauf(inquiry, label, words)?,
         Parameter::Eeg => inquiry.question.code = words.eeg(label)?,
-        Parameter::Reason => inquiry.reason = words.next(label)?.as_encoded_bytes().to_vec(),
+        Parameter::Reason => inquiry.reason = words.reason(label)?,
     }
     Ok(())
 }
@@ -210,7 +217,21 @@ impl<'a> Words<'a> {
     }
 
     fn date(&mut self, label: &str) -> Result<Date, Usage> {
-        date(label, self.next(label)?, self.now)
+        date(label, &self.date_text(label)?, self.now)
+    }
+
+    /// The next word, or three of the form `2. April 2026`.
+    fn date_text(&mut self, label: &str) -> Result<OsString, Usage> {
+        let first = self.next(label)?;
+        let rest: Vec<&str> = self.left.as_slice().iter().map_while(|word| word.to_str()).collect();
+        if let (Some(day), [month, year, ..]) = (first.to_str(), &rest[..]) {
+            let text = format!("{day} {month} {year}");
+            if reading::date(&text, self.now).is_some() {
+                self.left.nth(1);
+                return Ok(text.into());
+            }
+        }
+        Ok(first.to_owned())
     }
 
     /// The next word if it is this one, in any letter case.
@@ -224,29 +245,32 @@ impl<'a> Words<'a> {
     }
 
     fn clock(&mut self, label: &str) -> Result<Clock, Usage> {
-        let clock =
-            self.read(label, |word| reading::clock(word).ok_or_else(|| reading::CLOCK.to_owned()))?;
-        self.passes("Uhr");
-        Ok(clock)
+        let mut word = self.next(label)?.to_owned();
+        if self.passes("Uhr") {
+            word.push(" Uhr");
+        }
+        let clock = |word: &str| reading::clock(word).ok_or_else(|| reading::CLOCK.to_owned());
+        read_as(label, &word, clock)
     }
 
     /// One word, or a date and its clock time in several; or the refusal of a time that Berlin's
     /// clock does not show.
     fn moment(&mut self, label: &str) -> Result<Result<Moment, Refused>, Usage> {
         let (text, now) = (self.moment_text(label)?, self.now);
-        read_as(label, &text, |text| match reading::moment(text, now) {
+        let read = read_as(label, &text, |text| match reading::moment(text, now) {
             Ok(moment) => Ok(Ok(moment)),
             Err(NoMoment::Refused(refusal, date, at)) => {
                 Ok(Err(Refused { refusal, sentence: culprit::of_berlin(label, refusal, date, at) }))
             }
             Err(NoMoment::Expected(expected)) => Err(expected),
-        })
+        });
+        read.map_err(|usage| usage.meaning(date_meant(&text, now)))
     }
 
     /// The next word; behind a date also `um`, a clock time and `Uhr`, and what stands where that
     /// time should.
     fn moment_text(&mut self, label: &str) -> Result<OsString, Usage> {
-        let mut text = self.next(label)?.to_owned();
+        let mut text = self.date_text(label)?;
         if text.to_str().is_none_or(|word| reading::date(word, self.now).is_none()) {
             return Ok(text);
         }
@@ -301,7 +325,20 @@ impl<'a> Words<'a> {
         let found = read_as(label, word, |word| {
             names::find(table, word).ok_or_else(|| names::expected(table))
         });
-        found.map_err(|usage| usage.meaning(perhaps(word, table.iter().flat_map(Named::names))))
+        let german = table.iter().map(|row| row.german.unwrap_or(row.name));
+        let perhaps = perhaps(word, table.iter().flat_map(Named::names), german);
+        found.map_err(|usage| usage.meaning(perhaps))
+    }
+
+    /// A date in its place, with nothing but one more behind it, means that it was left out.
+    fn reason(&mut self, label: &str) -> Result<Vec<u8>, Usage> {
+        let word = self.next(label)?;
+        let is_date =
+            |word: &OsStr| word.to_str().is_some_and(|w| reading::date(w, self.now).is_some());
+        match self.left.as_slice() {
+            [second] if is_date(word) && is_date(second) => Err(missing(label)),
+            _ => Ok(word.as_encoded_bytes().to_vec()),
+        }
     }
 
     /// The mark's code. An option: it is asked for here, and stands anywhere.

@@ -1,6 +1,6 @@
 //! Dates, clock times and instants as people write them.
 
-use crate::deutsch::zeitpunkt;
+use crate::deutsch::{monat, zeitpunkt};
 use crate::words::normal;
 use mako_fristen_host::{berlin_at, berlin_date, BerlinTime, Clock, Date, Error, Instant, Refusal};
 use std::time::SystemTime;
@@ -17,7 +17,10 @@ pub fn now() -> Instant {
     Instant::from(SystemTime::now())
 }
 
-/// `2026-04-02`, `02.04.2026`, `2.4.2026`, or the word for a day beside the one that Berlin has now.
+/// The words for days beside the one that Berlin has now.
+pub const DAYS: [&str; 5] = ["heute", "morgen", "übermorgen", "gestern", "vorgestern"];
+
+/// `2026-04-02`, `02.04.2026`, `2.4.2026`, `2. April 2026`, or one of these words.
 pub fn date(word: &str, now: Instant) -> Option<Date> {
     let days = match &normal(word)[..] {
         "heute" => 0,
@@ -25,7 +28,7 @@ pub fn date(word: &str, now: Instant) -> Option<Date> {
         "uebermorgen" => 2,
         "gestern" => -1,
         "vorgestern" => -2,
-        _ => return word.parse().ok().or_else(|| german_date(word)),
+        _ => return word.parse().ok().or_else(|| german_date(word)).or_else(|| long_date(word)),
     };
     berlin_date(now).ok()?.plus_days(days)
 }
@@ -38,6 +41,20 @@ fn german_date(word: &str) -> Option<Date> {
     let (day, month, year) = (part(1, 2)?, part(1, 2)?, part(4, 4)?);
     parts.next().is_none().then_some(())?;
     Some(Date::new(year.parse().ok()?, month.parse().ok()?, day.parse().ok()?))
+}
+
+fn long_date(words: &str) -> Option<Date> {
+    let mut words = words.split_whitespace();
+    let (day, month, year) = (words.next()?, words.next()?, words.next()?);
+    words.next().is_none().then_some(())?;
+    let day = day.strip_suffix('.').unwrap_or(day);
+    german_date(&format!("{day}.{}.{year}", month_named(month)?))
+}
+
+/// The number of a month's name.
+pub fn month_named(word: &str) -> Option<u8> {
+    let word = normal(word);
+    (1..=12).find(|month| normal(&monat(*month)) == word)
 }
 
 /// The date that a word may have been meant for, in the German form: one with other marks between
@@ -58,11 +75,24 @@ pub fn date_meant(word: &str, now: Instant) -> Option<String> {
     Some(format!("{day}.{month}.{year}"))
 }
 
-/// A clock time with one digit of an hour or two, and a comma or a point before its fraction.
+/// A clock time with one digit of an hour or two, and a comma or a point before its fraction; also as
+/// it is said, `11 Uhr` or `11.30 Uhr`.
 pub fn clock(word: &str) -> Option<Clock> {
+    let word = word.trim();
+    let said = word.strip_suffix("Uhr").or_else(|| word.strip_suffix("uhr")).map(str::trim_end);
+    let hour = said.filter(|hour| is_number(hour) && hour.len() <= 2);
+    let word = hour.map_or_else(|| said.unwrap_or(word).to_owned(), |hour| format!("{hour}:00"));
+    let word = with_colon(&word).unwrap_or(word);
     let (hour, _) = word.split_once(':')?;
     let padded = if hour.len() == 1 { "0" } else { "" };
     format!("{padded}{}", word.replacen(',', ".", 1)).parse().ok()
+}
+
+/// `11.30`, where a clock time stands, is one.
+fn with_colon(word: &str) -> Option<String> {
+    let (hour, minute) = word.split_once('.')?;
+    let fits = is_number(hour) && hour.len() <= 2 && is_number(minute) && minute.len() == 2;
+    fits.then(|| format!("{hour}:{minute}"))
 }
 
 /// An instant that was read, and what whoever wrote it should know of it.
@@ -141,6 +171,9 @@ fn expected() -> NoMoment {
 /// The date and the clock time, with blanks or a `T` between.
 fn parted(word: &str) -> Option<(&str, Option<&str>)> {
     let word = word.trim();
+    if let Some(parted) = after_long_date(word) {
+        return Some(parted);
+    }
     let behind_digit = |at: usize| word.as_bytes().get(at - 1).is_some_and(u8::is_ascii_digit);
     let mark = word
         .char_indices()
@@ -152,6 +185,15 @@ fn parted(word: &str) -> Option<(&str, Option<&str>)> {
     }
 }
 
+/// `2. April 2026`, and what stands behind it.
+fn after_long_date(word: &str) -> Option<(&str, Option<&str>)> {
+    let parts: Vec<&str> = word.splitn(4, [' ', '\t']).collect();
+    let [day, month, year, ..] = parts[..] else { return None };
+    let date = word.get(..day.len() + month.len() + year.len() + 2)?;
+    long_date(date)?;
+    Some((date, parts.get(3).map(|time| time.trim_start())))
+}
+
 /// What stands behind a clock time.
 #[derive(Clone, Copy, Debug, PartialEq, Eq)]
 enum Offset {
@@ -161,14 +203,9 @@ enum Offset {
     TooLarge,
 }
 
-/// Also `um 11:59 Uhr` and `11 Uhr`, as it is said.
+/// Also behind `um`, as it is said.
 fn timed(text: &str) -> Option<(Clock, Option<Offset>)> {
     let text = text.trim().strip_prefix("um ").unwrap_or(text.trim());
-    if let Some(said) = text.strip_suffix("Uhr").map(str::trim_end) {
-        let hour = Some(said).filter(|hour| is_number(hour) && hour.len() <= 2);
-        let padded = hour.map_or_else(|| said.to_owned(), |hour| format!("{hour}:00"));
-        return Some((clock(&padded)?, None));
-    }
     let end = text.find(['Z', 'z', '+', '-']).unwrap_or(text.len());
     let (time, offset) = text.split_at(end);
     let offset = match offset {
@@ -246,7 +283,8 @@ mod tests {
     #[test]
     fn a_date_in_any_of_its_forms() {
         let second_of_april = Some(Date::new(2026, 4, 2));
-        for word in ["2026-04-02", "02.04.2026", "2.4.2026", "2.04.2026"] {
+        let long = ["2. April 2026", "2 april 2026", "02.  April  2026"];
+        for word in ["2026-04-02", "02.04.2026", "2.4.2026", "2.04.2026"].into_iter().chain(long) {
             assert_eq!(date(word, NOW), second_of_april, "{word}");
         }
         let days = [("heute", 31, 3), ("Morgen", 1, 4), ("GESTERN", 30, 3)];
@@ -294,9 +332,7 @@ mod tests {
         }
         assert_eq!(clock("9:05"), Some(Clock::new(9, 5, 0, 0)));
         assert_eq!(clock("24:00"), Some(Clock::new(24, 0, 0, 0)), "the call judges it");
-        for word in
-            ["", "9", "9:5", "9.05", "009:05", ":05", "09:05,5", "09:05:07,", "09:05:07,5,5"]
-        {
+        for word in ["", "9", "9:5", "009:05", ":05", "09:05,5", "09:05:07,", "09:05:07,5,5"] {
             assert_eq!(clock(word), None, "{word}");
         }
     }
@@ -317,6 +353,8 @@ mod tests {
             "31.03.2026T11:59",
             "heute 11:59",
             " Heute \t 11:59",
+            "31. März 2026 um 11:59 Uhr",
+            "31. maerz 2026  11:59",
             "2026-03-31T11:59+02:00",
             "2026-03-31T11:59:00+0200",
             "2026-03-31 11:59+02",
@@ -392,7 +430,7 @@ mod tests {
             assert!(expected(word).starts_with("einen Zeitpunkt wie"), "{word}");
         }
         let of_date = "zum Datum eine Uhrzeit, wie 2026-03-31 11:59";
-        for word in ["2026-03-31", "2026-03-31 bald", "2026-03-31T", "2026-03-31 11.59"] {
+        for word in ["2026-03-31", "2026-03-31 bald", "2026-03-31T", "2026-03-31 11h"] {
             assert_eq!(expected(word), of_date, "{word}");
         }
         assert_eq!(expected("heute 9"), "zum Datum eine Uhrzeit, wie heute 9:00");
@@ -422,13 +460,24 @@ mod tests {
     #[test]
     fn a_clock_time_as_it_is_said() {
         let nine = instant("2026-03-31 09:00");
-        for time in ["9 Uhr", "9:00 Uhr", "um 9 Uhr", "um 09:00", "um 9:00:00 Uhr", " 9:00"] {
+        for time in [
+            "9 Uhr",
+            "9:00 Uhr",
+            "um 9 Uhr",
+            "um 09:00",
+            "um 9:00:00 Uhr",
+            " 9:00",
+            "9uhr",
+            "9.00 Uhr",
+        ] {
             assert_eq!(instant(&format!("31.3.2026 {time}")), nine, "{time}");
         }
-        for time in ["9", "um", "Uhr", "900 Uhr", "9.00 Uhr"] {
+        for time in ["9", "um", "Uhr", "900 Uhr", "9.0 Uhr", "9.00.00"] {
             assert!(instant(&format!("31.3.2026 {time}")).is_err(), "{time}");
         }
-        assert!(may_be_time("9") && may_be_time("9:00") && !may_be_time("900"));
+        assert!(may_be_time("9") && may_be_time("9.00") && !may_be_time("900"));
+        assert_eq!(clock("11 Uhr"), Some(Clock::new(11, 0, 0, 0)));
+        assert_eq!(clock("11.30"), Some(Clock::new(11, 30, 0, 0)));
         assert!(is_offset("+02:00") && is_offset("-0430") && is_offset("Z"));
         assert!(!is_offset("-3") && !is_offset("+2") && !is_offset("2"));
     }

@@ -79,8 +79,10 @@ impl Run {
         self.status = self.status.max(status);
         self.flush()?;
         self.progress.clear();
-        // The others are answered even if this cannot be written; the last complaint finds it out.
-        let _ = io::stderr().lock().write_all(text.as_bytes());
+        // The others are answered even if this cannot be written.
+        if io::stderr().lock().write_all(text.as_bytes()).is_err() {
+            self.status = self.status.max(Status::OutputFailed);
+        }
         Ok(())
     }
 

@@ -23,9 +23,10 @@ impl Usage {
     pub fn unknown<'a>(
         what: &str,
         word: &OsStr,
-        known: impl IntoIterator<Item = &'a str>,
+        all: impl IntoIterator<Item = &'a str>,
+        others: impl IntoIterator<Item = &'a str>,
     ) -> Usage {
-        Usage::new(format!("{what} {}", quoted(word))).meaning(perhaps(word, known))
+        Usage::new(format!("{what} {}", quoted(word))).meaning(perhaps(word, all, others))
     }
 
     /// With a question behind its message.
@@ -65,8 +66,12 @@ impl Usage {
 const MOST_QUOTED: usize = 80;
 
 /// As it stands behind a complaint: the known words that may have been meant, if there are any.
-pub fn perhaps<'a>(word: &OsStr, known: impl IntoIterator<Item = &'a str>) -> String {
-    let meant = meant(&word.to_string_lossy(), known);
+pub fn perhaps<'a>(
+    word: &OsStr,
+    all: impl IntoIterator<Item = &'a str>,
+    others: impl IntoIterator<Item = &'a str>,
+) -> String {
+    let meant = meant(&word.to_string_lossy(), all, others);
     if meant.is_empty() {
         return String::new();
     }

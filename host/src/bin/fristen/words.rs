@@ -21,14 +21,18 @@ const LONGEST: usize = 64;
 const FEWEST_LETTERS: usize = 3;
 const MOST_NAMES: usize = 5;
 
-/// The names that may have been meant: the nearest, of which one letter in three may be wrong, else
-/// those of which the word is a part.
-pub fn meant<'a>(word: &str, names: impl IntoIterator<Item = &'a str>) -> Vec<&'a str> {
-    let names: Vec<&str> = names.into_iter().collect();
+/// The names that may have been meant: of all the nearest, of which one letter in three may be wrong,
+/// else those of the others of which the word is a part, or which are a part of it.
+pub fn meant<'a>(
+    word: &str,
+    all: impl IntoIterator<Item = &'a str>,
+    others: impl IntoIterator<Item = &'a str>,
+) -> Vec<&'a str> {
+    let all: Vec<&str> = all.into_iter().collect();
     let word: String = normal(word).chars().take(LONGEST).collect();
-    match nearest(&word, &names) {
+    match nearest(&word, &all) {
         Some(name) => vec![name],
-        None => names.into_iter().filter(|name| is_part(&word, name)).take(MOST_NAMES).collect(),
+        None => others.into_iter().filter(|name| is_part(&word, name)).take(MOST_NAMES).collect(),
     }
 }
 
@@ -44,7 +48,9 @@ fn nearest<'a>(word: &str, names: &[&'a str]) -> Option<&'a str> {
 }
 
 fn is_part(word: &str, name: &str) -> bool {
-    word.chars().count() >= FEWEST_LETTERS && normal(name).contains(word)
+    let name = normal(name);
+    let long = |word: &str| word.chars().count() >= FEWEST_LETTERS;
+    (long(word) && name.contains(word)) || (long(&name) && word.contains(&name))
 }
 
 /// How many letters are to be put in, taken out, replaced, or swapped with their neighbour.
@@ -78,7 +84,7 @@ mod tests {
     #[test]
     fn what_was_meant_is_near() {
         let names = ["tag", "add-werktage", "sub-werktage", "span"];
-        let one = |word: &str| meant(word, names);
+        let one = |word: &str| meant(word, names, []);
         for word in ["add-wertkage", "adwerktage", "ADD_WERKTAG"] {
             assert_eq!(one(word), ["add-werktage"], "{word}");
         }
@@ -92,8 +98,11 @@ mod tests {
     #[test]
     fn what_was_meant_may_be_a_part() {
         let names = ["aperak-strom", "aperak-gas", "aperak-gas-folgeprozess", "contrl"];
-        assert_eq!(meant("APERAK", names), names[..3]);
-        assert_eq!(meant("Gas", names), names[1..3]);
-        assert_eq!(meant("rak", ["aperak"; 9]).len(), MOST_NAMES);
+        let meant = |word| meant(word, [], names);
+        assert_eq!(meant("APERAK"), names[..3]);
+        assert_eq!(meant("Gas"), names[1..3]);
+        assert_eq!(meant("contrl-due"), names[3..]);
+        assert!(meant("ga").is_empty());
+        assert_eq!(super::meant("rak", [], ["aperak"; 9]).len(), MOST_NAMES);
     }
 }

@@ -36,7 +36,7 @@ solchen ist.",
         summary: "ob eine Abmeldung durch den Netzbetreiber rechtzeitig kam",
         meaning: "\
 Das Urteil nach der Vorlauffrist, die abmeldung-fuer nennt, auch um wie viele
-Kalendertage; „margin“ in --json wie bei check. Hat der Fall keine, so gibt es kein
+Kalendertage; „margin“ in --json wie bei pruefen. Hat der Fall keine, so gibt es kein
 Urteil und „margin“ ist null; das heißt nicht, dass die Frist gewahrt ist.",
         examples: &[Example::new(
             "abmeldung ZT0 --eeg nein 2026-01-08 2026-01-12",

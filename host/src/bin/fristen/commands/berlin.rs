@@ -85,7 +85,7 @@ SPARTE ist Strom oder Gas.",
         options: &[],
         summary: "welcher Tag in der Sparte Strom oder Gas dann beginnt",
         meaning: "\
-Die Umkehrung von tagesbeginn-utc. Beginnt dann kein Tag, so wird abgelehnt (7).
+Die Umkehrung von tagesbeginn. Beginnt dann kein Tag, so wird abgelehnt (7).
 SPARTE ist Strom oder Gas.",
         examples: &[Example::new(
             "tag-des-beginns 2026-03-29T04:00:00Z Gas",

@@ -11,7 +11,7 @@ pub const COMMANDS: [Command; 1] = [Command {
     options: &["[DATEI]", "[--roh]"],
     summary: "beantwortet die Fragen einer Datei oder der Standardeingabe, je Zeile eine",
     meaning: "\
-Je Zeile eine Frage, in den Worten von contrl, frist, check oder span und ohne Optionen,
+Je Zeile eine Frage, in den Worten von contrl, frist, pruefen oder spanne und ohne Optionen,
 mit Leerzeichen oder Tabulatoren dazwischen. Leere Zeilen und Zeilen, die mit # beginnen,
 werden übergangen. Ohne DATEI oder mit - wird die Standardeingabe gelesen.
 
@@ -22,7 +22,7 @@ Ende mit 64, wenn es eine solche Zeile gab, sonst mit 2, wenn eine Frage abgeleh
 und mit --status sonst mit 1, wenn eine Frist nicht gewahrt oder kein Tag zulässig ist.
 
 Mit --kurz bleibt hinter der Nummer einer abgelehnten Frage der Platz leer; warum sie
-abgelehnt wurde, steht in der Fehlerausgabe.
+abgelehnt wurde, steht in der Fehlerausgabe. Leer ist er auch, wo kein Termin zulässig ist.
 
 Mit --roh sind Fragen und Antworten Datensätze von je 32 Bytes, wie mf_questions sie hat,
 aber beliebig viele. Ist ihre Länge kein Vielfaches von 32, so wird abgelehnt (9) und

@@ -169,7 +169,7 @@ dabei.",
         task: Task::Ask(Call::EndOfWerktagAfter),
         operands: &[(Parameter::Instant, "EINGANG"), (Parameter::Count, "N")],
         options: &[],
-        summary: "dasselbe wie deadline-at-werktage, unter dem anderen Namen der Quelle",
+        summary: "dasselbe wie ende-des-werktags, unter dem anderen Namen der Quelle",
         meaning: "\
 Das Ende des N-ten Werktags nach dem Eingangstag. Mit 0 das Ende des Eingangstags.",
         examples: &[Example::new(

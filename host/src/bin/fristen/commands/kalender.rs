@@ -71,7 +71,7 @@ auch an einem Samstag oder Sonntag, und in einer langen Zeit, wie viele Tage es 
         summary: "der N-te Werktag vor dem Tag",
         meaning: "\
 Der N-te Werktag vor dem Tag, der selbst nicht mitzählt. Mit 0 der Tag selbst,
-ob Werktag oder nicht. Darunter steht, was übersprungen wird, wie bei add-werktage.",
+ob Werktag oder nicht. Darunter steht, was übersprungen wird, wie bei werktage-nach.",
         examples: &[Example::new(
             "sub-werktage 2026-04-07 1",
             "Der 1. Werktag vor Dienstag, dem 7. April 2026, ist Donnerstag, der 2. April 2026.\n\

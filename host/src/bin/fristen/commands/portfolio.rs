@@ -16,7 +16,7 @@ Leerzeichen oder Tabulatoren; jeder auch in \"Anführungszeichen\". Ohne DATEI o
 wird die Standardeingabe gelesen.
 
 Zu jeder Zeile eine Zeile mit der Zahl der Werktage nach VON bis einschließlich BIS, wie
-werktage-between sie zählt. Sie ist leer zu einer leeren Zeile, zu einer, die mit #
+werktage-zwischen sie zählt. Sie ist leer zu einer leeren Zeile, zu einer, die mit #
 beginnt, und zur Kopfzeile einer Tabelle: der ersten anderen, wenn sie keine Ziffer hat.
 So steht jede Zahl neben ihrer Zeile:
   paste -d';' vertraege.csv <(./fristen portfolio vertraege.csv)

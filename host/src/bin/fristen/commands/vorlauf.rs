@@ -55,7 +55,7 @@ niederwertigste zuerst.",
         options: &[],
         summary: "dasselbe mit Zeitpunkten",
         meaning: "\
-Das Urteil wie bei check, auch um wie viele Kalendertage. Der Übertragungstag ist der
+Das Urteil wie bei pruefen, auch um wie viele Kalendertage. Der Übertragungstag ist der
 Tag in Berlin; der Termin ist als Beginn seines Tages in der Sparte gegeben, sonst wird
 abgelehnt (7). SPARTE ist Strom oder Gas.",
         examples: &[Example::new(
@@ -95,8 +95,8 @@ einer oder keiner. Darunter die Regel.",
         summary: "bis wann eine Nachricht für ihren Termin übertragen sein muss",
         meaning: "\
 Der späteste Übertragungstag für den Termin, bei Zeitfenster und Korridor auch der
-früheste. Darunter die Regel und, was zwischen dem spätesten und dem Termin
-übersprungen wird. --bytes gibt es hier nicht.",
+früheste. Darunter die Regel und, wo Werktage gezählt werden, was dabei übersprungen
+wird. --bytes gibt es hier nicht.",
         examples: &[Example::new(
             "bis-wann WerktageVorher 1 7.4.2026",
             "Für den Termin am Dienstag, dem 7. April 2026, muss die Nachricht spätestens am \

@@ -43,7 +43,7 @@ fn unknown(name: &OsStr) -> Usage {
         return Usage::new(format!("{name} gibt es in einer Datei nicht; erwartet {expected}"));
     }
     let known: Vec<String> = questions().flat_map(|(command, _)| command.names()).collect();
-    let perhaps = perhaps(name, known.iter().map(String::as_str));
+    let perhaps = perhaps(name, known.iter().map(String::as_str), all);
     Usage::new(format!("erwartet {expected}, nicht {}", quoted(name))).meaning(perhaps)
 }
 

@@ -58,7 +58,7 @@ pub fn ankuendigung(inquiry: &Inquiry, in_time: Option<bool>) -> Result<String, 
     let Some(in_time) = in_time else {
         return Ok(format!(
             "Weder fristgerecht noch verspätet: {what}\n\
-             Der Zuordnungsbeginn liegt nicht in der Zukunft; dann gilt „unverzüglich“, und ab \
+             Der Zuordnungsbeginn liegt nicht nach dem Eingang; dann gilt „unverzüglich“, und ab \
              wann, steht in keiner Nachricht."
         ));
     };
@@ -71,10 +71,14 @@ pub fn ankuendigung(inquiry: &Inquiry, in_time: Option<bool>) -> Result<String, 
              00:00 bis 13:00 Uhr: am {werktag}."
         ));
     }
-    let word = if window.is_early(received) { "Zu früh" } else { "Zu spät" };
+    // Who is early may still be in time.
+    let (word, is, was) = match window.is_early(received) {
+        true => ("Zu früh", "ist", ""),
+        false => ("Zu spät", "wäre", " gewesen"),
+    };
     Ok(format!(
         "{word}: {what}\n\
-         Fristgerecht wäre sie nur am letzten Werktag vor dem Zuordnungsbeginn gewesen, am \
-         {werktag}, von 00:00 bis 13:00 Uhr."
+         Fristgerecht {is} sie nur am letzten Werktag vor dem Zuordnungsbeginn{was}, am {werktag}, \
+         von 00:00 bis 13:00 Uhr."
     ))
 }

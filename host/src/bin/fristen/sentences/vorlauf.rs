@@ -112,7 +112,7 @@ fn too_early(inquiry: &Inquiry, n: u32) -> Result<Option<String>, Error> {
         return Ok(None);
     };
     Ok(Some(match n {
-        0 => format!("Zu früh ist es um {}.", keine_werktage(days(day, first))),
+        0 => format!("Zu früh ist es um {}.", kalendertage(days(day, first))),
         _ if !is_werktag(first)? => {
             format!("Zu früh ist es um {}.", kalendertage(days(day, first)))
         }
