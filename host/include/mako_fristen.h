@@ -2,9 +2,9 @@
  *
  * Each call returns 0 or the number of its refusal, and fills the answer of MF_ANSWER_LENGTH bytes that it is lent, its
  * last parameter, little-endian: byte 0 the number that is returned, 1 a kind, 4 to 7 a count, 8 to 15 the seconds and
- * 16 to 19 the nanoseconds of an instant, 20 to 23 a date (year in two bytes, month, day), 24 to 27 a span's last date or
- * the days that a count tested, 28 to 31 a verdict's margin, signed. What is not filled is zero, and so is all but the
- * number if the call refuses. An answer of another length is left as it was.
+ * 16 to 19 the nanoseconds of an instant, 20 to 23 a date (year in two bytes, month, day), 24 to 27 a span's last date
+ * or the days that a count tested, 28 to 31 a verdict's margin, signed. What is not filled is zero, and so is all but
+ * the number if the call refuses. An answer of another length is left as it was.
  *
  * docs/host-calls.md says what each call answers and refuses, and what the caller owes. */
 #ifndef MAKO_FRISTEN_H

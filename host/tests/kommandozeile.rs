@@ -179,7 +179,9 @@ fn a_time_that_the_clock_shows_twice_is_named() {
     assert_prints(TWICE);
     let given = "contrl Regelfall 2026-10-25T02:30:00+02:00";
     assert!(!printed(&words(given), 0).contains("zweimal"), "its offset tells it");
-    let end = "zeigt die Uhr in Berlin zweimal 02:30 Uhr; gemeint ist die frühere. Nach der späteren fragt, wer +01:00 dahinter schreibt.\n";
+    let end =
+        "zeigt die Uhr in Berlin zweimal 02:30 Uhr; gemeint ist die frühere. Nach der späteren \
+               fragt, wer +01:00 dahinter schreibt.\n";
     for line in [
         "aperak-strom 2026-10-25T02:30",
         "aperak-strom-allgemein 2026-10-25T02:30",

@@ -499,7 +499,7 @@ fn the_help_shows_each_shape_with_an_example() {
     }
     let help = printed(&["help", "check"], 0);
     let shape =
-        "  LatestWerktageBefore, auch WerktageVorher N\n      spätestens am N-ten Werktag vor dem \
+        "  WerktageVorher, auch LatestWerktageBefore N\n      spätestens am N-ten Werktag vor dem \
                  Termin\n      $ ./fristen check WerktageVorher 5 2026-04-02 2026-04-13\n";
     assert!(help.contains(shape), "{help}");
 }

@@ -707,7 +707,8 @@ pub const TWICE: &[(&str, &str)] = &[
         "Eingang am Sonntag, dem 25. Oktober 2026, um 02:30 Uhr Sommerzeit: Die CONTRL im \
          Regelfall ist fällig am Sonntag, dem 25. Oktober 2026, um 07:30 Uhr. Dazwischen wird die \
          Uhr um eine Stunde zurückgestellt.\n\
-         Am Sonntag, dem 25. Oktober 2026, zeigt die Uhr in Berlin zweimal 02:30 Uhr; gemeint ist die frühere. Nach der späteren fragt, wer +01:00 dahinter schreibt.",
+         Am Sonntag, dem 25. Oktober 2026, zeigt die Uhr in Berlin zweimal 02:30 Uhr; gemeint ist \
+         die frühere. Nach der späteren fragt, wer +01:00 dahinter schreibt.",
     ),
     (
         "contrl Regelfall 2026-10-25T02:30 --stichtag 2026-06-06",
@@ -717,19 +718,22 @@ pub const TWICE: &[(&str, &str)] = &[
          Stichtag der Formatumstellung ist Samstag, der 6. Juni 2026; ihr Zeitraum geht von \
          Freitag, dem 5. Juni 2026, 18:00 Uhr, bis Sonntag, den 7. Juni 2026, 00:00 Uhr.\n\
          An dieser Fälligkeit ändert er nichts.\n\
-         Am Sonntag, dem 25. Oktober 2026, zeigt die Uhr in Berlin zweimal 02:30 Uhr; gemeint ist die frühere. Nach der späteren fragt, wer +01:00 dahinter schreibt.",
+         Am Sonntag, dem 25. Oktober 2026, zeigt die Uhr in Berlin zweimal 02:30 Uhr; gemeint ist \
+         die frühere. Nach der späteren fragt, wer +01:00 dahinter schreibt.",
     ),
     (
         "berlin-date 2026-10-25T02:30",
         "In Berlin ist es dann Sonntag, der 25. Oktober 2026, 02:30 Uhr Sommerzeit.\n\
-         Am Sonntag, dem 25. Oktober 2026, zeigt die Uhr in Berlin zweimal 02:30 Uhr; gemeint ist die frühere. Nach der späteren fragt, wer +01:00 dahinter schreibt.",
+         Am Sonntag, dem 25. Oktober 2026, zeigt die Uhr in Berlin zweimal 02:30 Uhr; gemeint ist \
+         die frühere. Nach der späteren fragt, wer +01:00 dahinter schreibt.",
     ),
     (
         "add-hours 25.10.2026 02:30 1",
         "1 Stunde nach Sonntag, dem 25. Oktober 2026, 02:30 Uhr Sommerzeit, ist es Sonntag, der \
          25. Oktober 2026, 02:30 Uhr Winterzeit. Dazwischen wird die Uhr um eine Stunde \
          zurückgestellt.\n\
-         Am Sonntag, dem 25. Oktober 2026, zeigt die Uhr in Berlin zweimal 02:30 Uhr; gemeint ist die frühere. Nach der späteren fragt, wer +01:00 dahinter schreibt.",
+         Am Sonntag, dem 25. Oktober 2026, zeigt die Uhr in Berlin zweimal 02:30 Uhr; gemeint ist \
+         die frühere. Nach der späteren fragt, wer +01:00 dahinter schreibt.",
     ),
     (
         "check-at Korridor 0 2026-10-25T02:30 2026-10-25T00:00 Strom",
@@ -737,6 +741,7 @@ pub const TWICE: &[(&str, &str)] = &[
          um 02:30 Uhr Sommerzeit, Termin Sonntag, 25. Oktober 2026, Sparte Strom.\n\
          Zulässig ist nur der Termin am Sonntag, dem 25. Oktober 2026.\n\
          Der Übertragungstag muss der Termin selbst sein: Sonntag, der 25. Oktober 2026.\n\
-         Am Sonntag, dem 25. Oktober 2026, zeigt die Uhr in Berlin zweimal 02:30 Uhr; gemeint ist die frühere. Nach der späteren fragt, wer +01:00 dahinter schreibt.",
+         Am Sonntag, dem 25. Oktober 2026, zeigt die Uhr in Berlin zweimal 02:30 Uhr; gemeint ist \
+         die frühere. Nach der späteren fragt, wer +01:00 dahinter schreibt.",
     ),
 ];

@@ -17,7 +17,7 @@ Jeder Befehl auch unter dem Namen der Quelle und dem des Host-Aufrufs, mit Binde
 Unterstrichen, in beliebiger Groß- und Kleinschreibung: contrl-due-at, mf_contrl_due_at ...
 
 Angaben
-  DATUM       wie 2026-04-02, 02.04.2026 oder 2.4.2026, auch heute, morgen, übermorgen,
+  DATUM       wie 2026-04-02, 2.4.2026 oder 2. April 2026, auch heute, morgen, übermorgen,
               gestern oder vorgestern; vom 1. Januar 1996 bis zum 31. Dezember 2899. Auch
               VON, BIS, TERMIN, ÜBERTRAGUNGSTAG, ZUORDNUNGSENDE und -BEGINN, STICHTAG
   UHRZEIT     in Berlin, wie 13:00, 13 Uhr, 13:00:00 oder 13:00:00,5
@@ -172,7 +172,7 @@ pub fn shape_rows(command: &Command) -> Vec<Shape> {
 fn vorlauf(command: &Command, row: &Named<Vorlauf>) -> Shape {
     let Vorlauf { counts, meaning, example, .. } = row.value;
     Shape {
-        names: row.names().collect(),
+        names: german_first(row),
         counts: counts.to_vec(),
         meaning,
         call: call(command, example),
@@ -182,7 +182,11 @@ fn vorlauf(command: &Command, row: &Named<Vorlauf>) -> Shape {
 fn frist(command: &Command, row: &Named<Frist>) -> Shape {
     let Frist { count, clock, meaning, example, .. } = row.value;
     let counts = count.then_some("N").into_iter().chain(clock.then_some("UHRZEIT")).collect();
-    Shape { names: row.names().collect(), counts, meaning, call: call(command, example) }
+    Shape { names: german_first(row), counts, meaning, call: call(command, example) }
+}
+
+fn german_first<T>(row: &Named<T>) -> Vec<&'static str> {
+    row.german.into_iter().chain([row.name]).collect()
 }
 
 /// The subcommand with the shape, and a value for each operand behind it.

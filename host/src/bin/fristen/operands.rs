@@ -207,15 +207,6 @@ impl<'a> Words<'a> {
         }
     }
 
-    /// The next word, if `read` can make something of it.
-    fn read<T>(
-        &mut self,
-        label: &str,
-        read: impl FnOnce(&str) -> Result<T, String>,
-    ) -> Result<T, Usage> {
-        read_as(label, self.next(label)?, read)
-    }
-
     fn date(&mut self, label: &str) -> Result<Date, Usage> {
         date(label, &self.date_text(label)?, self.now)
     }
