@@ -123,7 +123,9 @@ pub const VORLAUF: [Named<Vorlauf>; 8] = [
                 monate,
                 werktage,
             },
-            meaning: "spätestens so viele Werktage vor dem Tag, der MONATE vor dem Termin liegt",
+            meaning:
+                "spätestens am WERKTAGE-ten Werktag vor dem Tag, der MONATE Monate vor dem Termin \
+                      liegt",
             example: "MonateUndWerktageVorher 1 5",
         },
     },

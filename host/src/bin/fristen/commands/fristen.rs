@@ -20,12 +20,12 @@ pub const COMMANDS: [Command; 13] = [
         summary: "wann die CONTRL fällig ist",
         meaning: "\
 ANLASS ist Regelfall (6 Stunden), StromUtilmdOderOrders (15 Minuten, bei Eingang an
-einem Samstag 6 Stunden) oder GasAlocat (45 Minuten). Wäre die CONTRL vom 31. März,
-18:00 Uhr, an und vor dem 2. April, 00:00 Uhr, fällig, so ist sie es am 2. April um
-00:00 Uhr; ebenso vom 30. September bis zum 2. Oktober (CONTRL AHB 1.0).
+einem Samstag 6 Stunden) oder GasAlocat (45 Minuten). Was ab dem 31. März, 18:00 Uhr,
+und vor dem 2. April, 00:00 Uhr, fällig wäre, ist es am 2. April um 00:00 Uhr; ebenso
+vom 30. September bis zum 2. Oktober (CONTRL AHB 1.0).
 --stichtag nennt den Tag einer verlegten Formatumstellung. Dann gibt es nur ihren
 Zeitraum: von 18:00 Uhr des Tages davor bis 00:00 Uhr des Tages danach. Dasselbe
-ohne Option: contrl-due-at-change.",
+ohne Option: contrl-mit-stichtag.",
         examples: &[Example::new(
             "contrl Regelfall 2026-03-31T11:59:59+02:00",
             "Eingang am Dienstag, dem 31. März 2026, um 11:59:59 Uhr: Die CONTRL im Regelfall ist \
