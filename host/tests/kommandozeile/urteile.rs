@@ -1209,7 +1209,7 @@ fn each_hint_is_one_of_a_line() {
     assert!(HINTS.iter().all(|(line, _)| lines.contains(line)));
 }
 
-/// A Termin that may lie behind, one that is not earlier, dates that are none, and an instant.
+/// A Termin that may lie behind, one that is not earlier, and dates that are none.
 #[test]
 fn a_termin_is_looked_at_only_where_it_may_be_a_slip() {
     for line in [
@@ -1227,8 +1227,13 @@ fn a_termin_is_looked_at_only_where_it_may_be_a_slip() {
     ] {
         assert!(printed(&words(line), 2).starts_with("Abgelehnt (3)"), "{line}");
     }
-    let swapped = answered("check MonateVorher 1 31.3.2026 1.3.2026 --json").1;
-    assert_eq!(swapped, "fristen: Hinweis: der Termin liegt vor dem Übertragungstag.\n");
+    for line in [
+        "check MonateVorher 1 31.3.2026 1.3.2026 --json",
+        "check-at MonateVorher 1 2026-01-13T12:00 2026-01-12T06:00 Gas --kurz",
+    ] {
+        let swapped = "fristen: Hinweis: der Termin liegt vor dem Übertragungstag.\n";
+        assert_eq!(answered(line).1, swapped, "{line}");
+    }
     let file = "check Zeitfenster 2 5 2026-01-12 2026-01-09\n";
     let output = fed("fragen", &[], file.as_bytes());
     let hints = "\

@@ -33,7 +33,7 @@ _fristen() {
         [[ -n $command ]] || words+=' @ALONE@'
     elif [[ -z $command || ($command == @(help|hilfe) && $place == 0) ]]; then
         words='@COMMANDS@'
-        [[ -n $command ]] || words+=' help'
+        [[ -n $command ]] || words+=' hilfe help'
     elif [[ -n $files && $place == 0 ]]; then
         compopt -o filenames 2>/dev/null
         mapfile -t COMPREPLY < <(compgen -f -- "$word")

@@ -42,12 +42,23 @@ pub fn of_anchor((shape, anchor): (VorlaufShape, Date), refusal: Refusal) -> Str
 
 /// The dates that are none.
 fn no_date(inquiry: &Inquiry) -> Option<String> {
-    let dates =
-        [(Parameter::Date, inquiry.question.date), (Parameter::SecondDate, inquiry.question.date2)];
-    let given = dates.into_iter().filter(|(parameter, _)| inquiry.call.takes(*parameter));
-    let label = |parameter| label(inquiry, parameter);
-    let wrong = given.filter_map(|(parameter, date)| Some(label(parameter) + &date_why(date)?));
-    sentence(wrong.collect())
+    let (date, date2) = (date_why(inquiry.question.date), date_why(inquiry.question.date2));
+    each(inquiry, [(Parameter::Date, date), (Parameter::SecondDate, date2)])
+}
+
+/// The instants outside.
+fn outside(inquiry: &Inquiry) -> Option<String> {
+    let why = [inquiry.question.instant, inquiry.question.instant2].map(instant_why);
+    let [instant, instant2] = why;
+    each(inquiry, [(Parameter::Instant, instant), (Parameter::SecondInstant, instant2)])
+}
+
+/// A clause for each parameter of the call that is to blame, and a full stop.
+fn each(inquiry: &Inquiry, given: [(Parameter, Option<String>); 2]) -> Option<String> {
+    let taken = given.into_iter().filter(|(parameter, _)| inquiry.call.takes(*parameter));
+    let clause = |(parameter, why): (_, Option<String>)| Some(label(inquiry, parameter) + &why?);
+    let clauses: Vec<String> = taken.filter_map(clause).collect();
+    (!clauses.is_empty()).then(|| format!("{}.", clauses.join("; ")))
 }
 
 /// Before what is wrong, where the call takes several dates or instants.
@@ -82,23 +93,6 @@ fn why_no_date(date: Date) -> Option<String> {
         return Some(format!("der Kalender beginnt am {FIRST}"));
     }
     (date > Date::LAST).then(|| format!("der Kalender endet am {LAST}"))
-}
-
-/// A clause for each, and a full stop.
-fn sentence(clauses: Vec<String>) -> Option<String> {
-    (!clauses.is_empty()).then(|| format!("{}.", clauses.join("; ")))
-}
-
-/// The instants outside.
-fn outside(inquiry: &Inquiry) -> Option<String> {
-    let question = &inquiry.question;
-    let instants =
-        [(Parameter::Instant, question.instant), (Parameter::SecondInstant, question.instant2)];
-    let given = instants.into_iter().filter(|(parameter, _)| inquiry.call.takes(*parameter));
-    let label = |parameter| label(inquiry, parameter);
-    let wrong =
-        given.filter_map(|(parameter, instant)| Some(label(parameter) + &instant_why(instant)?));
-    sentence(wrong.collect())
 }
 
 fn instant_why(instant: Instant) -> Option<String> {

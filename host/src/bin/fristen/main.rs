@@ -47,7 +47,7 @@ use bis_wann::BisWann;
 use command::{Command, Task};
 use input::Input;
 use kalenderblatt::{Mark, Period, Sheet};
-use mako_fristen_host::{check_archive, Call, Error};
+use mako_fristen_host::{check_archive, Call};
 use outcome::{Outcome, Status};
 use reply::Reply;
 use std::env;
@@ -121,7 +121,11 @@ fn helped(name: Option<&OsString>) -> Result<Outcome, Usage> {
     }))
 }
 
+/// What is read may ask calls too, so the archive is looked at first.
 fn answered(command: &Command, arguments: &Arguments) -> Result<Outcome, Usage> {
+    if let Err(unreadable) = check_archive() {
+        return Ok(Outcome::unreadable(&unreadable));
+    }
     match command.task {
         Task::Fragen => fragen(arguments),
         _ if arguments.raw => Err(not_here("--roh")),
@@ -156,15 +160,12 @@ fn portfolio(arguments: &Arguments) -> Result<Outcome, Usage> {
 
 /// What `answer` makes of a file or of the standard input.
 fn opened(file: Option<&OsStr>, answer: impl FnOnce(Input) -> Outcome) -> Outcome {
-    if let Err(unreadable) = check_archive() {
-        return Outcome::unreadable(&unreadable);
-    }
     Input::open(file).map_or_else(|unread| unread, answer)
 }
 
 fn called(command: &Command, call: Call, arguments: &Arguments) -> Result<Outcome, Usage> {
     let inquiry = operands::inquiry(command, call, arguments)?;
-    let answer = check_archive().map_err(Error::from).and_then(|()| inquiry.answer());
+    let answer = inquiry.answer();
     Ok(reply(arguments).outcome(&inquiry, answer))
 }
 
@@ -178,7 +179,7 @@ fn bis_wann(command: &Command, arguments: &Arguments) -> Result<Outcome, Usage> 
         return Err(not_here("--bytes"));
     }
     let asked = operands::shape_and_anchor(command, arguments)?;
-    let answer = check_archive().map_err(Error::from).and_then(|()| BisWann::of(asked));
+    let answer = BisWann::of(asked);
     let none = answer.as_ref().is_ok_and(|answer| answer.days.is_empty());
     let outcome = reply(arguments).said(
         answer,
@@ -199,9 +200,6 @@ fn kalender(arguments: &Arguments) -> Result<Outcome, Usage> {
         return Err(not_here("--bytes"));
     }
     let periods = operands::periods(arguments)?;
-    if let Err(unreadable) = check_archive() {
-        return Ok(Outcome::unreadable(&unreadable));
-    }
     let mark = if is_coloured() { Mark::Colour } else { Mark::Star };
     let sheets = periods.into_iter().map(|period| sheet(period, arguments, mark)).collect();
     let between = if arguments.form == Form::Sentence { "\n" } else { "" };

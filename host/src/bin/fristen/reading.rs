@@ -10,7 +10,7 @@ pub const CLOCK: &str = "eine Uhrzeit wie 13:00, 13:00:00 oder 13:00:00,5";
 const INSTANT: &str = "einen Zeitpunkt wie 31.3.2026 11:59 oder heute 11:59 in Berlin, \
                        2026-03-31T11:59:59+02:00 oder @SEKUNDEN seit 1970";
 
-/// The largest offset is some hours short of a day.
+/// In seconds.
 const HOUR: i64 = 3600;
 
 pub fn now() -> Instant {
@@ -236,7 +236,7 @@ fn east(text: &str) -> Option<Offset> {
 fn in_berlin(date: Date, clock: Clock) -> Result<Moment, NoMoment> {
     let instant = berlin_at(date, clock).map_err(|error| match error {
         Error::Refused(refusal) => NoMoment::Refused(refusal, date, clock),
-        // The archive is looked at before anything is answered.
+        // The archive is looked at before anything is read.
         Error::Unreadable(_) => expected(),
     })?;
     let twice = BerlinTime::of(instant).is_ok_and(|time| time.repeated);
