@@ -1,9 +1,7 @@
 -- A verdict is TooLate exactly if the day held against the last permitted transmission day comes after it, for every
 -- test w of a day, every shape s, and t and a of the calendar.
---   IsLate v     v is TooLate, with some shortfall and some date
---   Ordered s    s is no `WindowWerktageBefore` with `earliest` below `latest`
 --   late_after   closes < reaches, if the verdict is TooLate: of any shape
---   late_iff     the verdict is TooLate exactly if closes < reaches, if it isn't refused and the shape is Ordered
+--   late_iff     the verdict is TooLate exactly if closes < reaches, if it isn't refused and the shape is ordered
 -- Source: document 02, F-6: the margin 'is negative exactly if the verdict is TooLate, apart from
 -- `WindowWerktageBefore` with `earliest` below `latest`, where TooEarly may stand beside a negative margin'.
 -- Assumes nothing.
@@ -25,23 +23,11 @@ use Rattle.vorlauf.specs.declared.VorlaufVerdict.{VorlaufVerdict}
 use Rattle.vorlauf.specs.declared.VorlaufVerdict.TheVariants.{Ok, TooLate, TooEarly}
 use Rattle.vorlauf.specs.Verdict.{closes, reaches, fruehester_termin_nach_tag_vor_dem_letzten_werktag}
 use Rattle.vorlauf.specs.Verdict.{not_after, verdict_on, check_of}
+use Rattle.spannen.specs.Late.{IsLate, IsOrdered}
 use Rattle.spannen.proofs.SpansSteps.{sub_fewer}
 use Rattle.spannen.proofs.SpansCases.{day_cases, upto_cases, under_cases}
 use Rattle.spannen.proofs.SpansLate.{late_says}
 use Rattle.std.specs.Prelude.{Option, Some, None}
-
-abbrev pub IsLate : Option VorlaufVerdict → Type 0
-IsLate v = (b : ℕ) × (y : ℕ) × (v ≡ (Some (TooLate b y)))
-
-abbrev pub Ordered : VorlaufShape → Type 0
-Ordered (LatestWerktageBefore n) = Unit {0}
-Ordered (WindowWerktageBefore earliest latest) = latest ≤ earliest
-Ordered (LatestWerktageAfter n) = Unit {0}
-Ordered (EarliestWerktageAfter n) = Unit {0}
-Ordered (Korridor n) = Unit {0}
-Ordered TagVorDemLetztenWerktagVor = Unit {0}
-Ordered (LatestMonateBefore n) = Unit {0}
-Ordered (LatestMonateUndWerktageBefore monate werktage) = Unit {0}
 
 -- unless v is refused, it is TooLate
 abbrev Lates : Option VorlaufVerdict → Type 0
@@ -68,7 +54,7 @@ module _ (w : ℕ → Bool) (t a : ℕ) (ha : a ≤ last) where
       (λ _. upto_lates r c f h)
 
   verdict_lates :
-      (s : VorlaufShape) (c r : ℕ) → Ordered s → closes w s a ≡ Some c → reaches w s t ≡ Some r → c < r →
+      (s : VorlaufShape) (c r : ℕ) → IsOrdered s → closes w s a ≡ Some c → reaches w s t ≡ Some r → c < r →
       Lates (verdict_on w s t a c r)
   unfolding closes reaches
   verdict_lates (LatestWerktageBefore n) c r i p q h = upto_lates r c (add w t n) h
@@ -95,6 +81,6 @@ module _ (w : ℕ → Bool) (t a : ℕ) (ha : a ≤ last) where
         let y : r ≡ e.held = cc e.reached in
         omega (arith, e.after)
 
-    pub late_iff : Ordered s → check_of w s t a ≢ None → IsLate (check_of w s t a) ↔ (c < r)
+    pub late_iff : IsOrdered s → check_of w s t a ≢ None → IsLate (check_of w s t a) ↔ (c < r)
     unfolding check_of
     late_iff i n = (late_after, λ h. let v = verdict_lates s c r i p q h in rw (p, q) (v (rw (p, q) at n)))

@@ -7,7 +7,6 @@ pub mod SpansShapes
 pub mod SpansFirst
 pub mod SpansLate
 pub mod SpansNamed
-pub mod Demand3
 pub mod Sharp
 pub mod Closes
 pub mod Margin

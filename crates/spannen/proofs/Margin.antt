@@ -1,19 +1,14 @@
 -- The sign of a verdict's margin, for any test w of a day, every shape s and any t and a of the calendar. A judgement
--- is a verdict v with its margin m. `Closes` has IsLate, v is TooLate, and Ordered, s is no `WindowWerktageBefore` with
--- `earliest` below `latest`, and says which day is the last permitted one.
---   IsEarly v         v is TooEarly, by some Werktage
+-- is a verdict v with its margin m. `Closes` says which day is the last permitted one.
 --   judged_parts      the verdict is that of `check_of`, the margin that of `margin_of`
 --   judged_iff        there is no judgement exactly if there is no verdict: the margin adds no refusal
 --   refused_closes    there is none where the last permitted transmission day leaves the calendar
 --   refused_earliest  for `EarliestWerktageAfter` there is none exactly if `add_werktage` leaves the calendar
---   margin_fits       a margin is a number of days of the calendar, or the negative of one
+--   margin_fits       a margin is at most as many days as from the calendar's first to its last, or as many below zero
 --   late_negative     TooLate has a negative margin, whatever the shape
---   negative_iff      the margin is negative exactly if the verdict is TooLate, if the shape is Ordered
+--   negative_iff      the margin is negative exactly if the verdict is TooLate, if the shape is ordered
 --   window_early      a window's negative margin without TooLate says TooEarly, and that `earliest` is below `latest`
---   early_negative    which happens: 3 January 1996, day 2, is TooEarly for Window(1, 3) against the 5th, beside −1
--- Source: document 02, F-6: 'It is negative exactly if the verdict is TooLate, apart from `WindowWerktageBefore` with
--- `earliest` below `latest`, where TooEarly may stand beside a negative margin'; '8 also if the former leaves the
--- calendar'.
+--   early_negative    which happens
 -- Assumes nothing.
 use Prim.Native.Nat.{ℕ, ◌-◌, ◌≤◌, ◌<◌}
 use mathlib.Core.Bool.{Bool, cond}
@@ -22,8 +17,8 @@ use mathlib.Core.Path.{◌≡◌, refl, sym, ap, ◌∙◌}
 use native.Mathlib.Omega.{arith}
 use native.Mathlib.Decide.{dec_le, dec_lt}
 use lib.Dec.{ltb, ltb→lt}
-use lib.IntN.{ℤ, pos, negsuc, ◌-ℤ◌}
-use lib.Signed.{◌<ℤ◌, mag}
+use lib.IntN.{ℤ, pos, nat_abs, ◌-ℤ◌}
+use lib.Signed.{◌<ℤ◌}
 use Rattle.std.specs.Prelude.{Option, Some, None}
 use Rattle.std.specs.Option.{option_zip}
 use Rattle.zaehlung.specs.Walk.{last, on_step, day_before, add, sub, down, between, among}
@@ -34,7 +29,6 @@ use Rattle.datum.specs.Calendar.{is_leap, year_len, days_in_month, date_in}
 use Rattle.datum.specs.Monate.{months_earlier}
 use Rattle.datum.proofs.Months.{earlier_inside}
 use Rattle.datum.proofs.Signed.{sub_pos, sub_neg}
-use Rattle.werktag.specs.declared.HolidayCalendar.TheVariants.{BdewMaKo}
 use Rattle.werktag.specs.Easter.{easter_sunday, easter_index}
 use Rattle.werktag.specs.Werktag.{is_fixed, is_buss_und_bettag, is_easter_feast, is_werktag}
 use Rattle.vorlauf.specs.declared.VorlaufShape.{VorlaufShape}
@@ -47,10 +41,9 @@ use Rattle.vorlauf.specs.declared.VorlaufVerdict.TheVariants.{Ok, TooLate, TooEa
 use Rattle.vorlauf.specs.Verdict.{closes, reaches, not_after, check_of}
 use Rattle.vorlauf.specs.Margin.{margin_of, judgement_of}
 use Rattle.spannen.proofs.SpansCases.{day_cases, upto_cases, under_cases}
-use Rattle.spannen.proofs.Closes.{IsLate, Ordered, late_after, late_iff}
-
-abbrev pub IsEarly : VorlaufVerdict → Type 0
-IsEarly v = (b : ℕ) × (v ≡ TooEarly b)
+use Rattle.spannen.specs.Late.{IsLate, IsOrdered}
+use Rattle.spannen.specs.Margins.{IsEarly, NegativeWindow}
+use Rattle.spannen.proofs.Closes.{late_after, late_iff}
 
 some_none : {A B : Type 0} (x : A) → Some x ≡ None → B
 some_none x e = let z : ◌≡◌ {A = ℕ} 0 1 = cc in absurd (omega arith)
@@ -94,7 +87,7 @@ below_iff c r =
       )
     ]
 
-difference_fits : (c r : ℕ) → c ≤ last → r ≤ last → mag (pos c -ℤ pos r) ≤ last
+difference_fits : (c r : ℕ) → c ≤ last → r ≤ last → nat_abs (pos c -ℤ pos r) ≤ last
 difference_fits c r h g =
     elim (dec_lt c r) [
       | yes k ↦ rw (sub_neg c r k) (omega arith)
@@ -179,7 +172,7 @@ module _ (w : ℕ → Bool) (t a : ℕ) where
           (x.0, y.0, x.1, y.1, cc)
 
       module _ (ha : a ≤ last) where
-        pub margin_fits : t ≤ last → mag m ≤ last
+        pub margin_fits : t ≤ last → nat_abs m ≤ last
         margin_fits ht =
             let d = margin_days in
             rw d.4 (difference_fits d.0 d.1 (closes_inside w s a d.0 ha d.2) (reaches_inside w s t d.1 ht d.3))
@@ -189,7 +182,7 @@ module _ (w : ℕ → Bool) (t a : ℕ) where
             let d = margin_days in
             rw d.4 ((below_iff d.0 d.1).1 (late_after w t a ha s d.0 d.1 d.2 d.3 (rw judged_parts.0 l)))
 
-        pub negative_iff : Ordered s → (m <ℤ pos 0) ↔ IsLate (Some v)
+        pub negative_iff : IsOrdered s → (m <ℤ pos 0) ↔ IsLate (Some v)
         negative_iff o =
             let d = margin_days in
             let n : check_of w s t a ≢ None = λ e. some_none v (sym judged_parts.0 ∙ e) in
@@ -222,9 +215,7 @@ module _ (w : ℕ → Bool) (t a : ℕ) where
         ],
       )
 
--- 'where TooEarly may stand beside a negative margin'
-pub early_negative :
-    judgement_of (is_werktag BdewMaKo) (WindowWerktageBefore 1 3) 2 4 ≡ Some (TooEarly 1, negsuc 0)
+pub early_negative : NegativeWindow
 unfolding judgement_of margin_of check_of closes reaches sub down between among
     is_werktag is_fixed is_buss_und_bettag is_easter_feast any
     easter_index easter_sunday date_in at start year_len days_in_month is_leap

@@ -1,0 +1,5 @@
+pub mod Anchors
+pub mod Named
+pub mod Sharp
+pub mod Late
+pub mod Margins
