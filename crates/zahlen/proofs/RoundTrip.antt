@@ -176,7 +176,7 @@ pub below_all : {l : List ℕ} → Below l → All (λ b. b < 256) l
 below_all none = All-nil (λ b. b < 256)
 below_all (more {x} {l} h p) = All-cons (λ b. b < 256) x l h (below_all p)
 
-all_below : (l : List ℕ) → All (λ b. b < 256) l → Below l
+pub all_below : (l : List ℕ) → All (λ b. b < 256) l → Below l
 all_below [] p = none
 all_below (x ∷ l) p = more (All-head (λ b. b < 256) x l p) (all_below l (All-tail (λ b. b < 256) x l p))
 
