@@ -1,7 +1,7 @@
 -- Writing and reading undo each other.
 --   number l        = the number whose bytes, lowest first, are the list l
 --   le k x          = the k lowest bytes of x, lowest first; le2, le4, le8 are le 2, le 4, le 8: le2_is, le4_is, le8_is
---   Below l         = each number of the list l is below 256
+--   Below l         = each number of the list l is below 256, as `All` says too: below_all, all_below
 --   number_le       a number below 256^k is read back from its k bytes
 --   le_number       and so are k bytes from their number
 --   u16_back, u32_back, u64_back      what le2, le4, le8 write, u16_from, u32_from, u64_from read back
