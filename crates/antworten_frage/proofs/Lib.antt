@@ -1,4 +1,2 @@
 pub mod Rules
 pub mod Places
-pub mod SingleCalls
-pub mod OutsideValues

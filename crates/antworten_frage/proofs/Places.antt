@@ -3,10 +3,9 @@
 --   answer_at        record number i of the answers, counted from 0, is the answer of record number i of the questions
 --   record_gets      so a question that fits its record gets what a call with its answer leaves in 32 bytes
 --   clock_same       the clock of a call, read from the count that a record has for it
---   clock_split      the clock of a record's count is that of its hours, minutes and seconds
 -- Assumes nothing.
-use Prim.Native.Nat.{ℕ, zero, suc, ◌+◌, ◌*◌, ◌/◌, ◌%◌, ◌≤◌, ◌<◌}
-use mathlib.Core.Bool.{Bool, true, cond}
+use Prim.Native.Nat.{ℕ, zero, suc, ◌+◌, ◌*◌, ◌/◌, ◌<◌}
+use mathlib.Core.Bool.{Bool, true}
 use mathlib.Core.List.{List, ◌++◌}
 use mathlib.Core.Path.{◌≡◌, sym, ap, ◌∙◌}
 use native.Mathlib.Omega.{arith}
@@ -18,16 +17,16 @@ use Rattle.berlin.specs.Berlin.{hours, minutes, read_clock}
 use Rattle.antwortsatz.specs.declared.Answer.{Answer}
 use Rattle.antwortsatz.specs.declared.Refusal.{Refusal}
 use Rattle.antwortsatz.specs.Bytes.{bytes_of, reply}
-use Rattle.antwortsatz.proofs.AnswerBytes.{bytes_length}
-use Rattle.antwortsatz.proofs.Rules.{reply_whole}
+use Rattle.antwortsatz.proofs.Rules.{bytes_length, reply_whole}
 use Rattle.fragesatz.specs.declared.Question.{Question}
 use Rattle.fragesatz.specs.Record.{question_of, question_bytes}
 use Rattle.fragesatz.specs.File.{is_file, records}
-use Rattle.fragesatz.proofs.RoundTrip.{Fits, question_back}
+use Rattle.fragesatz.specs.ReadBack.{Fits}
+use Rattle.fragesatz.proofs.RoundTrip.{question_back}
 use Rattle.fragesatz.proofs.Rules.{file_is}
 use Rattle.antworten_frage.specs.Frage.{clock_of_seconds, clock_seconds, question_answer}
 use Rattle.antworten_frage.specs.Fragen.{answers_to, questions_reply}
-use Rattle.std.specs.Prelude.{Result, leb}
+use Rattle.std.specs.Prelude.{Result}
 
 module _ (w : ℕ → Bool) where
   records_length : (k : ℕ) (l : List ℕ) → length (answers_to w (records k l)) ≡ 32 * k
@@ -95,18 +94,4 @@ clock_same h m s =
             | no b ↦ rw (le-leb h 23 a, lt-leb m 59 (omega arith))
           ]
       | no a ↦ rw (lt-leb h 23 (omega arith))
-    ]
-
-pub clock_split :
-    (n : ℕ) → read_clock (cond (leb n 86399) (n / 3600) 24) (n / 60 % 60) (n % 60) 0 ≡ clock_of_seconds n
-unfolding read_clock clock_of_seconds
-clock_split n =
-    elim (dec_le n 86399) [
-      | yes h ↦
-          let a : n / 3600 ≤ 23 = omega arith in
-          let b : n / 60 % 60 ≤ 59 = omega arith in
-          let c : n % 60 ≤ 59 = omega arith in
-          let s : hours (n / 3600) + minutes (n / 60 % 60) + n % 60 ≡ n = omega arith in
-          rw (le-leb n 86399 h, le-leb (n / 3600) 23 a, le-leb (n / 60 % 60) 59 b, le-leb (n % 60) 59 c, s)
-      | no h ↦ rw (lt-leb n 86399 (omega arith))
     ]

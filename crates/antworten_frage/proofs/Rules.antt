@@ -18,8 +18,7 @@ use Rattle.std.specs.Prelude.{Result}
 use Rattle.antwortsatz.specs.Bytes.{bytes_of, reply}
 use Rattle.antwortsatz.specs.declared.Refusal.TheVariants.{FileLength}
 use Rattle.antwortsatz.specs.Refusals.{number}
-use Rattle.antwortsatz.proofs.AnswerBytes.{bytes_length}
-use Rattle.antwortsatz.proofs.Rules.{reply_whole}
+use Rattle.antwortsatz.proofs.Rules.{bytes_length, reply_whole}
 use Rattle.fragesatz.specs.declared.Question.{Question}
 use Rattle.fragesatz.specs.Record.{question_of}
 use Rattle.fragesatz.specs.File.{is_file, records, questions_of}

@@ -1,2 +1,5 @@
 pub mod Frage
 pub mod Fragen
+pub mod SingleCalls
+pub mod FileAnswers
+pub mod OutsideValues

@@ -12,6 +12,8 @@ use berlin::{Clock, DAY};
 use fragesatz::{QUESTION_BYTES, Question};
 use werktag::HolidayCalendar;
 
+pub mod theorems;
+
 /// The clock of a count "in whole seconds": 46,800 is 13:00. From 86,400 on there is none: refusal 5.
 #[tactic(auto, unfolding(crate::specs::Frage::clock_of_seconds))]
 fn clock_of_seconds(seconds: u32) -> Option<Clock>

@@ -1,2 +1,1 @@
-pub mod AnswerBytes
 pub mod Rules

@@ -1,4 +1,5 @@
 -- What the proofs cite: each rule's premises have the form in which a proof has them, so that `search` finds the rule.
+--   bytes_length  an answer has 32 bytes
 --   reply_other   a slice of another length than 32 is left as it was
 --   reply_whole   what a slice of 32 bytes gets
 --   reply_done    for `reply_with`: all 32 bytes are written, and the first is returned
@@ -12,6 +13,11 @@ use Rattle.std.specs.Prelude.{Result, Ok, Err}
 use Rattle.antwortsatz.specs.declared.Answer.{Answer}
 use Rattle.antwortsatz.specs.declared.Refusal.{Refusal}
 use Rattle.antwortsatz.specs.Bytes.{refusal_of, bytes_of, reply}
+
+pub bytes_length : (a : Result Answer Refusal) → length (bytes_of a) ≡ 32
+unfolding bytes_of
+bytes_length (Ok a) = refl
+bytes_length (Err r) = refl
 
 pub reply_other :
     (l : List ℕ) (a : Result Answer Refusal) (r : ℕ) → r ≡ 1 → (length l ≡ 32 → ⊥) → (r, l) ≡ reply l a

@@ -6,7 +6,7 @@
 -- refusal number or 0; 1 kind; 2 and 3 zero; 4 to 7 count; 8 to 15 seconds, signed; 16 to 19 nanoseconds; 20 to 23 a
 -- date (year 2 bytes, month, day); 24 to 27 the span's last date; 28 to 31 zero'; 'A refusal leaves bytes 1 to 31
 -- zero'; '1, the answer isn't 32 bytes long', 'which leaves the slice untouched'. A date's four bytes are those of
--- `date_word` (proofs/AnswerBytes.antt, date_bytes_lem).
+-- `date_word` (Layout: `DateWordBytes`).
 -- Assumes nothing.
 use Rattle.std.specs.Prelude.{ℕ, cond, List, ◌∷◌, ◌++◌, eqb, length, replicate, Result, Ok, Err}
 use Rattle.zahlen.specs.LittleEndian.{le4, le8}

@@ -1,3 +1,4 @@
 pub mod Refusals
 pub mod Answers
 pub mod Bytes
+pub mod Layout

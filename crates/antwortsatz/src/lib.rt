@@ -11,6 +11,8 @@ ghost use Rattle.antwortsatz.specs.Answers.{date_word, filled, of_kind, counted,
 
 use datum::Date;
 
+pub mod theorems;
+
 /// The refusals of document 01, "Host calls and their refusals", and of document 02, by the host's names and numbers.
 #[derive(Clone, Copy, PartialEq, Eq)]
 pub enum Refusal {

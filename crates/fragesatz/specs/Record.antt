@@ -4,7 +4,7 @@
 --   date_bytes d          = the four bytes of the date d
 --   question_bytes q      = the 32 bytes of the question q
 --   asked o c n m d e s x = the question of all its fields, in the order of their bytes, with zero in bytes 2 and 3
--- Reading and writing undo each other (proofs/RoundTrip.antt).
+-- Reading and writing undo each other (ReadBack).
 -- Source: document 02, F-1: 'question records of 32 bytes, little-endian, without a header. Byte 0 is the operation ..;
 -- 1 the occasion or shape code; 2 and 3 zero; 4 to 7 and 8 to 11 the two counts in the Rust's order; 12 to 15
 -- transmission date; 16 to 19 anchor; 20 to 27 seconds; 28 to 31 nanoseconds.' A date is laid out as in the answer,

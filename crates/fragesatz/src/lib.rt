@@ -8,6 +8,8 @@ ghost use Rattle.fragesatz.specs.File.{is_file};
 
 use datum::Date;
 
+pub mod theorems;
+
 /// The length of a question in bytes, and so of its answer.
 pub const QUESTION_BYTES: usize = 32;
 

@@ -1,30 +1,36 @@
 -- Writing and reading undo each other.
 --   number l        = the number whose bytes, lowest first, are the list l
 --   le k x          = the k lowest bytes of x, lowest first; le2, le4, le8 are le 2, le 4, le 8: le2_is, le4_is, le8_is
---   Below l         = each number of the list l is below 256
+--   Below l         = each number of the list l is below 256, as `All` says too: below_all, all_below
 --   number_le       a number below 256^k is read back from its k bytes
 --   le_number       and so are k bytes from their number
 --   u16_back, u32_back, u64_back      what le2, le4, le8 write, u16_from, u32_from, u64_from read back
---   i32_back                          so is a signed number of 32 bits
 --   u16_bytes, u32_bytes, u64_bytes   and what these read, those write back
---   u16_placed, u32_placed, i64_placed   a number's bytes among others are read back from their place
+--   u16_placed, u32_placed, u64_placed   a number's bytes among others are read back from their place
+--   i32_placed, i64_placed            so are a signed number's
+--   from k i l      = the k elements of the list l from place i on, one by one, as reading takes them
+--   u16_again, u32_again, u64_again, i32_again, i64_again   what is read at a place is written as what stands there
 --   bits_signed     the bits of the signed number of x are x, at any width
 --   signed_bits     and the signed number of z's bits is z
 -- Assumes nothing.
-use Prim.Native.Nat.{ℕ, zero, suc, ◌+◌, ◌-◌, ◌*◌, ◌/◌, ◌%◌, ◌^◌, ◌<◌}
+use Prim.Native.Nat.{ℕ, zero, suc, ◌+◌, ◌-◌, ◌*◌, ◌/◌, ◌%◌, ◌^◌, ◌<◌, ◌≤◌}
 use mathlib.Core.Path.{◌≡◌, refl, sym, ap, ◌∙◌}
 use mathlib.Core.List.{List, [], ◌∷◌, ◌++◌}
 use native.Mathlib.Omega.{arith}
 use native.Mathlib.Decide.{dec_lt}
-use native.Mathlib.Nat.{add_assoc, div-div-eq-div-mul}
+use native.Mathlib.Nat.{add-zero, add_assoc, div-div-eq-div-mul}
 use lib.IntN.{ℤ, pos, negsuc}
-use lib.ListN.{length}
-use lib.Seq.{get_or-append_seam, get_or-append-add}
+use lib.ListN.{length, get_or, take, drop, length-drop}
+use lib.Seq.{get_or-append_seam, get_or-append-add, drop-cons}
 use lib.Signed.{mag}
 use borrow.Author.Tests.{lt-ltb, le-ltb}
+use Rattle.std.specs.Prelude.{All}
+use Rattle.std.proofs.lemmas.List.{get_or-drop}
+use Rattle.std.proofs.lemmas.List.Elements.{All-nil, All-cons, All-head, All-tail, All-drop}
 use Rattle.zahlen.specs.LittleEndian.{le2, le4, le8, u16_from, u32_from, u64_from}
 use Rattle.zahlen.specs.TwosComplement.{bits_in, signed_in, bits_of, word_of, signed_of}
 use Rattle.zahlen.specs.Places.{u16_at, u32_at, i64_at}
+use Rattle.zahlen.specs.ReadBack.{u64_at, i32_at}
 
 abbrev pub number : List ℕ → ℕ
 number [] = 0
@@ -111,6 +117,12 @@ module _ (a b : List ℕ) (x : ℕ) where
   pub u32_placed : x < 4294967296 → u32_at (a ++ (le4 x ++ b)) (length a) ≡ x
   u32_placed h = simp (get_or-append_seam, get_or-append-add) (u32_back x _ _ _ _ h refl)
 
+  pub u64_placed : x < 18446744073709551616 → u64_at (a ++ (le8 x ++ b)) (length a) ≡ x
+  u64_placed h =
+      let n = length a in
+      simp (get_or-append_seam, get_or-append-add, add_assoc n 4 1, add_assoc n 4 2, add_assoc n 4 3)
+      (u64_back x _ _ _ _ _ _ _ _ h refl)
+
 pub bits_signed : (h x : ℕ) → x < h + h → bits_in h (signed_in h x) ≡ x
 unfolding signed_in
 bits_signed h x l =
@@ -130,17 +142,93 @@ unfolding bits_in
 bits_below h (pos n) l = omega arith
 bits_below h (negsuc n) l = omega arith
 
-pub i32_back :
-    (z : ℤ) (a b c d : ℕ) → mag z < 2147483648 → le4 (word_of z) ≡ a ∷ b ∷ c ∷ d ∷ [] →
-    signed_in 2147483648 (u32_from a b c d) ≡ z
-i32_back z a b c d h p =
-    ap (signed_in 2147483648) (u32_back (word_of z) a b c d (bits_below 2147483648 z h) p) ∙ signed_bits 2147483648 z h
+pub i32_placed :
+    (a b : List ℕ) (z : ℤ) → mag z < 2147483648 → i32_at (a ++ (le4 (word_of z) ++ b)) (length a) ≡ z
+i32_placed a b z h =
+    ap (signed_in 2147483648) (u32_placed a b (word_of z) (bits_below 2147483648 z h)) ∙ signed_bits 2147483648 z h
 
 pub i64_placed :
     (a b : List ℕ) (z : ℤ) → mag z < 9223372036854775808 → i64_at (a ++ (le8 (bits_of z) ++ b)) (length a) ≡ z
 i64_placed a b z h =
-    let n = length a in
-    ap signed_of
-    (simp (get_or-append_seam, get_or-append-add, add_assoc n 4 1, add_assoc n 4 2, add_assoc n 4 3)
-    (u64_back (bits_of z) _ _ _ _ _ _ _ _ (bits_below 9223372036854775808 z h) refl))
+    ap signed_of (u64_placed a b (bits_of z) (bits_below 9223372036854775808 z h))
     ∙ signed_bits 9223372036854775808 z h
+
+abbrev pub from : ℕ → ℕ → List ℕ → List ℕ
+from zero i l = []
+from (suc k) i l = get_or l i 0 ∷ from k (suc i) l
+
+pub from_is : (k i : ℕ) (l : List ℕ) → i + k ≤ length l → from k i l ≡ take k (drop i l)
+from_is zero i l h = refl
+from_is (suc k) i l h =
+    ap (λ (r : List ℕ). get_or l i 0 ∷ r) (from_is k (suc i) l (omega arith))
+    ∙ sym (ap (take (suc k)) (drop-cons l i 0 (omega arith)))
+
+pub below_at : {l : List ℕ} → Below l → (i : ℕ) → get_or l i 0 < 256
+below_at none i = omega arith
+below_at (more h p) zero = h
+below_at (more h p) (suc i) = below_at p i
+
+pub below_from : {l : List ℕ} → Below l → (k i : ℕ) → Below (from k i l)
+below_from p zero i = none
+below_from p (suc k) i = more (below_at p i) (below_from p k (suc i))
+
+pub below_all : {l : List ℕ} → Below l → All (λ b. b < 256) l
+below_all none = All-nil (λ b. b < 256)
+below_all (more {x} {l} h p) = All-cons (λ b. b < 256) x l h (below_all p)
+
+pub all_below : (l : List ℕ) → All (λ b. b < 256) l → Below l
+all_below [] p = none
+all_below (x ∷ l) p = more (All-head (λ b. b < 256) x l p) (all_below l (All-tail (λ b. b < 256) x l p))
+
+-- a place is the head of what stands from there on
+module _ (l : List ℕ) (i : ℕ) (p : All (λ b. b < 256) l) where
+  below : Below (drop i l)
+  below = all_below (drop i l) (All-drop (λ b. b < 256) i l p)
+
+  inside : (k : ℕ) → i + k ≤ length l → 0 + k ≤ length (drop i l)
+  inside k h = omega (arith, length-drop i l)
+
+  pub u16_again : i + 2 ≤ length l → le2 (u16_at l i) ≡ take 2 (drop i l)
+  u16_again h =
+      let e : u16_at l i ≡ u16_at (drop i l) 0 = simp (get_or-drop, add-zero) in
+      ap le2 e ∙ u16_bytes _ _ (below_from below 2 0) ∙ from_is 2 0 (drop i l) (inside 2 h)
+
+  u32_head : u32_at l i ≡ u32_at (drop i l) 0
+  u32_head = simp (get_or-drop, add-zero)
+
+  pub u32_again : i + 4 ≤ length l → le4 (u32_at l i) ≡ take 4 (drop i l)
+  u32_again h =
+      ap le4 u32_head ∙ u32_bytes _ _ _ _ (below_from below 4 0) ∙ from_is 4 0 (drop i l) (inside 4 h)
+
+  u32_lt : u32_at l i < 4294967296
+  u32_lt =
+      rw u32_head
+      (omega (arith, below_at below 0, below_at below 1, below_at below 2, below_at below 3))
+
+  pub i32_again : i + 4 ≤ length l → le4 (word_of (i32_at l i)) ≡ take 4 (drop i l)
+  i32_again h = ap le4 (bits_signed 2147483648 (u32_at l i) u32_lt) ∙ u32_again h
+
+  u64_head : u64_at l i ≡ u64_at (drop i l) 0
+  u64_head = simp (get_or-drop, add-zero, add_assoc i 4 1, add_assoc i 4 2, add_assoc i 4 3)
+
+  pub u64_again : i + 8 ≤ length l → le8 (u64_at l i) ≡ take 8 (drop i l)
+  u64_again h =
+      ap le8 u64_head ∙ u64_bytes _ _ _ _ _ _ _ _ (below_from below 8 0) ∙ from_is 8 0 (drop i l) (inside 8 h)
+
+  u64_lt : u64_at l i < 18446744073709551616
+  u64_lt =
+      rw u64_head
+      (omega (
+        arith,
+        below_at below 0,
+        below_at below 1,
+        below_at below 2,
+        below_at below 3,
+        below_at below 4,
+        below_at below 5,
+        below_at below 6,
+        below_at below 7,
+      ))
+
+  pub i64_again : i + 8 ≤ length l → le8 (bits_of (i64_at l i)) ≡ take 8 (drop i l)
+  i64_again h = ap le8 (bits_signed 9223372036854775808 (u64_at l i) u64_lt) ∙ u64_again h

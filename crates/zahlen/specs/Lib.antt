@@ -1,3 +1,4 @@
 pub mod LittleEndian
 pub mod TwosComplement
 pub mod Places
+pub mod ReadBack

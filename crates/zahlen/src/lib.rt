@@ -5,6 +5,8 @@
 ghost use Rattle.std.specs.Prelude.{◌≡◌, ◌+◌, ◌≤◌, length, take, drop};
 ghost use Rattle.zahlen.specs.Places.{u16_at, u32_at, i64_at};
 
+pub mod theorems;
+
 /// The `N` bytes that start at a place: of the bytes ea 07 04 07 the two at 1 are 07 04.
 pub fn bytes_at<const N: usize>(bytes: &[u8], at: usize) -> [u8; N]
     requires { at + N ≤ length bytes.now }
