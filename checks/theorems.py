@@ -20,8 +20,8 @@ import sources
 
 LIST, MAP, PAGES = "checks/theorems.txt", "docs/MAP.md", ("README.md", "docs/MAP.md")
 CASES = "crates/faelle/src"
-HEAD = """# The clauses of the theorem functions, of the host calls and of the functions that README.md and docs/MAP.md name; then
-# the definitions that they come to, each with a checksum of its text. Written by `checks/theorems.py --renew`.
+HEAD = """# The clauses of the theorem functions, of the host calls and of the functions that README.md and docs/MAP.md name;
+# then the definitions that they come to, each with a checksum of its text. Written by `checks/theorems.py --renew`.
 """
 
 # Functions and their clauses.

@@ -1,5 +1,5 @@
--- The cases A to L, Berlin time, 2026: worked examples from outside, of the definitions that the host calls are proved to
--- compute. Easter Sunday, and then a table in the order of the letters, each answer beside what it must be.
+-- The cases A to L, Berlin time, 2026: worked examples from outside, of the definitions that the host calls are proved
+-- to compute. Easter Sunday, and then a table in the order of the letters, each answer beside what it must be.
 --   A  Easter is 5 April
 --   B  18 November is no Werktag, by the reason 16, Buß- und Bettag
 --   C  2 April plus 1 Werktag is 7 April

@@ -2,8 +2,8 @@
 -- holidays, any transmission day and anchor of the calendar, and each of the eight shapes with whatever counts. An
 -- anchor's verdict is what the `check` of the shape gives, `check_of`; it is acceptable if that is Ok, and one whose
 -- verdict is refused is not. A span stays inside the calendar if none of its ends leaves it.
---   SpanIsExact            where the span stays inside the calendar, an anchor whose verdict isn't refused is acceptable
---                          exactly if it lies in the span
+--   SpanIsExact            where the span stays inside the calendar, an anchor whose verdict isn't refused is
+--                          acceptable exactly if it lies in the span
 --   FirstDayIsAcceptable   the first day of a span is acceptable, if its verdict isn't refused
 --   FirstDayIsLeast        no anchor before the first day of a span is acceptable
 --   EmptySpanAcceptsNone   where the span is empty, no anchor is acceptable

@@ -14,12 +14,12 @@
 --   KorridorNamesNoFirstDay   for `Korridor` never
 --   AfterNamesNoAcceptable    the date of `LatestWerktageAfter`, the anchor itself, isn't acceptable
 --   KorridorNamesNoAcceptable nor is that of `Korridor`, its opening day
---   BeforeNamesAcceptableFromWerktag   the date of `LatestWerktageBefore`, with a count from 1 on, is acceptable exactly
---                             if the transmission day is a Werktag
+--   BeforeNamesAcceptableFromWerktag   the date of `LatestWerktageBefore`, with a count from 1 on, is acceptable
+--                             exactly if the transmission day is a Werktag
 -- Of `LatestMonateUndWerktageBefore` nothing is claimed, since nothing of this kind holds. In 2026, a month and a
 -- Werktag before:
 --   MonateUndWerktageMayName  from Monday 12 January, for 12 February: it names 13 February, the first day of the span
---   MonateUndWerktageMayMiss  from Friday 9 January, for 9 February: it names 12 February, and the span is from the 10th
+--   MonateUndWerktageMayMiss  from Friday 9 January, for 9 February: it names 12 February, the span is from the 10th
 use Rattle.std.specs.Prelude.{ℕ, ◌≤◌, ◌≡◌, ◌≢◌, ◌↔◌, ◌⊎◌, Bool, true, Some}
 use Rattle.zaehlung.specs.Walk.{last}
 use Rattle.datum.specs.Calendar.{date_of}

@@ -1,5 +1,5 @@
-// The theorems about spans, the dates that a TooLate names, and margins. The functions do nothing: what each promises is
-// a theorem about the definitions that `vorlauf` is proved to meet, for any test of a day.
+// The theorems about spans, the dates that a TooLate names, and margins. The functions do nothing: what each promises
+// is a theorem about the definitions that `vorlauf` is proved to meet, for any test of a day.
 #![tactic(auto)]
 
 ghost use Rattle.spannen.specs.Anchors.{SpanIsExact, FirstDayIsAcceptable, FirstDayIsLeast, EmptySpanAcceptsNone};
