@@ -6,9 +6,9 @@ ghost use Rattle.zaehlung.specs.OnOrAfter.{WReaches, WLeaves, WOfNone, WStaysIns
 ghost use Rattle.zaehlung.specs.OnOrAfter.{WIsDayAfterAdd};
 ghost use Rattle.zaehlung.specs.Counts.{BetweenIsDifference, BetweenUnlessLater, BetweenUndoesAdd, AddUndoesBetween};
 
-/// Theorem: steps and counts are one thing. The n-th open day after a day, or before it, is that open day which has n
-/// more open days before it, or n fewer; the step leaves the calendar exactly if there are too few. So a step may begin
-/// at any other day from which as many open days make up the same count.
+/// Theorem: steps and counts are one thing. The n-th open day after a day is that open day up to and with which come n
+/// more open days; the n-th before it is that open day before which come n fewer; and a step leaves the calendar
+/// exactly if there are too few. So two steps that end at the same count end at the same day, wherever they begin.
 pub fn steps()
     ensures add { AddReaches }
     ensures sub { SubReaches }
@@ -22,8 +22,8 @@ pub fn steps()
     ensures sub_elsewhere { SubIsAddFromElsewhere }
 {}
 
-/// Theorem: the first open day on or after a day is that open day which has no more open days before it. It is the day
-/// itself, or else the first one after it.
+/// Theorem: the first open day on or after a day is that open day before which come as many open days. It is the day
+/// itself, if that is open, or else the first one after it.
 pub fn first_open_day()
     ensures next { NextReaches }
     ensures leaves { NextLeaves }
@@ -32,8 +32,8 @@ pub fn first_open_day()
     ensures shut { NextOfShutDay }
 {}
 
-/// Theorem: the day after the n-th open day on or after a day is that day behind an open one which has n more open days
-/// before it. It is the day after a step, whether the day itself is open or not.
+/// Theorem: the day after the n-th open day on or after a day follows an open day, and n more open days come before it.
+/// It is the day after a step: of n - 1 open days from a day that is open, of n from any other.
 pub fn day_after_open_days()
     ensures w { WReaches }
     ensures leaves { WLeaves }
@@ -44,8 +44,8 @@ pub fn day_after_open_days()
     ensures elsewhere { WIsDayAfterAdd }
 {}
 
-/// Theorem: the count of open days between two days is the difference of the counts up to and with them. A step and
-/// the count from its day to the one that it reaches undo each other.
+/// Theorem: the count of open days after one day, up to and with another, is the difference of the counts up to and
+/// with them. It undoes a step from the one to the other, and a step undoes it.
 pub fn counts()
     ensures difference { BetweenIsDifference }
     ensures unless_later { BetweenUnlessLater }
