@@ -1,5 +1,6 @@
--- Shifts by months, BGB §188: which date they reach, and that it lies in the calendar. And what M is: a day and n months
--- or, where the day was cut to the month's last, the first of the next month. Months are counted from January of year 0.
+-- Shifts by months, BGB §188: which date they reach, and that it lies in the calendar. And what M is: a day and n
+-- months or, where the day was cut to the month's last, the first of the next month. Months are counted from January of
+-- year 0.
 --   AddedMonth           what lies n months after a date is in the month n later
 --   AddedDay             its day is that of the date, or the month's last where the month lacks that day
 --   AddedIsDate          it is a date of the range, if the date has a day from 1 on
