@@ -1,6 +1,5 @@
--- A date of the range and its index: what the definitions of Calendar give, field by field.
---   Valid d         d is a date of the range, as a record of its bounds
---   valid_is        the test says so; is_valid is the converse
+-- A date of the range and its index: what the definitions of Calendar give, field by field. `Valid` is handed on.
+--   valid_is        the test says that a date is one of the range; is_valid is the converse
 --   all_le b xs     = whether each number of xs is at most b; at_most says so of each place
 --   len_le len_ge   a month has at most 31 days, and at least 28
 --   start_month     no more than 31 days for each month passed lie before a month
@@ -29,14 +28,7 @@ use Rattle.datum.specs.declared.Date.{Date}
 use Rattle.datum.specs.Calendar.{is_leap, year_len, year_start, year_of, months, days_in_month, month_start, month_of}
 use Rattle.datum.specs.Calendar.{date_in, date_of, days_before, is_date}
 use Rattle.datum.proofs.Years.{start_all, start_none}
-
-pub record Valid (d : Date) : Type 0 where
-  pub from : 1996 ≤ d.year
-  pub to : d.year ≤ 2899
-  pub month_from : 1 ≤ d.month
-  pub month_to : d.month ≤ 12
-  pub day_from : 1 ≤ d.day
-  pub day_to : d.day ≤ days_in_month (is_leap d.year) d.month
+pub use Rattle.datum.specs.RoundTrip.{Valid}
 
 pub valid_is : (d : Date) → is_date d ≡ true → Valid d
 unfolding is_date

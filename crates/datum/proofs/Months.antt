@@ -3,15 +3,17 @@
 --   on_in on_out         on_month gives that day inside the calendar's years, and none past them; on_before none before
 --                        them
 --   on_valid             inside them it is a date of the range
+--   on_reached           so what it reaches is that day
 --   shift_date           a shift to a day from 1 on reaches a date of the range, or none
 --   add_on               add_months d n is day d .day of the month numbered ordinal_of d + n
+--   take_on take_before  subtract_months d n is that of the month numbered ordinal_of d - n, if there is one
 --   added_date taken_date   so a shift of a date with a day from 1 on reaches a date of the range, or none
 --   to_step_inside        the index of a date of the range is one of the calendar
 --   later_inside earlier_inside m_inside   so is a day that a shift reaches
 --   m_kept m_cut m_out   what M is, by what `add_months` gives: the day kept, the day cut, no date
 -- Source: the definitions of Monate, and of MonthShift in datum.
 -- Assumes nothing.
-use Prim.Native.Nat.{ℕ, suc, ◌+◌, ◌/◌, ◌%◌, ◌≤◌, ◌<◌, min}
+use Prim.Native.Nat.{ℕ, suc, ◌+◌, ◌-◌, ◌/◌, ◌%◌, ◌≤◌, ◌<◌, min}
 use mathlib.Core.Bool.{Bool, true, false, cond}
 use mathlib.Core.Path.{◌≡◌, refl, sym, ap, ◌∙◌}
 use native.Mathlib.Omega.{arith}
@@ -24,6 +26,7 @@ use Rattle.datum.specs.declared.Date.{Date}
 use Rattle.datum.specs.Calendar.{is_leap, days_in_month, days_before, date_of}
 use Rattle.datum.specs.MonthShift.{ordinal_of, in_month, on_month, add_months, subtract_months}
 use Rattle.datum.proofs.Dates.{Valid, valid_is, is_valid, len_ge, index_below, index_date}
+use Rattle.datum.proofs.Signed.{sub_pos, sub_neg}
 use Rattle.datum.specs.Inside.{InsideShift}
 use Rattle.datum.specs.Monate.{to_step, months_later, months_earlier, M}
 use Rattle.std.specs.Prelude.{Option, Some, None}
@@ -43,6 +46,19 @@ on_out t x b = rw (le-leb 1996 (t / 12) (omega arith), lt-leb (t / 12) 2899 b)
 pub on_before : (t x : ℕ) → t / 12 < 1996 → on_month (pos t) x ≡ None
 unfolding on_month in_month
 on_before t x b = rw (lt-leb 1996 (t / 12) b)
+
+-- a date is reached inside the calendar's years, and is that day of the month
+pub on_reached :
+    (t x : ℕ) (e : Date) → on_month (pos t) x ≡ Some e → (1996 ≤ t / 12) × (t / 12 ≤ 2899) × (e ≡ day_of t x)
+on_reached t x e q =
+    elim (dec_le 1996 (t / 12)) [
+      | no a ↦ let z : ◌≡◌ {A = ℕ} 0 1 = cc (on_before t x (omega arith)) in absurd (omega arith)
+      | yes a ↦
+          elim (dec_le (t / 12) 2899) [
+            | no b ↦ let z : ◌≡◌ {A = ℕ} 0 1 = cc (on_out t x (omega arith)) in absurd (omega arith)
+            | yes b ↦ (a, b, cc (on_in t x a b))
+          ]
+    ]
 
 pub on_valid : (t x : ℕ) → 1 ≤ x → 1996 ≤ t / 12 → t / 12 ≤ 2899 → Valid (day_of t x)
 on_valid t x h a b =
@@ -72,6 +88,14 @@ shift_date (pos t) x h =
 pub add_on : (d : Date) (n : ℕ) → add_months d n ≡ on_month (pos (ordinal_of d + n)) d.day
 unfolding add_months
 add_on d n = rw pos-+ℤ-pos
+
+pub take_on : (d : Date) (n : ℕ) → n ≤ ordinal_of d → subtract_months d n ≡ on_month (pos (ordinal_of d - n)) d.day
+unfolding subtract_months
+take_on d n h = rw (sub_pos (ordinal_of d) n h)
+
+pub take_before : (d : Date) (n : ℕ) → ordinal_of d < n → subtract_months d n ≡ None
+unfolding subtract_months on_month
+take_before d n h = rw (sub_neg (ordinal_of d) n h)
 
 pub added_date : (d : Date) (n : ℕ) → 1 ≤ d.day → InsideShift (add_months d n)
 unfolding add_months
@@ -139,15 +163,7 @@ module _ (n i : ℕ) (d : Date) (s : Option Date) (g : d ≡ date_of i) (p : s �
 
   -- a shift that reaches a date stays inside the calendar's years, and reaches that day of the target month
   reached : (e : Date) → s ≡ Some e → (1996 ≤ t / 12) × (t / 12 ≤ 2899) × (e ≡ day_of t d.day)
-  reached e q =
-      elim (dec_le 1996 (t / 12)) [
-        | no a ↦ let z : ◌≡◌ {A = ℕ} 0 1 = cc (shifted, on_before t d.day (omega arith)) in absurd (omega arith)
-        | yes a ↦
-            elim (dec_le (t / 12) 2899) [
-              | no b ↦ let z : ◌≡◌ {A = ℕ} 0 1 = cc (shifted, on_out t d.day (omega arith)) in absurd (omega arith)
-              | yes b ↦ (a, b, cc (shifted, on_in t d.day a b))
-            ]
-      ]
+  reached e q = on_reached t d.day e (sym shifted ∙ q)
 
   pub m_kept : (e : Date) → s ≡ Some e → d.day ≤ e.day → Some (days_before e) ≡ M n i
   unfolding len

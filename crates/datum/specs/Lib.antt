@@ -4,3 +4,6 @@ pub mod Floor
 pub mod MonthShift
 pub mod Monate
 pub mod Inside
+pub mod RoundTrip
+pub mod Months
+pub mod OutsideValues

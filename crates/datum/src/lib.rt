@@ -13,6 +13,7 @@ ghost use Rattle.datum.specs.MonthShift.{ordinal_of, in_month, on_month, add_mon
 
 pub mod monate;
 pub mod tage;
+pub mod theorems;
 
 /// The calendar's first year and its last.
 pub const FIRST_YEAR: u16 = 1996;

@@ -1,3 +1,6 @@
 pub mod Walk
 pub mod Blocks
 pub mod Lists
+pub mod Steps
+pub mod OnOrAfter
+pub mod Counts
