@@ -48,7 +48,10 @@ FOLDERS = {".rt": ("src",), ".antt": ("specs", "proofs")}
 
 def files(root):
     listed = set(re.findall(r"^[ \t]*(\w+)[^#:\n]*:", read(root, "crates.txt"), re.M))
-    looked, faults = 0, []
+    there = {entry.name for entry in Path(root, "crates").iterdir() if entry.is_dir()}
+    looked = len(there)
+    faults = [f"crates/{name}: a folder that crates.txt does not list" for name in sorted(there - listed)]
+    faults += [f"crates.txt: {name} has no folder in crates" for name in sorted(listed - there)]
     for path in tree(root):
         if Path(root, path).is_symlink() and path.parts[0] == "crates":
             faults.append(f"{path}: a link, which the checks do not follow")
@@ -311,6 +314,27 @@ def names(root):
     return looked, faults
 
 
+# Edits that the prover must refuse.
+
+
+def edits(root):
+    looked, faults = 0, []
+    for path in tree(root, "crates"):
+        if path.suffix != ".edit":
+            continue
+        looked += 1
+        rows = enumerate(read(root, path).split("\n"), 1)
+        changed = [(line, row.removeprefix("file: ").strip()) for line, row in rows if row.startswith("file: ")]
+        if len(path.parts) != 4 or path.parts[2] != "must-fail":
+            faults.append(f"{path}: not right in must-fail of its crate")
+        if not changed:
+            faults.append(f"{path}: names no file")
+        for line, file in changed:
+            if not file.startswith("src/") or os.path.normpath(file) != file:
+                faults.append(f"{path}:{line}: changes {file}, and only an edit of src/ shows what a contract refuses")
+    return looked, faults
+
+
 # The length of lines.
 
 TEXTS = {".rt", ".antt", ".rs", ".c", ".h", ".edit", ".md", ".toml", ".py", ".sh"}
@@ -346,7 +370,7 @@ def lines(root):
     return looked, faults
 
 
-CHECKS = {"files": files, "exports": exports, "docs": docs, "names": names, "lines": lines}
+CHECKS = {"files": files, "exports": exports, "docs": docs, "names": names, "edits": edits, "lines": lines}
 
 
 def run(check, root):

@@ -30,8 +30,8 @@ fn main() {
 
 fn source_folder() -> PathBuf {
     let root = match env::var_os(FOLDER) {
-        Some(root) => PathBuf::from(root),
-        None => Path::new(env!("CARGO_MANIFEST_DIR")).join("../../../shared/docs/src"),
+        Some(root) if !root.is_empty() => PathBuf::from(root),
+        _ => Path::new(env!("CARGO_MANIFEST_DIR")).join("../../../shared/docs/src"),
     };
     root.join("crates/mako-fristen/src")
 }

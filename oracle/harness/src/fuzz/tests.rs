@@ -14,7 +14,7 @@ use std::io::ErrorKind;
 use std::os::unix::process::ExitStatusExt;
 use std::process::{Command, Output};
 use std::time::Duration;
-use std::{env, thread};
+use std::{env, process, thread};
 
 /// `mf_abmeldung_check` of 8 January 2026 against 9 January: TooLate, by 30 days.
 fn question() -> Question {
@@ -235,46 +235,80 @@ fn cases_are_of_every_call_place_and_length() {
     assert!(cases.iter().any(|case| is_far(&case.question)));
 }
 
-/// Runs one of the tests below, which err, in a program of its own.
-fn run_erring(name: &str, under: &[&str]) -> Option<Output> {
-    let program = env::current_exe().expect("this program");
-    let name = format!("fuzz::tests::{name}");
-    let arguments = ["--exact", name.as_str(), "--ignored"];
-    let mut command = match under {
-        [] => Command::new(program),
-        [first, rest @ ..] => {
-            let mut command = Command::new(first);
-            command.args(rest).arg(program);
-            command
-        }
-    };
-    match command.args(arguments).output() {
-        Err(error) if error.kind() == ErrorKind::NotFound => None,
-        output => Some(output.expect("the program runs")),
+/// The variable that tells a program of its own which one errs there.
+const ERRING: &str = "FUZZ_TESTS_ERRING";
+
+/// What errs, and its name.
+type Erring = (&'static str, fn());
+
+/// Runs each of these in a program of its own, where the same test comes here again, and errs. None
+/// is run where there is no valgrind to run it under, but in CI there has to be.
+fn run_erring(test: &str, all: &[Erring], under: &[&str]) -> Vec<(&'static str, Output)> {
+    if let Ok(asked) = env::var(ERRING) {
+        let (_, err) = all.iter().find(|(name, _)| *name == asked).expect("one of these");
+        err();
+        process::exit(0);
     }
+    let program = env::current_exe().expect("this program");
+    let test = format!("fuzz::tests::{test}");
+    let mut outputs = Vec::new();
+    for &(name, _) in all {
+        let mut command = match under {
+            [] => Command::new(&program),
+            [first, rest @ ..] => {
+                let mut command = Command::new(first);
+                command.args(rest).arg(&program);
+                command
+            }
+        };
+        match command.args(["--exact", test.as_str()]).env(ERRING, name).output() {
+            Err(error) if error.kind() == ErrorKind::NotFound && !is_ci() => {}
+            output => outputs.push((name, output.expect("the program runs"))),
+        }
+    }
+    outputs
 }
 
-#[test]
-fn a_touched_page_is_a_crash() {
+fn is_ci() -> bool {
+    env::var("CI").is_ok_and(|ci| ci == "true")
+}
+
+/// Each of these is a crash, which tells the place.
+fn assert_crashes(test: &str, all: &[Erring]) {
     const SIGSEGV: i32 = 11;
-    for name in ["erring_before_a_page", "erring_after_a_page", "erring_by_an_empty_reason"] {
-        let output = run_erring(name, &[]).expect("the program runs");
+    for (name, output) in run_erring(test, all, &[]) {
         assert_eq!(output.status.signal(), Some(SIGSEGV), "{name}");
         let told = String::from_utf8_lossy(&output.stderr);
         assert!(told.contains("again: oracle/fuzz --seed 5 --place 6\n"), "{name}: {told}");
     }
 }
 
-const VALGRIND: [&str; 3] = ["valgrind", "--quiet", "--error-exitcode=99"];
+/// Each of these is an error for memcheck.
+fn assert_seen_by_memcheck(test: &str, all: &[Erring]) {
+    const VALGRIND: [&str; 3] = ["valgrind", "--quiet", "--error-exitcode=99"];
+    for (name, output) in run_erring(test, all, &VALGRIND) {
+        assert_eq!(output.status.code(), Some(99), "{name}");
+    }
+}
 
-/// Where valgrind is installed.
+#[test]
+fn a_touched_page_is_a_crash() {
+    let all: [Erring; 3] = [
+        ("before a page", erring_before_a_page),
+        ("after a page", erring_after_a_page),
+        ("by an empty reason", erring_by_an_empty_reason),
+    ];
+    assert_crashes("a_touched_page_is_a_crash", &all);
+}
+
 #[test]
 fn memcheck_sees_bytes_outside_and_bytes_not_written() {
-    for name in ["erring_on_the_heap", "erring_by_an_unwritten_byte", "erring_by_a_look"] {
-        if let Some(output) = run_erring(name, &VALGRIND) {
-            assert_eq!(output.status.code(), Some(99), "{name}");
-        }
-    }
+    let all: [Erring; 3] = [
+        ("on the heap", erring_on_the_heap),
+        ("by an unwritten byte", erring_by_an_unwritten_byte),
+        ("by a look", erring_by_a_look),
+    ];
+    assert_seen_by_memcheck("memcheck_sees_bytes_outside_and_bytes_not_written", &all);
 }
 
 /// Puts the case at the place, with this reason.
@@ -286,38 +320,26 @@ fn put_one(ask: Ask, place: Place, len: usize, reason: &[u8]) -> Found {
     fuzzer.found
 }
 
-#[test]
-#[ignore = "errs: run by a_touched_page_is_a_crash"]
 fn erring_before_a_page() {
     put_one(|q, r, a| (write_at(a, 32), host_calls(q, r, a)).1, Place::BeforePage, 32, b"Z33");
 }
 
-#[test]
-#[ignore = "errs: run by a_touched_page_is_a_crash"]
 fn erring_after_a_page() {
     put_one(|_, _, a| read_at(a, -1), Place::AfterPage, 32, b"Z33");
 }
 
-#[test]
-#[ignore = "errs: run by a_touched_page_is_a_crash"]
 fn erring_by_an_empty_reason() {
     put_one(|_, reason, _| read_at(reason, 0), Place::BeforePage, 32, b"");
 }
 
-#[test]
-#[ignore = "errs: run by memcheck_sees_bytes_outside_and_bytes_not_written"]
 fn erring_on_the_heap() {
     put_one(|q, r, a| (read_at(r, 3), host_calls(q, r, a)).1, Place::Heap, 32, b"Z33");
 }
 
-#[test]
-#[ignore = "errs: run by memcheck_sees_bytes_outside_and_bytes_not_written"]
 fn erring_by_an_unwritten_byte() {
     put_one(|_, _, answer| (answer[..31].fill(0), 0).1, Place::Among(3), 32, b"Z33");
 }
 
-#[test]
-#[ignore = "errs: run by memcheck_sees_bytes_outside_and_bytes_not_written"]
 fn erring_by_a_look() {
     put_one(|_, _, answer| (read_at(answer, 4), 1).1, Place::Among(3), 31, b"Z33");
 }

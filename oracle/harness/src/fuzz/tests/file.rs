@@ -1,13 +1,12 @@
 //! The same for files of questions.
 
-use super::{read_at, round, run_erring, write_at, VALGRIND};
+use super::{assert_crashes, assert_seen_by_memcheck, read_at, round, write_at, Erring};
 use crate::fuzz::{host_calls, tell_of_crashes, FileCase, Found, Fuzzer, Place};
 use crate::original;
 use crate::records::{self, LEN};
 use crate::rows::files::AskFile;
 use mako_fristen_host::{ffi, Answer, Call, Date, Question};
 use std::collections::HashSet;
-use std::os::unix::process::ExitStatusExt;
 use std::thread;
 use std::time::Duration;
 
@@ -195,24 +194,21 @@ fn cases_are_of_every_kind_and_length() {
 
 #[test]
 fn a_touched_page_is_a_crash() {
-    const SIGSEGV: i32 = 11;
-    for name in ["file::erring_behind_the_questions", "file::erring_behind_the_answers"] {
-        let output = run_erring(name, &[]).expect("the program runs");
-        assert_eq!(output.status.signal(), Some(SIGSEGV), "{name}");
-        let told = String::from_utf8_lossy(&output.stderr);
-        assert!(told.contains("again: oracle/fuzz --seed 5 --place 6\n"), "{name}: {told}");
-    }
+    let all: [Erring; 2] = [
+        ("behind the questions", erring_behind_the_questions),
+        ("behind the answers", erring_behind_the_answers),
+    ];
+    assert_crashes("file::a_touched_page_is_a_crash", &all);
 }
 
-/// Where valgrind is installed.
 #[test]
 fn memcheck_sees_bytes_outside_and_bytes_not_written() {
-    for name in ["file::erring_on_the_heap", "file::erring_by_an_answer", "file::erring_by_a_look"]
-    {
-        if let Some(output) = run_erring(name, &VALGRIND) {
-            assert_eq!(output.status.code(), Some(99), "{name}");
-        }
-    }
+    let all: [Erring; 3] = [
+        ("on the heap", erring_on_the_heap),
+        ("by an answer", erring_by_an_answer),
+        ("by a look", erring_by_a_look),
+    ];
+    assert_seen_by_memcheck("file::memcheck_sees_bytes_outside_and_bytes_not_written", &all);
 }
 
 fn put_one(ask: AskFile, place: Place, lens: [usize; 2]) {
@@ -220,26 +216,18 @@ fn put_one(ask: AskFile, place: Place, lens: [usize; 2]) {
     put(ask, &case(lens, &[place]));
 }
 
-#[test]
-#[ignore = "errs: run by a_touched_page_is_a_crash"]
 fn erring_behind_the_questions() {
     put_one(|q, a| (read_at(q, 128), ffi::mf_questions(q, a)).1, Place::BeforePage, [128, 128]);
 }
 
-#[test]
-#[ignore = "errs: run by a_touched_page_is_a_crash"]
 fn erring_behind_the_answers() {
     put_one(|q, a| (write_at(a, 96), ffi::mf_questions(q, a)).1, Place::BeforePage, [128, 96]);
 }
 
-#[test]
-#[ignore = "errs: run by memcheck_sees_bytes_outside_and_bytes_not_written"]
 fn erring_on_the_heap() {
     put_one(|q, a| (read_at(q, 128), ffi::mf_questions(q, a)).1, Place::Heap, [128, 128]);
 }
 
-#[test]
-#[ignore = "errs: run by memcheck_sees_bytes_outside_and_bytes_not_written"]
 fn erring_by_an_answer() {
     let but_for_a_byte: AskFile = |questions, answers| {
         let mut all = [0; 128];
@@ -250,8 +238,6 @@ fn erring_by_an_answer() {
     put_one(but_for_a_byte, Place::Among(3), [128, 128]);
 }
 
-#[test]
-#[ignore = "errs: run by memcheck_sees_bytes_outside_and_bytes_not_written"]
 fn erring_by_a_look() {
     put_one(|_, answers| (read_at(answers, 4), 9).1, Place::Among(3), [128, 96]);
 }

@@ -1,6 +1,6 @@
 //! The same for portfolios.
 
-use super::{read_at, run_erring, write_at, VALGRIND};
+use super::{assert_crashes, assert_seen_by_memcheck, read_at, write_at, Erring};
 use crate::fuzz::portfolio::PortfolioRound;
 use crate::fuzz::{host_calls, tell_of_crashes, Ask, Found, Fuzzer, Place, PortfolioCase};
 use crate::original::{count_both_ways, expected_of_portfolio, MOST_PAIRS, OUT_OF_RANGE};
@@ -8,7 +8,6 @@ use crate::portfolio::{AskPortfolio, Lens, Portfolio};
 use crate::random::Random;
 use mako_fristen_host::{ffi, Call};
 use std::collections::HashSet;
-use std::os::unix::process::ExitStatusExt;
 use std::thread;
 use std::time::Duration;
 
@@ -262,25 +261,24 @@ fn cases_are_of_every_kind_and_length() {
 
 #[test]
 fn a_touched_page_is_a_crash() {
-    const SIGSEGV: i32 = 11;
-    for name in ["behind_the_second_list", "before_the_third_list", "in_an_empty_list"] {
-        let name = format!("portfolio::erring_{name}");
-        let output = run_erring(&name, &[]).expect("the program runs");
-        assert_eq!(output.status.signal(), Some(SIGSEGV), "{name}");
-        let told = String::from_utf8_lossy(&output.stderr);
-        assert!(told.contains("again: oracle/fuzz --seed 5 --place 6\n"), "{name}: {told}");
-    }
+    let all: [Erring; 3] = [
+        ("behind the second list", erring_behind_the_second_list),
+        ("before the third list", erring_before_the_third_list),
+        ("in an empty list", erring_in_an_empty_list),
+    ];
+    assert_crashes("portfolio::a_touched_page_is_a_crash", &all);
 }
 
-/// Where valgrind is installed.
 #[test]
 fn memcheck_sees_bytes_outside_and_bytes_not_written() {
-    for name in ["on_the_heap", "by_a_count", "by_a_byte", "by_a_look_on_10", "by_a_look_on_1"] {
-        let name = format!("portfolio::erring_{name}");
-        if let Some(output) = run_erring(&name, &VALGRIND) {
-            assert_eq!(output.status.code(), Some(99), "{name}");
-        }
-    }
+    let all: [Erring; 5] = [
+        ("on the heap", erring_on_the_heap),
+        ("by a count", erring_by_a_count),
+        ("by a byte", erring_by_a_byte),
+        ("by a look on 10", erring_by_a_look_on_10),
+        ("by a look on 1", erring_by_a_look_on_1),
+    ];
+    assert_seen_by_memcheck("portfolio::memcheck_sees_bytes_outside_and_bytes_not_written", &all);
 }
 
 fn put_one(ask: AskPortfolio, place: Place, lens: Lens) {
@@ -288,33 +286,23 @@ fn put_one(ask: AskPortfolio, place: Place, lens: Lens) {
     put(ask, &case(lens, &[place]));
 }
 
-#[test]
-#[ignore = "errs: run by a_touched_page_is_a_crash"]
 fn erring_behind_the_second_list() {
     put_one(|_, to, _, _| read_entry(to, 4), Place::BeforePage, WHOLE);
 }
 
-#[test]
-#[ignore = "errs: run by a_touched_page_is_a_crash"]
 fn erring_before_the_third_list() {
     put_one(|_, _, counts, _| (write_entry(counts, -1), 10).1, Place::AfterPage, [4, 4, 3, 32]);
 }
 
-#[test]
-#[ignore = "errs: run by a_touched_page_is_a_crash"]
 fn erring_in_an_empty_list() {
     put_one(|from, _, _, _| read_entry(from, 0), Place::BeforePage, [0, 0, 0, 32]);
 }
 
-#[test]
-#[ignore = "errs: run by memcheck_sees_bytes_outside_and_bytes_not_written"]
 fn erring_on_the_heap() {
     let behind: AskPortfolio = |f, t, c, a| (read_entry(f, 4), ffi::mf_portfolio(f, t, c, a)).1;
     put_one(behind, Place::Heap, WHOLE);
 }
 
-#[test]
-#[ignore = "errs: run by memcheck_sees_bytes_outside_and_bytes_not_written"]
 fn erring_by_a_count() {
     let but_for_a_place: AskPortfolio = |from, to, counts, answer| {
         let mut all = [0; 4];
@@ -325,8 +313,6 @@ fn erring_by_a_count() {
     put_one(but_for_a_place, Place::Among(12), WHOLE);
 }
 
-#[test]
-#[ignore = "errs: run by memcheck_sees_bytes_outside_and_bytes_not_written"]
 fn erring_by_a_byte() {
     put_one(
         |_, _, _, answer| (answer[..31].fill(0), answer[0] = 10, 10).2,
@@ -335,15 +321,11 @@ fn erring_by_a_byte() {
     );
 }
 
-#[test]
-#[ignore = "errs: run by memcheck_sees_bytes_outside_and_bytes_not_written"]
 fn erring_by_a_look_on_10() {
     let looks: AskPortfolio = |f, t, c, a| (read_entry(c, 0), ffi::mf_portfolio(f, t, c, a)).1;
     put_one(looks, Place::Among(12), [4, 4, 3, 32]);
 }
 
-#[test]
-#[ignore = "errs: run by memcheck_sees_bytes_outside_and_bytes_not_written"]
 fn erring_by_a_look_on_1() {
     let looks: AskPortfolio = |f, t, c, a| (read_at(a, 4), ffi::mf_portfolio(f, t, c, a)).1;
     put_one(looks, Place::Among(12), [4, 4, 4, 31]);
