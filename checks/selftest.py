@@ -16,6 +16,8 @@ import jahresindex
 import numbers
 import replays
 import sources
+import theorems
+import weakened
 
 # What the parts of ./test with numbers printed.
 LEFT = numbers.LEFT
@@ -517,7 +519,7 @@ def lay(folder, repository):
 def faults(check, repository):
     with tempfile.TemporaryDirectory() as folder:
         lay(folder, repository)
-        return sources.run(CHECKS[check], folder)[1]
+        return sources.run(check, folder)[1]
 
 
 def changed(file, change):
@@ -538,11 +540,11 @@ def renewed(repository):
 
 def tried():
     for check in CHECKS:
-        found = faults(check, GOOD | dict(LONG))
+        found = faults(CHECKS[check], GOOD | dict(LONG))
         yield f"{check}: without a fault", not found, found
     for check, what, file, change, told in BAD:
         repository = changed(file, change)
-        found = faults(check, repository) if repository else ["nothing was changed"]
+        found = faults(CHECKS[check], repository) if repository else ["nothing was changed"]
         yield f"{check}: {what}", any(told in fault for fault in found), found
     for what, repository, changes in [
         ("of what is listed", GOOD, 0),
@@ -553,6 +555,7 @@ def tried():
     ]:
         found = renewed(repository)
         yield f"numbers: a new list {what}", len(found) == changes, found
+    yield from weakened.tried(lambda repository: faults(theorems.theorems, repository))
     untried = set(CHECKS) - {check for check, *_ in BAD}
     yield "every check has a fault to refuse", not untried, sorted(untried)
 
