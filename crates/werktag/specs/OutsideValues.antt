@@ -6,9 +6,9 @@
 --   reason_built y m d   = its reason by built dates
 --   reason_distant y m d = its reason by its distance from Easter
 --   EasterSundays          Easter Sunday of twelve years
---   WerktageOf2026         Karfreitag, Ostermontag, Christi Himmelfahrt, Pfingstmontag, Fronleichnam and Buß- und Bettag
---                          are none; the Tuesday after Easter and the Wednesdays a week before and after Buß- und
---                          Bettag are; a Saturday is none
+--   WerktageOf2026         Karfreitag, Ostermontag, Christi Himmelfahrt, Pfingstmontag, Fronleichnam, and Buß- und
+--                          Bettag are none; the Tuesday after Easter and the Wednesdays a week before and after Buß-
+--                          und Bettag are; a Saturday is none
 --   EdgesOfWerktage        the calendar's first Werktag is 2 January 1996, its last 30 December 2899
 --   ReasonOfEachHoliday    a weekday for each holiday of the list, but for Pfingstsonntag, which has none
 --   ReasonThatGoesFirst    the Tuesday after Easter 2026, a Saturday, a Sunday; 8 March 2026 is a Sunday and Frauentag,
