@@ -1,5 +1,5 @@
--- Runs as a reader would count them, on the years in which pairs begin, 0 for a pair out of range. `before` is that year
--- of the pair before them, 0 where there is none.
+-- Runs as a reader would count them, on the years in which pairs begin, 0 for a pair out of range. `before` is that
+-- year of the pair before them, 0 where there is none.
 --   NoPairNoRun            no pair, no run
 --   OneYearIsOneRun        any number of pairs that begin in one year, one alone too, are one run
 --   OutOfRangeParts        a pair out of range parts the runs before it from those behind it, and belongs to none
