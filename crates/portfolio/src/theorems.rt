@@ -3,8 +3,8 @@
 ghost use Rattle.portfolio.specs.RunsOfYears.{NoPairNoRun, OneYearIsOneRun, OutOfRangeParts, NewYearTurns};
 ghost use Rattle.portfolio.specs.RunsOfYears.{NoMoreRunsThanPairs};
 
-/// Theorem: neighbouring pairs that begin in one year are one run, one pair alone too. A pair out of range ends a run
-/// and belongs to none.
+/// Theorem: neighbouring pairs that begin in one year are one run, one pair alone too, and another year begins another
+/// run. A pair out of range ends a run and belongs to none.
 pub fn runs()
     ensures none { NoPairNoRun }
     ensures one { OneYearIsOneRun }
