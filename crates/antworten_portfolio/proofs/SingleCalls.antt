@@ -1,8 +1,4 @@
--- A portfolio has 'werktage_between for each pair' (document 02, F-5): of two dates it has the count that the single
--- call answers, and what stands at the place of a pair out of range is no count. w is any test of a day.
---   pair_call     the count of a pair of two dates is the single call's, whose answer has the days tested beside it
---   place_call    so it is at any place of a portfolio that is answered
---   pair_within   a pair in range has a count of at most 330,180, so 4,294,967,295 is none
+-- A portfolio's counts beside the single call's; specs/SingleCount.antt has the statements.
 -- Assumes nothing.
 use Prim.Native.Nat.{ℕ, suc, ◌+◌, ◌-◌, ◌≤◌, ◌<◌}
 use mathlib.Core.Bool.{Bool, true}
@@ -24,6 +20,7 @@ use Rattle.antwortsatz.specs.Answers.{counted}
 use Rattle.schritte.specs.Tested.{days_tested}
 use Rattle.antworten.specs.Kalender.{werktage_between_answer}
 use Rattle.antworten_portfolio.specs.Portfolio.{portfolio_reply}
+use Rattle.antworten_portfolio.specs.SingleCount.{CountWithinCalendar}
 use Rattle.antworten_portfolio.proofs.Rules.{all_counted}
 use Rattle.std.specs.Prelude.{Some, Ok}
 
@@ -55,7 +52,7 @@ module _ (w : ℕ → Bool) (d e : Date) (i j : ℕ) (f : index_of d ≡ Some i)
       let z = pairwise_at (pair_count w) xs ys k n.days q in
       rw (all_counted w xs ys zs l h p, z, x, y) pair_call
 
-pub pair_within : (w : ℕ → Bool) (a b : ℕ) → in_range a b ≡ true → pair_count w a b ≤ 330180
+pub pair_within : CountWithinCalendar
 unfolding pair_count between
 pair_within w a b t =
     let h = within a b t in

@@ -1,1 +1,3 @@
 pub mod Portfolio
+pub mod SingleCount
+pub mod OutsideValues

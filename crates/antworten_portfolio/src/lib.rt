@@ -6,6 +6,8 @@ ghost use Rattle.std.specs.Prelude.{◌≡◌};
 ghost use Rattle.werktag.specs.Werktag.{is_werktag};
 ghost use Rattle.antworten_portfolio.specs.Portfolio.{portfolio_reply};
 
+pub mod theorems;
+
 use antwortsatz::{ANSWER_BYTES, Refusal};
 use werktag::HolidayCalendar;
 

@@ -10,6 +10,7 @@ ghost use Rattle.datum.specs.Calendar.{year_start};
 ghost use Rattle.werktag.specs.Werktag.{is_werktag};
 
 mod tabelle;
+pub mod theorems;
 
 use tabelle::WERKTAGE_BEFORE;
 use werktag::HolidayCalendar;

@@ -1,24 +1,19 @@
--- Runs as a reader would count them, on the years in which the pairs of a list begin, 0 for a pair out of range.
---   no_runs      no pair, no run
---   one_run      any number of pairs that begin in one year, one alone too, are one run
---   run_parts    a pair out of range parts the runs before it from those behind it, and belongs to none
---   run_turns    where the year changes one run ends and another begins
---   runs_most    there are at most as many runs as pairs
--- Source: document 02, F-5: 'Where neighbouring pairs begin in the same year, the year's index entry is read once for
--- the run of them. A single pair is a run too .. A pair with an out-of-range day .. ends a run and belongs to none.'
+-- The laws of runs that specs/RunsOfYears.antt states, by how a pair opens a run behind another.
 -- Assumes nothing.
-use Prim.Native.Nat.{ℕ, zero, suc, ◌+◌, ◌≤◌}
+use Prim.Native.Nat.{ℕ, zero, suc}
 use mathlib.Core.Bool.{true, false, not}
-use mathlib.Core.List.{List, [], ◌∷◌, ◌++◌}
+use mathlib.Core.List.{[], ◌∷◌}
 use mathlib.Core.Path.{◌≡◌, refl, sym}
 use native.Mathlib.Omega.{arith}
 use lib.Dec.{eqb}
-use lib.ListN.{length, replicate}
+use lib.ListN.{replicate}
 use borrow.Author.Tests.{eq-eqb, ne_eqb, eqb-false}
 use Rattle.zaehlung.proofs.Tests.{and_no}
 use Rattle.zaehlung.proofs.Every.{split}
 use Rattle.zaehlung.proofs.Count.{bit_small}
 use Rattle.portfolio.specs.Runs.{opens, openings}
+use Rattle.portfolio.specs.RunsOfYears.{NoPairNoRun, OneYearIsOneRun, OutOfRangeParts, NewYearTurns}
+use Rattle.portfolio.specs.RunsOfYears.{NoMoreRunsThanPairs}
 
 opens_same : (z : ℕ) → opens z z ≡ false
 unfolding opens
@@ -36,7 +31,7 @@ opens_first : (z : ℕ) → (z ≡ 0 → ⊥) → opens 0 z ≡ true
 unfolding opens
 opens_first z h = rw (ne_eqb z 0 h, ne_eqb 0 z (λ e. h (sym e)))
 
-pub no_runs : (y : ℕ) → openings y [] ≡ 0
+pub no_runs : NoPairNoRun
 unfolding openings
 no_runs y = refl
 
@@ -46,24 +41,22 @@ unfolding openings
 go_on zero z = refl
 go_on (suc n) z = rw (opens_same z) (omega (arith, go_on n z))
 
-pub one_run : (n z : ℕ) → (z ≡ 0 → ⊥) → openings 0 (replicate (suc n) z) ≡ 1
+pub one_run : OneYearIsOneRun
 unfolding openings
 one_run n z h = rw (opens_first z h) (omega (arith, go_on n z))
 
-pub run_parts : (y : ℕ) (us vs : List ℕ) → openings y (us ++ (0 ∷ vs)) ≡ openings y us + openings 0 vs
+pub run_parts : OutOfRangeParts
 unfolding openings opens
 run_parts y [] vs = refl
 run_parts y (u ∷ us) vs = omega (arith, run_parts u us vs)
 
 -- u is the last pair before the change, z the first behind it
-pub run_turns :
-    (y u z : ℕ) (us vs : List ℕ) → (u ≡ z → ⊥) →
-    openings y (us ++ (u ∷ (z ∷ vs))) ≡ openings y (us ++ (u ∷ [])) + openings 0 (z ∷ vs)
+pub run_turns : NewYearTurns
 unfolding openings
 run_turns y u z [] vs h = rw (opens_other u z h) (omega arith)
 run_turns y u z (x ∷ us) vs h = omega (arith, run_turns x u z us vs h)
 
-pub runs_most : (y : ℕ) (zs : List ℕ) → openings y zs ≤ length zs
+pub runs_most : NoMoreRunsThanPairs
 unfolding openings
 runs_most y [] = omega arith
 runs_most y (z ∷ zs) = omega (arith, bit_small (opens y z), runs_most z zs)

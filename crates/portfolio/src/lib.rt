@@ -14,6 +14,8 @@ ghost use Rattle.portfolio.specs.Portfolio.{is_portfolio, pair_count, counts_of}
 ghost use Rattle.portfolio.specs.Runs.{beginning, opens, runs};
 ghost use Rattle.portfolio.specs.Inside.{index, year_by, run_of, year_of_run};
 
+pub mod theorems;
+
 use jahre::HolidayYear;
 use std::marker::Model;
 use werktag::HolidayCalendar;

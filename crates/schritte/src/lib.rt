@@ -9,6 +9,7 @@ ghost use Rattle.werktag.specs.Werktag.{is_werktag};
 
 pub mod index;
 pub mod tested;
+pub mod theorems;
 
 use datum::tage::Tag;
 use gang::{Vor, Zurueck};

@@ -1,10 +1,11 @@
 -- The Anonymous Gregorian algorithm in the calendar's years: no difference in it goes below 0, and it gives a Sunday of
 -- March or April.
 --   enough, room       the difference under l does not go below 0
---   n_bounds           n lies from 114 to 149, so the date from 22 March to 26 April
+--   n_bounds           n lies from 114 to 148, so the date from 22 March to 25 April
 --   easter_valid       Easter Sunday is a date of the range
 --   number y           = n, from the year y
 --   easter_number      Easter Sunday lies n - 93 days after 1 March
+--   easter_from, easter_to   it is from 22 March to 25 April
 --   day_in l m d       = day d of month m as a day of the year, from 0 on
 --   easter_in y        = Easter Sunday of the year y, the same
 --   easter_is          its index, by the year's start
@@ -32,6 +33,7 @@ use Rattle.zaehlung.proofs.Tests.{and_left, and_right}
 use Rattle.datum.proofs.Dates.{Valid, valid_is, is_valid, index_below}
 use Rattle.datum.proofs.Rules.{start_is}
 use Rattle.werktag.specs.Easter.{easter_sunday, easter_index}
+use Rattle.werktag.specs.EasterDay.{EasterFromMarch22, EasterToApril25}
 
 pub enough : (x y : ℕ) → y % 4 ≤ 32 + 2 * x + 2 * (y / 4) - 29
 enough x y = omega arith
@@ -52,16 +54,16 @@ below_19 x = omega arith
 abbrev n : ℕ → ℕ → ℕ → ℕ
 n a h l = h + l + 114 - 7 * ((a + 11 * h + 22 * l) / 451)
 
-n_bounds : (a h l : ℕ) → a < 19 → h < 30 → l < 7 → (114 ≤ n a h l) × (n a h l ≤ 149)
+n_bounds : (a h l : ℕ) → a < 19 → h < 30 → l < 7 → (114 ≤ n a h l) × (n a h l ≤ 148)
 n_bounds a h l p q r = (omega arith, omega arith)
 
 days : (l : Bool) → (days_in_month l 3 ≡ 31) × (days_in_month l 4 ≡ 30)
 unfolding days_in_month
 days l = (refl, refl)
 
--- the date with n from 114 to 149
+-- the date with n from 114 to 148
 dated :
-    (y x : ℕ) → 1996 ≤ y → y ≤ 2899 → 114 ≤ x → x ≤ 149 → Valid (record { year = y; month = x / 31; day = x % 31 + 1 })
+    (y x : ℕ) → 1996 ≤ y → y ≤ 2899 → 114 ≤ x → x ≤ 148 → Valid (record { year = y; month = x / 31; day = x % 31 + 1 })
 dated y x a b p q = go (x / 31) refl
   where
     go : (m : ℕ) → x / 31 ≡ m → Valid (record { year = y; month = x / 31; day = x % 31 + 1 })
@@ -110,7 +112,7 @@ number y =
     let l = (32 + 2 * (b % 4) + 2 * (c / 4) - h - c % 4) % 7 in
     n a h l
 
-number_bounds : (y : ℕ) → (114 ≤ number y) × (number y ≤ 149)
+number_bounds : (y : ℕ) → (114 ≤ number y) × (number y ≤ 148)
 number_bounds y = n_bounds (y % 19) _ _ (below_19 y) (below_30 _) (below_7 _)
 
 pub number_from : (y : ℕ) → 93 ≤ number y
@@ -119,7 +121,7 @@ number_from y = more (number y) (number_bounds y).0
     more : (x : ℕ) → 114 ≤ x → 93 ≤ x
     more x h = omega arith
 
-sum_fits : (s x : ℕ) → s ≤ last → x ≤ 149 → Fits w32 (s + (x - 93))
+sum_fits : (s x : ℕ) → s ≤ last → x ≤ 148 → Fits w32 (s + (x - 93))
 sum_fits s x g h = record { fits = omega arith }
 
 abbrev march : ℕ → Date
@@ -127,7 +129,7 @@ march y = record { year = y; month = 3; day = 1 }
 
 -- March has 31 days, so the date with n of March or of April lies n - 93 days after the first of March
 after_march :
-    (y x : ℕ) → 114 ≤ x → x ≤ 149 →
+    (y x : ℕ) → 114 ≤ x → x ≤ 148 →
     days_before (march y) + (x - 93) ≡ days_before (record { year = y; month = x / 31; day = x % 31 + 1 })
 after_march y x p q = go (x / 31) refl
   where
@@ -141,6 +143,17 @@ after_march y x p q = go (x / 31) refl
     go (suc (suc (suc (suc zero)))) e =
         omega (arith, start_suc (days_in_month (is_leap y)) 3, days (is_leap y))
     go (suc (suc (suc (suc (suc m))))) e = absurd (omega arith)
+
+easter_after : (y : ℕ) → days_before (march y) + (number y - 93) ≡ easter_index y
+unfolding easter_index easter_sunday
+easter_after y = let b = number_bounds y in after_march y (number y) b.0 b.1
+
+pub easter_from : EasterFromMarch22
+easter_from y = omega (arith, easter_after y, number_bounds y)
+
+pub easter_to : EasterToApril25
+easter_to y =
+    omega (arith, easter_after y, number_bounds y, start_suc (days_in_month (is_leap y)) 3, days (is_leap y))
 
 module _ (y : ℕ) (p : 1996 ≤ y) (q : y ≤ 2899) where
   pub march_valid : is_date (march y) ≡ true
@@ -160,10 +173,9 @@ module _ (y : ℕ) (p : 1996 ≤ y) (q : y ≤ 2899) where
     number_fits = sum_fits s (number y) g (number_bounds y).1
 
     pub easter_number : (s + (number y - 93) ≡ easter_index y) × (s + (number y - 93) ≤ last)
-    unfolding easter_index easter_sunday
+    unfolding easter_index
     easter_number =
-        let b = number_bounds y in
-        let z = after_march y (number y) b.0 b.1 in
+        let z = easter_after y in
         let v = valid_is (easter_sunday y) (easter_valid y (easter_sunday y) p q refl) in
         let i = index_below (easter_sunday y) v in
         (rw e z, omega (arith, z))

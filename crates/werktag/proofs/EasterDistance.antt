@@ -1,20 +1,20 @@
--- 'Show for every date: it is one of the six built dates exactly if its distance in days from its own year's Easter
--- Sunday is one of the six offsets, and the reason is the same either way' (document 02, F-4).
---   same_date_lem         two dates of the range are the same exactly if their indexes are
+-- The feasts that move with Easter, as built dates and by their distance from it; specs/FeastDates.antt has the
+-- statements.
+--   same_date_lem     two dates of the range are the same exactly if their indexes are
 --   Reaches e o       o days from the day with index e lies a day of the calendar
 --   easter_days       this is so of Easter Sunday and any offset of at most 60 days, before or after it
---   offset k          = the k-th of the six offsets, from 0 on
---   built y k         = the k-th of the six built dates of the year y, from 0 on
---   built_distance    a date is the one built by such an offset exactly if its distance is the offset
+--   built_distance    a date is the one built by such an offset exactly if its distance is the offset, as tests
+--   built_by          and as equations
 --   tests_same        so the tests by any list of such offsets are the same
 --   built_exactly     it is one of the six built dates exactly if its distance is one of the six offsets
---   built_given, built_gives  and it is the k-th built date exactly if its distance is the k-th offset
+--   built_place       it is the built date of a place exactly if its distance is the offset of that place
 --   reason_either_way the reason is the same either way
 --   reason_by_built_lem, reason_by_distance_lem  and it is the day's reason
 -- Assumes nothing.
 use Prim.Native.Nat.{ℕ, suc, ◌+◌, ◌-◌, ◌≤◌, ◌<◌}
 use mathlib.Core.Bool.{Bool, true, false}
 use mathlib.Core.List.{List, [], ◌∷◌, map}
+use mathlib.Core.Logic.{◌↔◌}
 use mathlib.Core.Path.{◌≡◌, refl, sym, ap, ◌∙◌}
 use native.Mathlib.Omega.{arith}
 use lib.Dec.{eqb, leb}
@@ -37,6 +37,7 @@ use Rattle.werktag.specs.Werktag.{eq_z, easter_offsets}
 use Rattle.werktag.specs.Reason.{place_from, feast_tests, day_tests, reason}
 use Rattle.werktag.specs.Built.{same_date, days_from, built_dates, distance}
 use Rattle.werktag.specs.Built.{reason_with, reason_by_built, reason_by_distance}
+use Rattle.werktag.specs.FeastDates.{offset, built_date}
 use Rattle.werktag.proofs.Signed.{eq_z_true, eq_eq_z, from_distance}
 use Rattle.werktag.proofs.Place.{map_at}
 use Rattle.werktag.proofs.Easter.{easter_between}
@@ -90,12 +91,6 @@ easter_days y o a b n =
     reaches (easter_index y) o (omega arith)
     (omega (arith, start_suc year_len k, year_len_bounds k, f, start_all)) n
 
-abbrev pub offset : ℕ → ℤ
-offset k = get_or easter_offsets k (pos 0)
-
-abbrev pub built : ℕ → ℕ → Date
-built y k = get_or (built_dates y) k (easter_sunday y)
-
 -- d is any date of the calendar, and y its own year
 module _ (d : Date) (h : is_date d ≡ true) where
   valid : Valid d
@@ -104,7 +99,14 @@ module _ (d : Date) (h : is_date d ≡ true) where
   abbrev y : ℕ
   y = d.year
 
-  pub built_distance : (o : ℤ) → nat_abs o ≤ 60 → same_date d (days_from (easter_sunday y) o) ≡ eq_z (distance d) o
+  -- x is the date at the distance o
+  exactly : (x : Date) (o : ℤ) → same_date d x ≡ eq_z (distance d) o → (d ≡ x) ↔ (distance d ≡ o)
+  exactly x o q = (
+    λ e. eq_z_true (distance d) o (sym q ∙ rw (← e) (self d)),
+    λ e. same_date_true d x (q ∙ eq_eq_z (distance d) o e),
+  )
+
+  built_distance : (o : ℤ) → nat_abs o ≤ 60 → same_date d (days_from (easter_sunday y) o) ≡ eq_z (distance d) o
   unfolding easter_index distance
   built_distance o n =
       let r = easter_days y o valid.from valid.to n in
@@ -117,8 +119,11 @@ module _ (d : Date) (h : is_date d ≡ true) where
       ∙ ap (eq_z (pos i)) (sym r.sum)
       ∙ sym (from_distance (pos i) (pos e) o)
 
+  pub built_by : (o : ℤ) → nat_abs o ≤ 60 → (d ≡ days_from (easter_sunday y) o) ↔ (distance d ≡ o)
+  built_by o n = exactly (days_from (easter_sunday y) o) o (built_distance o n)
+
   -- all_le 60: none of the offsets is over 60 days
-  pub tests_same :
+  tests_same :
       (os : List ℤ) → all_le 60 (map nat_abs os) ≡ true →
       map (same_date d) (map (days_from (easter_sunday y)) os) ≡ map (eq_z (distance d)) os
   unfolding all_le
@@ -132,27 +137,22 @@ module _ (d : Date) (h : is_date d ≡ true) where
   unfolding all_le built_dates
   six_same = tests_same easter_offsets refl
 
-  -- 'it is one of the six built dates exactly if its distance .. is one of the six offsets'
   pub built_exactly : any (same_date d) (built_dates y) ≡ any (eq_z (distance d)) easter_offsets
   built_exactly =
       sym (any_map (λ b. b) (same_date d) (built_dates y))
       ∙ ap (any (λ b. b)) six_same
       ∙ any_map (λ b. b) (eq_z (distance d)) easter_offsets
 
-  built_at : (k : ℕ) → k < 6 → same_date d (built y k) ≡ eq_z (distance d) (offset k)
+  built_at : (k : ℕ) → k < 6 → same_date d (built_date y k) ≡ eq_z (distance d) (offset k)
   unfolding built_dates
   built_at k l =
       sym (map_at (same_date d) (built_dates y) k (easter_sunday y) false l)
       ∙ ap (λ (bs : List Bool). get_or bs k false) six_same
       ∙ map_at (eq_z (distance d)) easter_offsets k (pos 0) false l
 
-  pub built_given : (k : ℕ) → k < 6 → d ≡ built y k → distance d ≡ offset k
-  built_given k l e = eq_z_true (distance d) (offset k) (sym (built_at k l) ∙ rw (← e) (self d))
+  pub built_place : (k : ℕ) → k < 6 → (d ≡ built_date y k) ↔ (distance d ≡ offset k)
+  built_place k l = exactly (built_date y k) (offset k) (built_at k l)
 
-  pub built_gives : (k : ℕ) → k < 6 → distance d ≡ offset k → d ≡ built y k
-  built_gives k l e = same_date_true d (built y k) (built_at k l ∙ eq_eq_z (distance d) (offset k) e)
-
-  -- 'and the reason is the same either way'
   pub reason_either_way : reason_by_built d ≡ reason_by_distance d
   unfolding reason_by_built reason_by_distance
   reason_either_way = ap (reason_with d) six_same

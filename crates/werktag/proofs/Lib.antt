@@ -5,4 +5,3 @@ pub mod Reasons
 pub mod EasterDistance
 pub mod Tables
 pub mod Rules
-pub mod OutsideValues

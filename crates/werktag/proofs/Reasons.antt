@@ -1,16 +1,8 @@
--- What the reason of a day says.
+-- What the reason of a day says. The statements of specs/Closed.antt that are lemmas here are not named again.
 --   reason_is      it is the first that holds of the tests of the day's index and date
---   reason_zero    it is 0 exactly if the day is a Werktag
 --   weekend_shut   no Saturday and no Sunday is a Werktag
 --   weekday_open   any other day is one exactly if it is not in the list
 --   reason_given, reason_gives  it is 1 + k exactly if the k-th of these tests holds and none before it does
---   saturday_given, saturday_gives, sunday_given, sunday_gives  so it is 1 exactly on a Saturday, 2 exactly on a Sunday
---   rule i k       = rule k of the list, from 0 on, asked of the day with index i
---   ClosedBy i k   rule k holds, the day is no weekend, and no earlier rule holds
---   holiday_given, holiday_gives  and 3 + k exactly if this is so
---   rule_fixed, rule_bettag, rule_feast  which rule it is
---   never_pfingstsonntag  20 is never given: Pfingstsonntag is a Sunday
---   reason_most    no reason is over 22
 -- Source: document 02, F-2.
 -- Assumes nothing.
 use Prim.Native.Nat.{ℕ, zero, suc, ◌+◌, ◌≤◌, ◌<◌}
@@ -24,7 +16,6 @@ use lib.IntN.{pos}
 use lib.ListN.{get_or, get_or-append}
 use lib.Seq.{get_or-append-add}
 use borrow.Author.Tests.{eq-eqb, eqb-true, eqb-false, ne_eqb, le-leb, lt-leb}
-use Rattle.zaehlung.specs.Walk.{last}
 use Rattle.zaehlung.proofs.BlockLaws.{at_sum}
 use Rattle.datum.specs.declared.Date.{Date}
 use Rattle.datum.specs.Calendar.{year_len, year_start, year_of, date_in, date_of, weekday}
@@ -37,6 +28,9 @@ use Rattle.zaehlung.specs.Lists.{any}
 use Rattle.werktag.specs.Werktag.{fixed_days, is_day, is_fixed, is_buss_und_bettag, easter_offsets, is_feast}
 use Rattle.werktag.specs.Werktag.{is_easter_feast, is_listed, is_werktag_in, is_werktag}
 use Rattle.werktag.specs.Reason.{place_from, fixed_tests, feast_tests, holiday_tests, day_tests, reason_in, reason}
+use Rattle.werktag.specs.FeastDates.{offset}
+use Rattle.werktag.specs.Closed.{rule, ClosedBy, ZeroIsWerktag, OneIsSaturday, TwoIsSunday, HolidayIsFirstRule}
+use Rattle.werktag.specs.Closed.{TwentyIsNeverGiven, ReasonIsAtMost22}
 use Rattle.zaehlung.proofs.Search.{any_append}
 use Rattle.werktag.proofs.Place.{place_zero, place_most, NoneBefore, place_given, place_gives, map_at}
 use Rattle.werktag.proofs.Easter.{easter_on_sunday}
@@ -74,9 +68,15 @@ zero_in BdewMaKo k r =
     place_zero 1 (day_tests i d) (omega arith)
     ∙ rw (listed_is i d) (late (weekday i) (is_listed i d) (omega arith))
 
-pub reason_zero : (cal : HolidayCalendar) (i : ℕ) → eqb (reason cal i) 0 ≡ is_werktag cal i
+zero_test : (cal : HolidayCalendar) (i : ℕ) → eqb (reason cal i) 0 ≡ is_werktag cal i
 unfolding reason is_werktag
-reason_zero cal i = zero_in cal (year_of i).0 (year_of i).1
+zero_test cal i = zero_in cal (year_of i).0 (year_of i).1
+
+pub reason_zero : ZeroIsWerktag
+reason_zero cal i = (
+  λ e. sym (zero_test cal i) ∙ eq-eqb (reason cal i) 0 e,
+  λ t. eqb-true (reason cal i) 0 (zero_test cal i ∙ t),
+)
 
 pub weekend_shut : (cal : HolidayCalendar) (i : ℕ) → 5 ≤ weekday i → is_werktag cal i ≡ false
 unfolding is_werktag
@@ -91,59 +91,51 @@ module _ (i : ℕ) where
   abbrev tests : List Bool
   tests = day_tests i (date_of i)
 
-  pub reason_given : (k : ℕ) → reason BdewMaKo i ≡ 1 + k → (get_or tests k false ≡ true) × NoneBefore tests k
+  reason_given : (k : ℕ) → reason BdewMaKo i ≡ 1 + k → (get_or tests k false ≡ true) × NoneBefore tests k
   reason_given k e = place_given 1 k tests (omega arith) (sym (reason_is i) ∙ e)
 
-  pub reason_gives : (k : ℕ) → get_or tests k false ≡ true → NoneBefore tests k → reason BdewMaKo i ≡ 1 + k
+  reason_gives : (k : ℕ) → get_or tests k false ≡ true → NoneBefore tests k → reason BdewMaKo i ≡ 1 + k
   reason_gives k t f = reason_is i ∙ place_gives 1 k tests t f
 
-  pub saturday_given : reason BdewMaKo i ≡ 1 → weekday i ≡ 5
-  saturday_given e = eqb-true (weekday i) 5 (reason_given 0 e).0
+pub on_saturday : OneIsSaturday
+on_saturday i = (
+  λ e. eqb-true (weekday i) 5 (reason_given i 0 e).0,
+  λ h. reason_gives i 0 (eq-eqb (weekday i) 5 h) (λ j l. absurd (omega arith)),
+)
 
-  pub saturday_gives : weekday i ≡ 5 → reason BdewMaKo i ≡ 1
-  saturday_gives h = reason_gives 0 (eq-eqb (weekday i) 5 h) (λ j l. absurd (omega arith))
+pub on_sunday : TwoIsSunday
+on_sunday i = (
+  λ e. eqb-true (weekday i) 6 (reason_given i 1 e).0,
+  λ h. reason_gives i 1 (eq-eqb (weekday i) 6 h) (before h),
+)
+  where
+    before : weekday i ≡ 6 → NoneBefore (tests i) 1
+    before h zero l = ne_eqb (weekday i) 5 (λ q. omega arith)
+    before h (suc j) l = absurd (omega arith)
 
-  pub sunday_given : reason BdewMaKo i ≡ 2 → weekday i ≡ 6
-  sunday_given e = eqb-true (weekday i) 6 (reason_given 1 e).0
+pub on_holiday : HolidayIsFirstRule
+on_holiday i k = (given, gives)
+  where
+    given : reason BdewMaKo i ≡ 3 + k → ClosedBy i k
+    given e =
+        let g = reason_given i (suc (suc k)) (e ∙ omega arith) in
+        let saturday = eqb-false (weekday i) 5 (g.1 0 (omega arith)) in
+        let sunday = eqb-false (weekday i) 6 (g.1 1 (omega arith)) in
+        record {
+          own = g.0;
+          no_weekend = omega (arith, saturday, sunday);
+          no_earlier = λ j l. g.1 (suc (suc j)) (omega arith);
+        }
 
-  pub sunday_gives : weekday i ≡ 6 → reason BdewMaKo i ≡ 2
-  sunday_gives h = reason_gives 1 (eq-eqb (weekday i) 6 h) before
-    where
-      before : NoneBefore tests 1
-      before zero l = ne_eqb (weekday i) 5 (λ q. omega arith)
-      before (suc j) l = absurd (omega arith)
+    before : ClosedBy i k → NoneBefore (tests i) (suc (suc k))
+    before h zero l = ne_eqb (weekday i) 5 (λ q. omega (arith, h.no_weekend))
+    before h (suc zero) l = ne_eqb (weekday i) 6 (λ q. omega (arith, h.no_weekend))
+    before h (suc (suc j)) l = h.no_earlier j (omega arith)
 
--- rule k of the list, from 0 on, asked of the day with index i
-abbrev pub rule : ℕ → ℕ → Bool
-rule i k = get_or (holiday_tests i (date_of i)) k false
+    gives : ClosedBy i k → reason BdewMaKo i ≡ 3 + k
+    gives h = reason_gives i (suc (suc k)) h.own (before h) ∙ omega arith
 
--- 'its own rule holds, the day is no weekend and no earlier rule holds'
-pub record ClosedBy (i k : ℕ) : Type 0 where
-  pub own : rule i k ≡ true
-  pub no_weekend : weekday i < 5
-  pub no_earlier : (j : ℕ) → j < k → rule i j ≡ false
-
-module _ (i k : ℕ) where
-  pub holiday_given : reason BdewMaKo i ≡ 3 + k → ClosedBy i k
-  holiday_given e =
-      let g = reason_given i (suc (suc k)) (e ∙ omega arith) in
-      let saturday = eqb-false (weekday i) 5 (g.1 0 (omega arith)) in
-      let sunday = eqb-false (weekday i) 6 (g.1 1 (omega arith)) in
-      record {
-        own = g.0;
-        no_weekend = omega (arith, saturday, sunday);
-        no_earlier = λ j l. g.1 (suc (suc j)) (omega arith);
-      }
-
-  pub holiday_gives : ClosedBy i k → reason BdewMaKo i ≡ 3 + k
-  holiday_gives h = reason_gives i (suc (suc k)) h.own before ∙ omega arith
-    where
-      before : NoneBefore (tests i) (suc (suc k))
-      before zero l = ne_eqb (weekday i) 5 (λ q. omega (arith, h.no_weekend))
-      before (suc zero) l = ne_eqb (weekday i) 6 (λ q. omega (arith, h.no_weekend))
-      before (suc (suc j)) l = h.no_earlier j (omega arith)
-
--- which rule it is: '3 to 15 the fixed days, 16 the Wednesday of November, 17 to 22 the Easter offsets'
+-- which rule it is
 module _ (i : ℕ) where
   abbrev d : Date
   d = date_of i
@@ -159,19 +151,19 @@ module _ (i : ℕ) where
   pub rule_bettag : rule i 13 ≡ is_buss_und_bettag d.month d.day (weekday i)
   rule_bettag = refl
 
-  pub rule_feast : (k : ℕ) → k < 6 → rule i (14 + k) ≡ is_feast i d.year (get_or easter_offsets k (pos 0))
+  pub rule_feast : (k : ℕ) → k < 6 → rule i (14 + k) ≡ is_feast i d.year (offset k)
   rule_feast k h =
       let q : 14 + k ≡ 13 + suc k = omega arith in
       ap (rule i) q
       ∙ get_or-append-add (fixed_tests d.month d.day) from_bettag (suc k) false
       ∙ map_at (is_feast i d.year) easter_offsets k (pos 0) false h
 
-  pub never_pfingstsonntag : i ≤ last → reason BdewMaKo i ≡ 20 → ⊥
-  never_pfingstsonntag h e =
-      let c = holiday_given i 17 e in
-      let v = (index_date i h).0 in
-      let q = eqb-true i (easter_index d.year + 49) (sym (rule_feast 3 (omega arith)) ∙ c.own) in
-      omega (arith, q, c.no_weekend, easter_on_sunday d.year v.from v.to)
+pub never_pfingstsonntag : TwentyIsNeverGiven
+never_pfingstsonntag i h e =
+    let c = (on_holiday i 17).0 e in
+    let v = (index_date i h).0 in
+    let q = eqb-true i (easter_index (d i).year + 49) (sym (rule_feast i 3 (omega arith)) ∙ c.own) in
+    omega (arith, q, c.no_weekend, easter_on_sunday (d i).year v.from v.to)
 
-pub reason_most : (cal : HolidayCalendar) (i : ℕ) → reason cal i ≤ 22
+pub reason_most : ReasonIsAtMost22
 reason_most BdewMaKo i = rw (reason_is i) (omega (arith, place_most 1 (tests i) (omega arith)))

@@ -33,7 +33,7 @@ use Rattle.werktag.specs.Reason.{place_from, weekend_tests, fixed_tests, fixed_p
 use Rattle.werktag.specs.Reason.{feast_place, holiday_place, reason}
 use Rattle.werktag.proofs.Place.{place_left, place_right, place_zero}
 use Rattle.werktag.proofs.Easter.{easter_between}
-use Rattle.werktag.proofs.Reasons.{reason_is, weekend_shut, weekday_open, saturday_gives, sunday_gives}
+use Rattle.werktag.proofs.Reasons.{reason_is, weekend_shut, weekday_open, on_saturday, on_sunday}
 use Rattle.werktag.proofs.Signed.{from_distance}
 
 -- has_fixed_day: a bit of the month is the list's word on the day, for every month and day
@@ -230,11 +230,11 @@ module _ (n : ℕ) where
 pub ruleset holiday_rules = (by_table, at_bettag, at_feast_day)
 
 -- reason, for the day with index i, whose weekday is w
-pub on_saturday : (cal : HolidayCalendar) (i w : ℕ) → w ≡ weekday i → w ≡ 5 → 1 ≡ reason cal i
-on_saturday BdewMaKo i w e h = sym (saturday_gives i (sym e ∙ h))
+pub saturday : (cal : HolidayCalendar) (i w : ℕ) → w ≡ weekday i → w ≡ 5 → 1 ≡ reason cal i
+saturday BdewMaKo i w e h = sym ((on_saturday i).1 (sym e ∙ h))
 
-pub on_sunday : (cal : HolidayCalendar) (i w : ℕ) → w ≡ weekday i → 5 < w → 2 ≡ reason cal i
-on_sunday BdewMaKo i w e h = sym (sunday_gives i (omega (arith, e)))
+pub sunday : (cal : HolidayCalendar) (i w : ℕ) → w ≡ weekday i → 5 < w → 2 ≡ reason cal i
+sunday BdewMaKo i w e h = sym ((on_sunday i).1 (omega (arith, e)))
 
 no_weekend : (i : ℕ) → weekday i < 5 → place_from 1 (weekend_tests i) ≡ 0
 unfolding place_from
@@ -249,7 +249,7 @@ on_weekday_lem BdewMaKo i r h p =
 pub before_saturday : (w : ℕ) → (w ≡ 5 → ⊥) → w ≤ 5 → w < 5
 before_saturday w n h = omega (arith, n)
 
-pub ruleset reason_rules = (on_saturday, on_sunday, before_saturday)
+pub ruleset reason_rules = (saturday, sunday, before_saturday)
 
 -- is_feast: the days from Karfreitag on, as distances from Easter Sunday
 dist : ℕ → ℤ

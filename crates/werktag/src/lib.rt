@@ -13,6 +13,7 @@ ghost use Rattle.werktag.specs.Werktag.{is_listed, is_werktag};
 ghost use Rattle.werktag.specs.Reason.{reason_number, holiday_place, reason};
 
 mod feiertage;
+pub mod theorems;
 
 use datum::Date;
 use datum::tage::Tag;
