@@ -22,8 +22,9 @@ use Rattle.berlin.specs.Berlin.{o_clock, seconds_of, first_second, last_second, 
 use Rattle.berlin.specs.Berlin.{berlin_date, berlin_at, resolved_or, berlin_midnight, end_of_day_berlin}
 use Rattle.berlin.specs.Berlin.{tagesbeginn_utc, same_instant, tag_des_beginns}
 use Rattle.berlin.specs.Inside.{Proper, ProperClock}
+use Rattle.berlin.specs.LocalTimes.{Earliest}
 use Rattle.berlin.proofs.LocalTime.{clock_to, clock_first, clock_final}
-use Rattle.berlin.proofs.Found.{Earliest, is_earliest, earliest_is, absent_when}
+use Rattle.berlin.proofs.Found.{is_earliest, earliest_is, absent_when}
 
 pub limits_hold : (s : ℕ) → in_limits s ≡ true → (first_second ≤ s) × (s ≤ last_second)
 unfolding in_limits

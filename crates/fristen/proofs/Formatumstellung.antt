@@ -1,27 +1,21 @@
 -- The tolerance of the CONTRL: version one, `contrl_due_at`, with both windows of a year, and version two,
--- `contrl_due_at_change`, with the one of a change day d. o is the due instant before the tolerance, y its year.
---   Shown a b o        at o the Berlin clock shows 18:00 of the day a or later, and no time of the day b yet
---   window_iff         that is when o lies in the window from a to b
+-- `contrl_due_at_change`, with the one of a change day d. o is the due instant before the tolerance, y its year. The
+-- statements stand in specs/.
+--   inside_shown shown_inside    o lies in a window exactly if the clock shows it
 --   shut               it does not where the window ends by its Berlin day or begins after that
---   spring autumn      whether o lies in the window of 1 April, of 1 October
---   Days days          the days of both, side by side
+--   days               the days of both windows, side by side
 --   on dates           their dates, which every year has
 --   apart              it lies in one at most
---   by_spring by_autumn by_none    version one, in document 01's words
+--   by_spring by_autumn by_none    version one
 --   spring_only autumn_only        outside of the one window it has the other alone
---   change_refused     version two is refused exactly if the due instant is outside, or a day beside the change day
+--   refused_when when_refused      version two is refused exactly if the due instant is outside, or a day beside the
+--                      change day
 --   moved stays        what is due in its window is due when that ends, and all else when it is
---   on_change_day      so what is due on the change day is moved
---   days_away          and what is due on another day stays, but for the evening before
---   spring_agree autumn_agree    with change day 1 April of y both versions agree exactly if o is not in the autumn
---                      window, with 1 October exactly if it is not in that of spring
---   inside_spring inside_autumn    so they agree in the change day's window
---   outside            in neither window both leave o as it is
---   stays_in_autumn stays_in_spring    in the other window version two leaves it as it is
--- Source: document 02, F-7: 'With change day 1 April or 1 October of the due instant's year, both versions agree
--- wherever the due instant before tolerance lies inside that window'; document 01, 'Due at 31 March or 30 September
--- 18:00:00 Berlin or later and before 2 April or 2 October 00:00 becomes that midnight.'
--- Assumes nothing.
+--   april october      both windows, with a change day of 1 April and of 1 October
+--   agree              both versions agree exactly if o is not in the other window
+--   agree_inside       so they agree in the change day's window
+--   stays_in_other     in the other window version two leaves it as it is
+--   untouched          in neither window version one does
 use Prim.Native.Nat.{ℕ, suc, ◌+◌, ◌-◌, ◌≤◌, ◌<◌}
 use mathlib.Core.Bool.{Bool, true, false, not, ◌&&◌}
 use mathlib.Core.Logic.{◌↔◌, ◌⊎◌, inl, inr}
@@ -51,9 +45,8 @@ use Rattle.fristen.specs.declared.NoDue.TheVariants.{Outside}
 use Rattle.fristen.specs.Fristen.{window_opens, receipt_day, contrl_seconds, before_tolerance, instant_later}
 use Rattle.fristen.specs.Fristen.{day_on, in_window, toleranz, toleranz_in, formatumstellung_toleranz}
 use Rattle.fristen.specs.Fristen.{tolerated_due, contrl_due_at, contrl_due_at_change}
-
-abbrev pub Shown : ℕ → ℕ → Moment → Type 0
-Shown a b o = (day_start a + hours 18 ≤ berlin_clock (seconds_of o)) × (berlin_clock (seconds_of o) < day_start b)
+use Rattle.fristen.specs.Windows.{ShowsWindow, spring_window, autumn_window, WindowDays, EveryYearHasWindowDays}
+use Rattle.fristen.specs.ChangeDay.{due_year}
 
 opens_proper : ProperClock window_opens
 opens_proper = proper_clock _ (omega arith) (omega arith)
@@ -74,10 +67,10 @@ module _ (a b : ℕ) (h : a ≤ last) (k : b ≤ last) (o : Moment) where
   unfolding in_window
   by_clock = rw (opened (berlin_at a window_opens) refl, before_midnight b o k)
 
-  shown_inside : Shown a b o → in_window a b o ≡ true
+  pub shown_inside : ShowsWindow a b o → in_window a b o ≡ true
   shown_inside s = by_clock ∙ rw (le-ltb t (day_start a + 64800) s.0, lt-ltb t (day_start b) s.1) refl
 
-  not_shown : (Shown a b o → ⊥) → in_window a b o ≡ false
+  not_shown : (ShowsWindow a b o → ⊥) → in_window a b o ≡ false
   not_shown n =
       by_clock
       ∙ elim (dec_lt t (day_start a + 64800)) [
@@ -89,7 +82,7 @@ module _ (a b : ℕ) (h : a ≤ last) (k : b ≤ last) (o : Moment) where
             ]
       ]
 
-  inside_shown : in_window a b o ≡ true → Shown a b o
+  pub inside_shown : in_window a b o ≡ true → ShowsWindow a b o
   inside_shown e =
       elim (dec_lt t (day_start a + 64800)) [
         | yes y ↦ absurd (cc (e, not_shown (λ s. omega arith)))
@@ -100,28 +93,10 @@ module _ (a b : ℕ) (h : a ≤ last) (k : b ≤ last) (o : Moment) where
             ]
       ]
 
-  pub window_iff : (in_window a b o ≡ true) ↔ Shown a b o
-  window_iff = (inside_shown, shown_inside)
-
-  -- so it lies in no window that ends by its Berlin day or begins after it
+  -- it lies in no window that ends by its Berlin day or begins after it
   pub shut : Proper o → (b ≤ berlin_date o) ⊎ (berlin_date o < a) → in_window a b o ≡ false
   shut p (inl q) = let c = clock_from (seconds_of o) p.from in not_shown (λ s. omega (arith, s.1))
   shut p (inr q) = let c = clock_from (seconds_of o) p.from in not_shown (λ s. omega (arith, s.0))
-
-abbrev pub spring : ℕ → Moment → Bool
-spring y o = in_window (day_on y 3 31) (day_on y 4 2) o
-
-abbrev pub autumn : ℕ → Moment → Bool
-autumn y o = in_window (day_on y 9 30) (day_on y 10 2) o
-
--- the days of both windows, side by side, spring's before autumn's
-pub record Days (y : ℕ) : Type 0 where
-  pub march : day_on y 4 1 ≡ suc (day_on y 3 31)
-  pub april : day_on y 4 2 ≡ suc (day_on y 4 1)
-  pub between : day_on y 4 2 ≤ day_on y 9 30
-  pub september : day_on y 10 1 ≡ suc (day_on y 9 30)
-  pub october : day_on y 10 2 ≡ suc (day_on y 10 1)
-  pub final : day_on y 10 2 ≤ last
 
 abbrev pub on : ℕ → ℕ → ℕ → Date
 on y m n = record { year = y; month = m; day = n }
@@ -137,7 +112,7 @@ dates y h k =
     let b = le-leb y 2899 k in
     (rw (a, b), rw (a, b), rw (a, b), rw (a, b), rw (a, b))
 
-pub days : (y : ℕ) → 1996 ≤ y → y ≤ 2899 → Days y
+pub days : EveryYearHasWindowDays
 days y h k =
     let s = starts (is_leap y) in
     record {
@@ -150,7 +125,7 @@ days y h k =
     }
 
 module _ (y : ℕ) (h : 1996 ≤ y) (k : y ≤ 2899) (o : Moment) where
-  pub apart : spring y o ≡ true → autumn y o ≡ true → ⊥
+  pub apart : spring_window y o ≡ true → autumn_window y o ≡ true → ⊥
   apart e f =
       let g = days y h k in
       let a = inside_shown (day_on y 3 31) (day_on y 4 2) (omega (arith, g)) (omega (arith, g)) o e in
@@ -158,43 +133,43 @@ module _ (y : ℕ) (h : 1996 ≤ y) (k : y ≤ 2899) (o : Moment) where
       omega (arith, g, a.1, b.0)
 
   -- 2 April 00:00 lies in no autumn window
-  spring_ends : autumn y (berlin_midnight (day_on y 4 2)) ≡ false
+  spring_ends : autumn_window y (berlin_midnight (day_on y 4 2)) ≡ false
   spring_ends =
       let g = days y h k in
       let e = midnight_earliest (day_on y 4 2) (omega (arith, g)) in
       not_shown (day_on y 9 30) (day_on y 10 2) (omega (arith, g)) g.final (berlin_midnight (day_on y 4 2))
       (λ s. omega (arith, g, s.0, e.shown))
 
-  pub by_spring : spring y o ≡ true → toleranz_in y o ≡ berlin_midnight (day_on y 4 2)
+  pub by_spring : spring_window y o ≡ true → toleranz_in y o ≡ berlin_midnight (day_on y 4 2)
   unfolding toleranz_in
   by_spring e = rw (e, spring_ends)
 
-  pub by_autumn : autumn y o ≡ true → toleranz_in y o ≡ berlin_midnight (day_on y 10 2)
+  pub by_autumn : autumn_window y o ≡ true → toleranz_in y o ≡ berlin_midnight (day_on y 10 2)
   unfolding toleranz_in
   by_autumn e = grind (arith, common_steps, apart)
 
-  pub by_none : spring y o ≡ false → autumn y o ≡ false → toleranz_in y o ≡ o
+  pub by_none : spring_window y o ≡ false → autumn_window y o ≡ false → toleranz_in y o ≡ o
   unfolding toleranz_in
   by_none e f = rw (e, f)
 
-  pub spring_only : autumn y o ≡ false → toleranz_in y o ≡ toleranz (day_on y 3 31) (day_on y 4 2) o
+  pub spring_only : autumn_window y o ≡ false → toleranz_in y o ≡ toleranz (day_on y 3 31) (day_on y 4 2) o
   spring_only f =
-      split (spring y o) (λ e. by_spring e ∙ rw e refl) (λ e. by_none e f ∙ rw e refl)
+      split (spring_window y o) (λ e. by_spring e ∙ rw e refl) (λ e. by_none e f ∙ rw e refl)
 
-  pub autumn_only : spring y o ≡ false → toleranz_in y o ≡ toleranz (day_on y 9 30) (day_on y 10 2) o
+  pub autumn_only : spring_window y o ≡ false → toleranz_in y o ≡ toleranz (day_on y 9 30) (day_on y 10 2) o
   autumn_only e =
-      split (autumn y o) (λ f. by_autumn f ∙ rw f refl) (λ f. by_none e f ∙ rw f refl)
+      split (autumn_window y o) (λ f. by_autumn f ∙ rw f refl) (λ f. by_none e f ∙ rw f refl)
 
 -- the two windows of version one, that of the change day d from b to c, and the other from v to w
-record TwoWindows (y : ℕ) (o : Moment) (d b c v w : ℕ) : Type 0 where
-  eve : d ≡ suc b
-  end : c ≡ suc d
-  end_inside : c ≤ last
-  from_inside : v ≤ last
-  to_inside : w ≤ last
-  both : in_window b c o ≡ true → in_window v w o ≡ true → ⊥
-  this : in_window v w o ≡ false → toleranz_in y o ≡ toleranz b c o
-  other : in_window v w o ≡ true → toleranz_in y o ≡ berlin_midnight w
+pub record TwoWindows (y : ℕ) (o : Moment) (d b c v w : ℕ) : Type 0 where
+  pub eve : d ≡ suc b
+  pub end : c ≡ suc d
+  pub end_inside : c ≤ last
+  pub from_inside : v ≤ last
+  pub to_inside : w ≤ last
+  pub both : in_window b c o ≡ true → in_window v w o ≡ true → ⊥
+  pub this : in_window v w o ≡ false → toleranz_in y o ≡ toleranz b c o
+  pub other : in_window v w o ≡ true → toleranz_in y o ≡ berlin_midnight w
 
 module _ (y : ℕ) (h : 1996 ≤ y) (k : y ≤ 2899) (o : Moment) where
   of_april : TwoWindows y o (day_on y 4 1) (day_on y 3 31) (day_on y 4 2) (day_on y 9 30) (day_on y 10 2)
@@ -240,7 +215,7 @@ module _ (m : Moment) (a : ContrlAnlass) (d : ℕ) where
       (t : Moment → Moment) → tolerated_due t (before_tolerance m a) ≡ Err Outside → before_tolerance m a ≡ Err Outside
   not_due t e = grind (arith, common_steps)
 
-  refused_when :
+  pub refused_when :
       contrl_due_at_change m a d ≡ Err Outside → (before_tolerance m a ≡ Err Outside) ⊎ ((d ≡ 0) ⊎ (last ≤ d))
   refused_when e =
       elim (dec_le 1 d) [
@@ -252,7 +227,7 @@ module _ (m : Moment) (a : ContrlAnlass) (d : ℕ) where
             ]
       ]
 
-  when_refused :
+  pub when_refused :
       (before_tolerance m a ≡ Err Outside) ⊎ ((d ≡ 0) ⊎ (last ≤ d)) → contrl_due_at_change m a d ≡ Err Outside
   when_refused (inr f) = no_change f
   when_refused (inl e) =
@@ -264,10 +239,6 @@ module _ (m : Moment) (a : ContrlAnlass) (d : ℕ) where
               | yes z ↦ by_change x z ∙ rw e refl
             ]
       ]
-
-  pub change_refused :
-      (contrl_due_at_change m a d ≡ Err Outside) ↔ ((before_tolerance m a ≡ Err Outside) ⊎ ((d ≡ 0) ⊎ (last ≤ d)))
-  change_refused = (refused_when, when_refused)
 
 -- o is the due instant before the tolerance
 module _ (m : Moment) (p : Proper m) (a : ContrlAnlass) (o : Moment) (e : before_tolerance m a ≡ Ok o) where
@@ -292,10 +263,10 @@ module _ (m : Moment) (p : Proper m) (a : ContrlAnlass) (o : Moment) (e : before
   clock_inside = (clock_from (seconds_of o) inside.from, clock_to (seconds_of o) inside.from inside.to)
 
   module _ (d : ℕ) (h : 1 ≤ d) (k : d < last) where
-    pub moved : Shown (d - 1) (suc d) o → contrl_due_at_change m a d ≡ Ok (berlin_midnight (suc d))
+    pub moved : ShowsWindow (d - 1) (suc d) o → contrl_due_at_change m a d ≡ Ok (berlin_midnight (suc d))
     moved s = by_change m a d h k ∙ rw (e, shown_inside (d - 1) (suc d) (omega arith) k o s) refl
 
-    pub stays : (Shown (d - 1) (suc d) o → ⊥) → contrl_due_at_change m a d ≡ Ok o
+    pub stays : (ShowsWindow (d - 1) (suc d) o → ⊥) → contrl_due_at_change m a d ≡ Ok o
     stays n = by_change m a d h k ∙ rw (e, not_shown (d - 1) (suc d) (omega arith) k o n) refl
 
     pub on_change_day : berlin_date o ≡ d → contrl_due_at_change m a d ≡ Ok (berlin_midnight (suc d))
@@ -306,7 +277,7 @@ module _ (m : Moment) (p : Proper m) (a : ContrlAnlass) (o : Moment) (e : before
     days_away (inr q) = let c = clock_inside in stays (λ s. omega (arith, s.1))
 
   abbrev y : ℕ
-  y = (date_of (berlin_date o)).year
+  y = due_year o
 
   from : 1996 ≤ y
   from = (index_date (berlin_date o) (day_le o inside)).0.from
@@ -334,10 +305,10 @@ module _ (m : Moment) (p : Proper m) (a : ContrlAnlass) (o : Moment) (e : before
         let z : d - 1 ≡ b = omega (arith, g) in
         by_change m a d (omega (arith, g)) (omega (arith, g)) ∙ rw (e, z, sym g.end) refl
 
-    stays_in_other : in_window v w o ≡ true → contrl_due_at_change m a d ≡ Ok o
+    pub stays_in_other : in_window v w o ≡ true → contrl_due_at_change m a d ≡ Ok o
     stays_in_other f = by_window ∙ split (in_window b c o) (λ s. absurd (g.both s f)) (λ s. rw s refl)
 
-    agree : (contrl_due_at_change m a d ≡ contrl_due_at m a) ↔ (in_window v w o ≡ false)
+    pub agree : (contrl_due_at_change m a d ≡ contrl_due_at m a) ↔ (in_window v w o ≡ false)
     agree = (
       λ r. split (in_window v w o)
           (λ f.
@@ -347,31 +318,14 @@ module _ (m : Moment) (p : Proper m) (a : ContrlAnlass) (o : Moment) (e : before
       λ f. by_window ∙ sym (version_one ∙ ap Ok (g.this f)),
     )
 
-    agree_inside : in_window b c o ≡ true → contrl_due_at_change m a d ≡ contrl_due_at m a
+    pub agree_inside : in_window b c o ≡ true → contrl_due_at_change m a d ≡ contrl_due_at m a
     agree_inside s = agree.1 (split (in_window v w o) (λ f. absurd (g.both s f)) (λ f. f))
 
-  pub spring_agree : (contrl_due_at_change m a (day_on y 4 1) ≡ contrl_due_at m a) ↔ (autumn y o ≡ false)
-  spring_agree = agree _ _ _ _ _ (of_april y from to o)
+  pub april : TwoWindows y o (day_on y 4 1) (day_on y 3 31) (day_on y 4 2) (day_on y 9 30) (day_on y 10 2)
+  april = of_april y from to o
 
-  pub autumn_agree : (contrl_due_at_change m a (day_on y 10 1) ≡ contrl_due_at m a) ↔ (spring y o ≡ false)
-  autumn_agree = agree _ _ _ _ _ (of_october y from to o)
+  pub october : TwoWindows y o (day_on y 10 1) (day_on y 9 30) (day_on y 10 2) (day_on y 3 31) (day_on y 4 2)
+  october = of_october y from to o
 
-  pub inside_spring : spring y o ≡ true → contrl_due_at_change m a (day_on y 4 1) ≡ contrl_due_at m a
-  inside_spring s = agree_inside _ _ _ _ _ (of_april y from to o) s
-
-  pub inside_autumn : autumn y o ≡ true → contrl_due_at_change m a (day_on y 10 1) ≡ contrl_due_at m a
-  inside_autumn s = agree_inside _ _ _ _ _ (of_october y from to o) s
-
-  pub stays_in_autumn : autumn y o ≡ true → contrl_due_at_change m a (day_on y 4 1) ≡ Ok o
-  stays_in_autumn f = stays_in_other _ _ _ _ _ (of_april y from to o) f
-
-  pub stays_in_spring : spring y o ≡ true → contrl_due_at_change m a (day_on y 10 1) ≡ Ok o
-  stays_in_spring f = stays_in_other _ _ _ _ _ (of_october y from to o) f
-
-  pub outside :
-      spring y o ≡ false → autumn y o ≡ false →
-      (contrl_due_at_change m a (day_on y 4 1) ≡ Ok o) × (contrl_due_at_change m a (day_on y 10 1) ≡ Ok o)
-      × (contrl_due_at m a ≡ Ok o)
-  outside s f =
-      let v : contrl_due_at m a ≡ Ok o = version_one ∙ ap Ok (by_none y from to o s f) in
-      (spring_agree.1 f ∙ v, autumn_agree.1 s ∙ v, v)
+  pub untouched : spring_window y o ≡ false → autumn_window y o ≡ false → contrl_due_at m a ≡ Ok o
+  untouched s f = version_one ∙ ap Ok (by_none y from to o s f)
