@@ -10,14 +10,16 @@
 --   spring_only autumn_only        outside of the one window it has the other alone
 --   refused_when when_refused      version two is refused exactly if the due instant is outside, or a day beside the
 --                      change day
---   moved stays        what is due in its window is due when that ends, and all else when it is
 --   april october      both windows, with a change day of 1 April and of 1 October
 --   agree              both versions agree exactly if o is not in the other window
 --   agree_inside       so they agree in the change day's window
 --   stays_in_other     in the other window version two leaves it as it is
 --   untouched          in neither window version one does
+--   moved stays        what is due in the change day's window is due when that ends, and all else when it is
+--   on_change_day      so what is due on the change day is moved
+--   days_away          and what is due on another day stays, but for the evening before
 use Prim.Native.Nat.{ℕ, suc, ◌+◌, ◌-◌, ◌≤◌, ◌<◌}
-use mathlib.Core.Bool.{Bool, true, false, not, ◌&&◌}
+use mathlib.Core.Bool.{true, false, not, ◌&&◌}
 use mathlib.Core.Logic.{◌↔◌, ◌⊎◌, inl, inr}
 use mathlib.Core.Path.{◌≡◌, refl, sym, ap, ◌∙◌}
 use native.Mathlib.Omega.{arith}
@@ -29,10 +31,10 @@ use Rattle.std.proofs.lemmas.Grind.{common_steps}
 use Rattle.zaehlung.specs.Walk.{last, day_after}
 use Rattle.zaehlung.proofs.Every.{split}
 use Rattle.datum.specs.declared.Date.{Date}
-use Rattle.datum.specs.Calendar.{is_leap, days_in_month, is_date, date_of}
+use Rattle.datum.specs.Calendar.{is_leap, days_in_month, is_date}
 use Rattle.datum.proofs.Dates.{valid_is, index_below, index_date}
 use Rattle.berlin.specs.declared.Moment.{Moment}
-use Rattle.berlin.specs.Berlin.{hours, day_start, moment_of, seconds_of, is_before, in_limits, berlin_clock}
+use Rattle.berlin.specs.Berlin.{day_start, moment_of, seconds_of, is_before, in_limits, berlin_clock}
 use Rattle.berlin.specs.Berlin.{berlin_date, berlin_at, on_resolved, berlin_midnight}
 use Rattle.berlin.specs.Inside.{Proper, ProperClock}
 use Rattle.berlin.proofs.SummerTime.{starts}
@@ -45,8 +47,11 @@ use Rattle.fristen.specs.declared.NoDue.TheVariants.{Outside}
 use Rattle.fristen.specs.Fristen.{window_opens, receipt_day, contrl_seconds, before_tolerance, instant_later}
 use Rattle.fristen.specs.Fristen.{day_on, in_window, toleranz, toleranz_in, formatumstellung_toleranz}
 use Rattle.fristen.specs.Fristen.{tolerated_due, contrl_due_at, contrl_due_at_change}
-use Rattle.fristen.specs.Windows.{ShowsWindow, spring_window, autumn_window, WindowDays, EveryYearHasWindowDays}
-use Rattle.fristen.specs.ChangeDay.{due_year}
+use Rattle.fristen.specs.Windows.{ShowsWindow, spring_window, autumn_window, OtherDaysAreOutside}
+use Rattle.fristen.specs.Windows.{EveryYearHasWindowDays, WindowsAreApart, SpringDueMoves, AutumnDueMoves}
+use Rattle.fristen.specs.Windows.{OtherDueStays}
+use Rattle.fristen.specs.ChangeDay.{due_year, ChangeWindowDueMoves, ChangeWindowElseStays, ChangeDayDueMoves}
+use Rattle.fristen.specs.ChangeDay.{OtherDayDueStays}
 
 opens_proper : ProperClock window_opens
 opens_proper = proper_clock _ (omega arith) (omega arith)
@@ -93,10 +98,10 @@ module _ (a b : ℕ) (h : a ≤ last) (k : b ≤ last) (o : Moment) where
             ]
       ]
 
-  -- it lies in no window that ends by its Berlin day or begins after it
-  pub shut : Proper o → (b ≤ berlin_date o) ⊎ (berlin_date o < a) → in_window a b o ≡ false
-  shut p (inl q) = let c = clock_from (seconds_of o) p.from in not_shown (λ s. omega (arith, s.1))
-  shut p (inr q) = let c = clock_from (seconds_of o) p.from in not_shown (λ s. omega (arith, s.0))
+-- it lies in no window that ends by its Berlin day or begins after it
+pub shut : OtherDaysAreOutside
+shut a b h k o p (inl q) = let c = clock_from (seconds_of o) p.from in not_shown a b h k o (λ s. omega (arith, s.1))
+shut a b h k o p (inr q) = let c = clock_from (seconds_of o) p.from in not_shown a b h k o (λ s. omega (arith, s.0))
 
 abbrev pub on : ℕ → ℕ → ℕ → Date
 on y m n = record { year = y; month = m; day = n }
@@ -124,41 +129,41 @@ days y h k =
       final = index_below _ (valid_is _ (dates y h k).4);
     }
 
+pub apart : WindowsAreApart
+apart y h k o e f =
+    let g = days y h k in
+    let a = inside_shown (day_on y 3 31) (day_on y 4 2) (omega (arith, g)) (omega (arith, g)) o e in
+    let b = inside_shown (day_on y 9 30) (day_on y 10 2) (omega (arith, g)) g.final o f in
+    omega (arith, g, a.1, b.0)
+
+-- 2 April 00:00 lies in no autumn window
+spring_ends : (y : ℕ) → 1996 ≤ y → y ≤ 2899 → autumn_window y (berlin_midnight (day_on y 4 2)) ≡ false
+spring_ends y h k =
+    let g = days y h k in
+    let e = midnight_earliest (day_on y 4 2) (omega (arith, g)) in
+    not_shown (day_on y 9 30) (day_on y 10 2) (omega (arith, g)) g.final (berlin_midnight (day_on y 4 2))
+    (λ s. omega (arith, g, s.0, e.shown))
+
+pub by_spring : SpringDueMoves
+unfolding toleranz_in
+by_spring y h k o e = rw (e, spring_ends y h k)
+
+pub by_autumn : AutumnDueMoves
+unfolding toleranz_in
+by_autumn y h k o e = grind (arith, common_steps, apart y h k o)
+
+pub by_none : OtherDueStays
+unfolding toleranz_in
+by_none y h k o e f = rw (e, f)
+
 module _ (y : ℕ) (h : 1996 ≤ y) (k : y ≤ 2899) (o : Moment) where
-  pub apart : spring_window y o ≡ true → autumn_window y o ≡ true → ⊥
-  apart e f =
-      let g = days y h k in
-      let a = inside_shown (day_on y 3 31) (day_on y 4 2) (omega (arith, g)) (omega (arith, g)) o e in
-      let b = inside_shown (day_on y 9 30) (day_on y 10 2) (omega (arith, g)) g.final o f in
-      omega (arith, g, a.1, b.0)
-
-  -- 2 April 00:00 lies in no autumn window
-  spring_ends : autumn_window y (berlin_midnight (day_on y 4 2)) ≡ false
-  spring_ends =
-      let g = days y h k in
-      let e = midnight_earliest (day_on y 4 2) (omega (arith, g)) in
-      not_shown (day_on y 9 30) (day_on y 10 2) (omega (arith, g)) g.final (berlin_midnight (day_on y 4 2))
-      (λ s. omega (arith, g, s.0, e.shown))
-
-  pub by_spring : spring_window y o ≡ true → toleranz_in y o ≡ berlin_midnight (day_on y 4 2)
-  unfolding toleranz_in
-  by_spring e = rw (e, spring_ends)
-
-  pub by_autumn : autumn_window y o ≡ true → toleranz_in y o ≡ berlin_midnight (day_on y 10 2)
-  unfolding toleranz_in
-  by_autumn e = grind (arith, common_steps, apart)
-
-  pub by_none : spring_window y o ≡ false → autumn_window y o ≡ false → toleranz_in y o ≡ o
-  unfolding toleranz_in
-  by_none e f = rw (e, f)
-
   pub spring_only : autumn_window y o ≡ false → toleranz_in y o ≡ toleranz (day_on y 3 31) (day_on y 4 2) o
   spring_only f =
-      split (spring_window y o) (λ e. by_spring e ∙ rw e refl) (λ e. by_none e f ∙ rw e refl)
+      split (spring_window y o) (λ e. by_spring y h k o e ∙ rw e refl) (λ e. by_none y h k o e f ∙ rw e refl)
 
   pub autumn_only : spring_window y o ≡ false → toleranz_in y o ≡ toleranz (day_on y 9 30) (day_on y 10 2) o
   autumn_only e =
-      split (autumn_window y o) (λ f. by_autumn f ∙ rw f refl) (λ f. by_none e f ∙ rw f refl)
+      split (autumn_window y o) (λ f. by_autumn y h k o f ∙ rw f refl) (λ f. by_none y h k o e f ∙ rw f refl)
 
 -- the two windows of version one, that of the change day d from b to c, and the other from v to w
 pub record TwoWindows (y : ℕ) (o : Moment) (d b c v w : ℕ) : Type 0 where
@@ -170,35 +175,6 @@ pub record TwoWindows (y : ℕ) (o : Moment) (d b c v w : ℕ) : Type 0 where
   pub both : in_window b c o ≡ true → in_window v w o ≡ true → ⊥
   pub this : in_window v w o ≡ false → toleranz_in y o ≡ toleranz b c o
   pub other : in_window v w o ≡ true → toleranz_in y o ≡ berlin_midnight w
-
-module _ (y : ℕ) (h : 1996 ≤ y) (k : y ≤ 2899) (o : Moment) where
-  of_april : TwoWindows y o (day_on y 4 1) (day_on y 3 31) (day_on y 4 2) (day_on y 9 30) (day_on y 10 2)
-  of_april =
-      let g = days y h k in
-      record {
-        eve = g.march;
-        end = g.april;
-        end_inside = omega (arith, g);
-        from_inside = omega (arith, g);
-        to_inside = g.final;
-        both = apart y h k o;
-        this = spring_only y h k o;
-        other = by_autumn y h k o;
-      }
-
-  of_october : TwoWindows y o (day_on y 10 1) (day_on y 9 30) (day_on y 10 2) (day_on y 3 31) (day_on y 4 2)
-  of_october =
-      let g = days y h k in
-      record {
-        eve = g.september;
-        end = g.october;
-        end_inside = g.final;
-        from_inside = omega (arith, g);
-        to_inside = omega (arith, g);
-        both = λ f s. apart y h k o s f;
-        this = autumn_only y h k o;
-        other = by_spring y h k o;
-      }
 
 module _ (m : Moment) (a : ContrlAnlass) (d : ℕ) where
   by_change :
@@ -262,20 +238,6 @@ module _ (m : Moment) (p : Proper m) (a : ContrlAnlass) (o : Moment) (e : before
   clock_inside : (day_start 0 ≤ berlin_clock (seconds_of o)) × (berlin_clock (seconds_of o) < day_start 330180)
   clock_inside = (clock_from (seconds_of o) inside.from, clock_to (seconds_of o) inside.from inside.to)
 
-  module _ (d : ℕ) (h : 1 ≤ d) (k : d < last) where
-    pub moved : ShowsWindow (d - 1) (suc d) o → contrl_due_at_change m a d ≡ Ok (berlin_midnight (suc d))
-    moved s = by_change m a d h k ∙ rw (e, shown_inside (d - 1) (suc d) (omega arith) k o s) refl
-
-    pub stays : (ShowsWindow (d - 1) (suc d) o → ⊥) → contrl_due_at_change m a d ≡ Ok o
-    stays n = by_change m a d h k ∙ rw (e, not_shown (d - 1) (suc d) (omega arith) k o n) refl
-
-    pub on_change_day : berlin_date o ≡ d → contrl_due_at_change m a d ≡ Ok (berlin_midnight (suc d))
-    on_change_day q = let c = clock_inside in moved (omega arith, omega arith)
-
-    pub days_away : (suc (berlin_date o) < d) ⊎ (d < berlin_date o) → contrl_due_at_change m a d ≡ Ok o
-    days_away (inl q) = let c = clock_inside in stays (λ s. omega (arith, s.0))
-    days_away (inr q) = let c = clock_inside in stays (λ s. omega (arith, s.1))
-
   abbrev y : ℕ
   y = due_year o
 
@@ -299,7 +261,7 @@ module _ (m : Moment) (p : Proper m) (a : ContrlAnlass) (o : Moment) (e : before
       let z : o ≡ berlin_midnight c = cc in
       omega (arith, s.1, v.shown, ap (λ (x : Moment). berlin_clock (seconds_of x)) z)
 
-  module _ (d b c v w : ℕ) (g : TwoWindows y o d b c v w) where
+  module _ {d b c v w : ℕ} (g : TwoWindows y o d b c v w) where
     by_window : contrl_due_at_change m a d ≡ Ok (toleranz b c o)
     by_window =
         let z : d - 1 ≡ b = omega (arith, g) in
@@ -322,10 +284,51 @@ module _ (m : Moment) (p : Proper m) (a : ContrlAnlass) (o : Moment) (e : before
     agree_inside s = agree.1 (split (in_window v w o) (λ f. absurd (g.both s f)) (λ f. f))
 
   pub april : TwoWindows y o (day_on y 4 1) (day_on y 3 31) (day_on y 4 2) (day_on y 9 30) (day_on y 10 2)
-  april = of_april y from to o
+  april =
+      let g = days y from to in
+      record {
+        eve = g.march;
+        end = g.april;
+        end_inside = omega (arith, g);
+        from_inside = omega (arith, g);
+        to_inside = g.final;
+        both = apart y from to o;
+        this = spring_only y from to o;
+        other = by_autumn y from to o;
+      }
 
   pub october : TwoWindows y o (day_on y 10 1) (day_on y 9 30) (day_on y 10 2) (day_on y 3 31) (day_on y 4 2)
-  october = of_october y from to o
+  october =
+      let g = days y from to in
+      record {
+        eve = g.september;
+        end = g.october;
+        end_inside = g.final;
+        from_inside = omega (arith, g);
+        to_inside = omega (arith, g);
+        both = λ f s. apart y from to o s f;
+        this = autumn_only y from to o;
+        other = by_spring y from to o;
+      }
 
   pub untouched : spring_window y o ≡ false → autumn_window y o ≡ false → contrl_due_at m a ≡ Ok o
   untouched s f = version_one ∙ ap Ok (by_none y from to o s f)
+
+pub moved : ChangeWindowDueMoves
+moved m a o p e d h k s = by_change m a d h k ∙ rw (e, shown_inside (d - 1) (suc d) (omega arith) k o s) refl
+
+pub stays : ChangeWindowElseStays
+stays m a o p e d h k n = by_change m a d h k ∙ rw (e, not_shown (d - 1) (suc d) (omega arith) k o n) refl
+
+pub on_change_day : ChangeDayDueMoves
+on_change_day m a o p e d h k q =
+    let c = clock_inside m p a o e in
+    moved m a o p e d h k (omega arith, omega arith)
+
+pub days_away : OtherDayDueStays
+days_away m a o p e d h k (inl q) =
+    let c = clock_inside m p a o e in
+    stays m a o p e d h k (λ s. omega (arith, s.0))
+days_away m a o p e d h k (inr q) =
+    let c = clock_inside m p a o e in
+    stays m a o p e d h k (λ s. omega (arith, s.1))

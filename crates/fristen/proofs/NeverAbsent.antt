@@ -16,7 +16,6 @@ use Rattle.datum.specs.Calendar.{date_of}
 use Rattle.datum.proofs.Dates.{index_date}
 use Rattle.werktag.proofs.Reasons.{weekend_shut}
 use Rattle.berlin.specs.declared.Moment.{Moment}
-use Rattle.berlin.specs.declared.Clock.{Clock}
 use Rattle.berlin.specs.Berlin.{last_sunday, berlin_at}
 use Rattle.berlin.specs.Inside.{ProperClock}
 use Rattle.berlin.proofs.Proper.{day_le, not_absent}
