@@ -1,6 +1,6 @@
 -- What `berlin_at` finds: the earliest instant at which the Berlin clock shows a time, and when there is none.
 --   moment_seconds seconds_moment    `moment_of` and `seconds_of` undo each other
---   is_earliest earliest_is     `berlin_at` gives m exactly if it is the earliest instant that shows the time c of day i
+--   is_earliest earliest_is     `berlin_at` gives m exactly if m is the earliest instant that shows the time
 --   absent_none none_absent     `berlin_at` gives None exactly if no instant shows the time
 --   absent_when when_absent     that is so exactly from 02:00 to before 03:00 of the last Sunday of March
 --   repeated_when when_repeated two show it exactly from 02:00 to before 03:00 of the last Sunday of October

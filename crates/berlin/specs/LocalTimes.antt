@@ -21,7 +21,7 @@ use Rattle.berlin.specs.Inside.{ProperClock}
 
 pub record Earliest (day : ℕ) (clock : Clock) (moment : Moment) : Type 0 where
   pub shown : berlin_clock (seconds_of moment) ≡ day_start day + clock.second
-  pub least : (at : ℕ) → berlin_clock at ≡ day_start day + clock.second → seconds_of moment ≤ at
+  pub least : (second : ℕ) → berlin_clock second ≡ day_start day + clock.second → seconds_of moment ≤ second
   pub second_lt : moment.second < day_seconds
   pub nanos : moment.nanos ≡ clock.nanos
 
@@ -34,9 +34,9 @@ pub record Repeated (day : ℕ) (clock : Clock) : Type 0 where
 
 abbrev pub LimitsAreBerlinDays : Type 0
 LimitsAreBerlinDays =
-    (at : ℕ) →
-    ((first_second ≤ at) × (at ≤ last_second))
-    ↔ ((calendar_start ≤ (local_of at).berlinday) × ((local_of at).berlinday ≤ calendar_start + last))
+    (second : ℕ) →
+    ((first_second ≤ second) × (second ≤ last_second))
+    ↔ ((calendar_start ≤ (local_of second).berlinday) × ((local_of second).berlinday ≤ calendar_start + last))
 
 abbrev pub FoundIsEarliest : Type 0
 FoundIsEarliest =
@@ -46,7 +46,7 @@ FoundIsEarliest =
 abbrev pub NotFoundIsNeverShown : Type 0
 NotFoundIsNeverShown =
     (day : ℕ) (clock : Clock) → day ≤ last → ProperClock clock →
-    (berlin_at day clock ≡ None) ↔ ((at : ℕ) → berlin_clock at ≡ day_start day + clock.second → ⊥)
+    (berlin_at day clock ≡ None) ↔ ((second : ℕ) → berlin_clock second ≡ day_start day + clock.second → ⊥)
 
 abbrev pub AbsentInMarch : Type 0
 AbsentInMarch =

@@ -1,6 +1,7 @@
 -- Days tile the time line, by their midnights: no instant of the calendar lies between two days or in both. A day is
--- its index, an instant its seconds `at`, from the limits' first to their last.
---   next_midnight day   = the second at which the day after begins; after the calendar's last day, that after the limits
+-- its index, an instant its seconds, from the limits' first to their last.
+--   next_midnight day   = the second at which the day after begins; for the calendar's last day, the first after the
+--                         limits
 --   DaysTile            an instant's Berlin day is the given one exactly if it lies from that day's midnight on and
 --                       before the next
 --   EndIsLast           no instant of a day lies in a second after that of its end
@@ -14,13 +15,13 @@ next_midnight day = if nat_lt day last then seconds_of (berlin_midnight (suc day
 
 abbrev pub DaysTile : Type 0
 DaysTile =
-    (day at : ℕ) → day ≤ last → first_second ≤ at → at ≤ last_second →
-    (berlin_day at ≡ day) ↔ ((seconds_of (berlin_midnight day) ≤ at) × (at < next_midnight day))
+    (day second : ℕ) → day ≤ last → first_second ≤ second → second ≤ last_second →
+    (berlin_day second ≡ day) ↔ ((seconds_of (berlin_midnight day) ≤ second) × (second < next_midnight day))
 
 abbrev pub EndIsLast : Type 0
 EndIsLast =
-    (day at : ℕ) → day ≤ last → first_second ≤ at → at ≤ last_second → berlin_day at ≡ day →
-    at ≤ seconds_of (end_of_day_berlin day)
+    (day second : ℕ) → day ≤ last → first_second ≤ second → second ≤ last_second → berlin_day second ≡ day →
+    second ≤ seconds_of (end_of_day_berlin day)
 
 abbrev pub EndIsInDay : Type 0
 EndIsInDay = (day : ℕ) → day ≤ last → berlin_day (seconds_of (end_of_day_berlin day)) ≡ day

@@ -8,8 +8,8 @@ ghost use Rattle.berlin.specs.Tagesbeginne.{BeginningBeginsItsDay, BegunDayHasBe
 ghost use Rattle.berlin.specs.OutsideValues.{SwitchValues, ClockValues, BeginningValues, BegunDayValues};
 ghost use Rattle.berlin.specs.OutsideValues.{BerlinDayValues};
 
-/// Theorem: a local time means the earliest instant that shows it, if one does. Absent is only the hour from 02:00 on of
-/// the last Sunday of March, and repeated only that of the last Sunday of October.
+/// Theorem: a local time means the earliest instant that shows it, if one does. Absent is only the hour from 02:00 on
+/// of the last Sunday of March, and repeated only that of the last Sunday of October.
 pub fn local_time()
     ensures limits { LimitsAreBerlinDays }
     ensures found { FoundIsEarliest }

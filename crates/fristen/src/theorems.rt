@@ -68,8 +68,8 @@ pub fn change_day()
     ensures days_away { OtherDayDueStays }
 {}
 
-/// Theorem: with a change day of 1 April or 1 October both versions agree, unless the message is due in the other window
-/// of version one.
+/// Theorem: with a change day of 1 April or 1 October both versions agree, unless the message is due in the other
+/// window of version one.
 pub fn versions_agree()
     ensures april { AprilAgreesOffAutumn }
     ensures october { OctoberAgreesOffSpring }
