@@ -1,3 +1,4 @@
 pub mod Reading
 pub mod Kalender
 pub mod Uhrzeit
+pub mod Codes

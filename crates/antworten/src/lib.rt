@@ -3,4 +3,5 @@
 #![tactic(auto)]
 
 pub mod kalender;
+pub mod theorems;
 pub mod uhrzeit;

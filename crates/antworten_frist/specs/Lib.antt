@@ -1,2 +1,3 @@
 pub mod FristReading
 pub mod Frist
+pub mod Versions

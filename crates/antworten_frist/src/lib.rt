@@ -22,6 +22,8 @@ use datum::Date;
 use fristen::{ContrlAnlass, FristShape, GasProzess, NoDue};
 use werktag::HolidayCalendar;
 
+pub mod theorems;
+
 // The occasion of a code, in the Rust's order of its cases. No `TryFrom`: the codes are the C interface's, and the
 // enum's crate knows none.
 fn anlass_of(code: u8) -> Result<ContrlAnlass, Refusal>

@@ -1,11 +1,9 @@
 -- What `berlin_at` finds: the earliest instant at which the Berlin clock shows a time, and when there is none.
 --   moment_seconds seconds_moment    `moment_of` and `seconds_of` undo each other
---   Earliest i c m              m is the earliest instant at which the Berlin clock shows the time c of day i
---   is_earliest earliest_is     `berlin_at` gives m exactly if it is that
+--   is_earliest earliest_is     `berlin_at` gives m exactly if m is the earliest instant that shows the time
 --   absent_none none_absent     `berlin_at` gives None exactly if no instant shows the time
 --   absent_when when_absent     that is so exactly from 02:00 to before 03:00 of the last Sunday of March
---   Repeated i c                two instants show the time
---   repeated_when when_repeated that is so exactly from 02:00 to before 03:00 of the last Sunday of October
+--   repeated_when when_repeated two show it exactly from 02:00 to before 03:00 of the last Sunday of October
 -- Assumes nothing.
 use Prim.Native.Nat.{ℕ, ◌+◌, ◌-◌, ◌≤◌, ◌<◌}
 use mathlib.Core.Path.{◌≡◌, refl, sym, ap, ◌∙◌}
@@ -18,6 +16,7 @@ use Rattle.berlin.specs.declared.Moment.{Moment}
 use Rattle.berlin.specs.declared.Clock.{Clock}
 use Rattle.berlin.specs.Berlin.{day_start, moment_of, seconds_of, last_sunday, offset_at, berlin_clock, berlin_at}
 use Rattle.berlin.specs.Inside.{ProperClock}
+use Rattle.berlin.specs.LocalTimes.{Earliest, Repeated}
 use Rattle.berlin.proofs.SummerTime.{parts, own_year, year_name}
 use Rattle.berlin.proofs.LocalTime.{offset_cases, early, gap, summer, twice, late, by_stretch}
 use Rattle.berlin.proofs.LocalTime.{at_two, at_one, at_none}
@@ -29,12 +28,6 @@ pub seconds_moment : (m : Moment) → m.second < 86400 → moment_of (seconds_of
 seconds_moment m h =
     let q = parts (seconds_of m) m.utcday m.second refl h in
     rw (q.0, q.1)
-
-pub record Earliest (i : ℕ) (c : Clock) (m : Moment) : Type 0 where
-  pub shown : berlin_clock (seconds_of m) ≡ day_start i + c.second
-  pub least : (s : ℕ) → berlin_clock s ≡ day_start i + c.second → seconds_of m ≤ s
-  pub second_lt : m.second < 86400
-  pub nanos : m.nanos ≡ c.nanos
 
 module _ (i : ℕ) (c : Clock) where
   abbrev l : ℕ
@@ -152,13 +145,6 @@ module _ (i : ℕ) (c : Clock) (h : i ≤ last) (u : ProperClock c) where
       let o = own i 3 in
       let q = gap i t k h (own_year i h) u.second_lt (omega arith) (omega arith) in
       at_none i c q.0 q.1
-
-pub record Repeated (i : ℕ) (c : Clock) : Type 0 where
-  pub earlier : ℕ
-  pub later : ℕ
-  pub apart : earlier < later
-  pub earlier_shown : berlin_clock earlier ≡ day_start i + c.second
-  pub later_shown : berlin_clock later ≡ day_start i + c.second
 
 module _ (i : ℕ) (c : Clock) (h : i ≤ last) (u : ProperClock c) where
   abbrev w : ℕ

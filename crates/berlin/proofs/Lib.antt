@@ -6,5 +6,4 @@ pub mod Found
 pub mod Proper
 pub mod Tiling
 pub mod Zeit
-pub mod Tagesbeginn
 pub mod OutsideValues

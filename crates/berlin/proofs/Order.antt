@@ -1,10 +1,6 @@
--- Instants by their parts: what comparing two of them by day, second and nanoseconds gives.
---   day_less day_more second_less second_more second_same   the order of two instants is that of the first part in
---                        which
---                                                           they differ
---   full_second          where the later has no nanoseconds, it is that of the seconds
--- Assumes nothing.
-use Prim.Native.Nat.{◌≤◌, ◌<◌}
+-- Instants are compared by their seconds, and within a second by their nanoseconds.
+--   full_second   an instant is before one without nanoseconds exactly if its second is before that one's
+use Prim.Native.Nat.{◌<◌}
 use mathlib.Core.Bool.{true, false}
 use mathlib.Core.Path.{◌≡◌, sym, ◌∙◌}
 use native.Mathlib.Omega.{arith}
@@ -38,22 +34,3 @@ module _ (a b : Moment) where
               | no z ↦ sym (le-ltb a.nanos b.nanos (omega arith)) ∙ same_second (omega arith)
             ]) ∙ sym (le-ltb (seconds_of a) (seconds_of b) (omega arith))
       ]
-
-  module _ (p : a.second < 86400) (q : b.second < 86400) where
-    pub day_less : a.utcday < b.utcday → true ≡ is_before a b
-    day_less h = earlier (omega arith)
-
-    pub day_more : b.utcday < a.utcday → false ≡ is_before a b
-    day_more h = not_earlier (omega arith)
-
-    module _ (g : a.utcday ≤ b.utcday) (h : b.utcday ≤ a.utcday) where
-      pub second_less : a.second < b.second → true ≡ is_before a b
-      second_less k = earlier (omega arith)
-
-      pub second_more : b.second < a.second → false ≡ is_before a b
-      second_more k = not_earlier (omega arith)
-
-      pub second_same : a.second ≤ b.second → b.second ≤ a.second → ltb a.nanos b.nanos ≡ is_before a b
-      second_same k l = same_second (omega arith)
-
-pub ruleset before_rules = (day_less, day_more, second_less, second_more, second_same)

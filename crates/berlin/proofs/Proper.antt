@@ -1,6 +1,5 @@
 -- Instants inside their limits, and times that are never absent: what the crates above cite.
 --   limits_hold      seconds that pass the test are inside the limits
---   shown_proper     an instant that shows a time of a day of the calendar is inside the limits
 --   not_absent never_absent   a time that is not from 02:00 to before 03:00 is never absent; one from 03:00 on
 --   resolved_is      a time that is not absent: what `resolved_or` gives is the earliest instant that shows it
 --   begin_rules      midnight, 23:59:59 and 06:00 are found
@@ -22,8 +21,9 @@ use Rattle.berlin.specs.Berlin.{o_clock, seconds_of, first_second, last_second, 
 use Rattle.berlin.specs.Berlin.{berlin_date, berlin_at, resolved_or, berlin_midnight, end_of_day_berlin}
 use Rattle.berlin.specs.Berlin.{tagesbeginn_utc, same_instant, tag_des_beginns}
 use Rattle.berlin.specs.Inside.{Proper, ProperClock}
-use Rattle.berlin.proofs.LocalTime.{clock_to, clock_first, clock_final}
-use Rattle.berlin.proofs.Found.{Earliest, is_earliest, earliest_is, absent_when}
+use Rattle.berlin.specs.LocalTimes.{Earliest}
+use Rattle.berlin.proofs.LocalTime.{clock_to}
+use Rattle.berlin.proofs.Found.{is_earliest, earliest_is, absent_when}
 
 pub limits_hold : (s : ℕ) → in_limits s ≡ true → (first_second ≤ s) × (s ≤ last_second)
 unfolding in_limits
@@ -32,16 +32,6 @@ limits_hold s h = grind (arith, common_steps)
 -- for a clock that stands in the code
 pub proper_clock : (c : Clock) → c.second < 86400 → c.nanos ≤ 999999999 → ProperClock c
 proper_clock c h g = record { second_lt = h; nanos_le = g }
-
--- an instant that shows a time of a day of the calendar is inside the limits
-pub shown_proper : (i : ℕ) (c : Clock) (m : Moment) → i ≤ last → ProperClock c → Earliest i c m → Proper m
-shown_proper i c m h u e =
-    record {
-      second_lt = e.second_lt;
-      nanos_le = omega (arith, e.nanos, u.nanos_le);
-      from = clock_first (seconds_of m) (omega (arith, e.shown));
-      to = clock_final (seconds_of m) (omega (arith, e.shown, u.second_lt));
-    }
 
 -- a time that is not from 02:00 to before 03:00 is never absent
 pub not_absent :

@@ -20,6 +20,8 @@ use datum::{Date, FIRST_YEAR};
 use std::marker::Model;
 use zaehlung::LAST;
 
+pub mod theorems;
+
 /// An instant: its UTC day, counted from 1 January 1970, the second of that day and the nanoseconds.
 ///
 /// 1 January 2026 00:00 in Berlin, 31 December 23:00 UTC, is day 20,453 and second 82,800.

@@ -1,29 +1,25 @@
 -- The tolerance of the CONTRL: version one, `contrl_due_at`, with both windows of a year, and version two,
--- `contrl_due_at_change`, with the one of a change day d. o is the due instant before the tolerance, y its year.
---   Shown a b o        at o the Berlin clock shows 18:00 of the day a or later, and no time of the day b yet
---   window_iff         that is when o lies in the window from a to b
+-- `contrl_due_at_change`, with the one of a change day d. o is the due instant before the tolerance, y its year. The
+-- statements stand in specs/.
+--   inside_shown shown_inside    o lies in a window exactly if the clock shows it
 --   shut               it does not where the window ends by its Berlin day or begins after that
---   spring autumn      whether o lies in the window of 1 April, of 1 October
---   Days days          the days of both, side by side
+--   days               the days of both windows, side by side
 --   on dates           their dates, which every year has
 --   apart              it lies in one at most
---   by_spring by_autumn by_none    version one, in document 01's words
+--   by_spring by_autumn by_none    version one
 --   spring_only autumn_only        outside of the one window it has the other alone
---   change_refused     version two is refused exactly if the due instant is outside, or a day beside the change day
---   moved stays        what is due in its window is due when that ends, and all else when it is
+--   refused_when when_refused      version two is refused exactly if the due instant is outside, or a day beside the
+--                      change day
+--   april october      both windows, with a change day of 1 April and of 1 October
+--   agree              both versions agree exactly if o is not in the other window
+--   agree_inside       so they agree in the change day's window
+--   stays_in_other     in the other window version two leaves it as it is
+--   untouched          in neither window version one does
+--   moved stays        what is due in the change day's window is due when that ends, and all else when it is
 --   on_change_day      so what is due on the change day is moved
 --   days_away          and what is due on another day stays, but for the evening before
---   spring_agree autumn_agree    with change day 1 April of y both versions agree exactly if o is not in the autumn
---                      window, with 1 October exactly if it is not in that of spring
---   inside_spring inside_autumn    so they agree in the change day's window
---   outside            in neither window both leave o as it is
---   stays_in_autumn stays_in_spring    in the other window version two leaves it as it is
--- Source: document 02, F-7: 'With change day 1 April or 1 October of the due instant's year, both versions agree
--- wherever the due instant before tolerance lies inside that window'; document 01, 'Due at 31 March or 30 September
--- 18:00:00 Berlin or later and before 2 April or 2 October 00:00 becomes that midnight.'
--- Assumes nothing.
 use Prim.Native.Nat.{ℕ, suc, ◌+◌, ◌-◌, ◌≤◌, ◌<◌}
-use mathlib.Core.Bool.{Bool, true, false, not, ◌&&◌}
+use mathlib.Core.Bool.{true, false, not, ◌&&◌}
 use mathlib.Core.Logic.{◌↔◌, ◌⊎◌, inl, inr}
 use mathlib.Core.Path.{◌≡◌, refl, sym, ap, ◌∙◌}
 use native.Mathlib.Omega.{arith}
@@ -35,10 +31,10 @@ use Rattle.std.proofs.lemmas.Grind.{common_steps}
 use Rattle.zaehlung.specs.Walk.{last, day_after}
 use Rattle.zaehlung.proofs.Every.{split}
 use Rattle.datum.specs.declared.Date.{Date}
-use Rattle.datum.specs.Calendar.{is_leap, days_in_month, is_date, date_of}
+use Rattle.datum.specs.Calendar.{is_leap, days_in_month, is_date}
 use Rattle.datum.proofs.Dates.{valid_is, index_below, index_date}
 use Rattle.berlin.specs.declared.Moment.{Moment}
-use Rattle.berlin.specs.Berlin.{hours, day_start, moment_of, seconds_of, is_before, in_limits, berlin_clock}
+use Rattle.berlin.specs.Berlin.{day_start, moment_of, seconds_of, is_before, in_limits, berlin_clock}
 use Rattle.berlin.specs.Berlin.{berlin_date, berlin_at, on_resolved, berlin_midnight}
 use Rattle.berlin.specs.Inside.{Proper, ProperClock}
 use Rattle.berlin.proofs.SummerTime.{starts}
@@ -51,9 +47,11 @@ use Rattle.fristen.specs.declared.NoDue.TheVariants.{Outside}
 use Rattle.fristen.specs.Fristen.{window_opens, receipt_day, contrl_seconds, before_tolerance, instant_later}
 use Rattle.fristen.specs.Fristen.{day_on, in_window, toleranz, toleranz_in, formatumstellung_toleranz}
 use Rattle.fristen.specs.Fristen.{tolerated_due, contrl_due_at, contrl_due_at_change}
-
-abbrev pub Shown : ℕ → ℕ → Moment → Type 0
-Shown a b o = (day_start a + hours 18 ≤ berlin_clock (seconds_of o)) × (berlin_clock (seconds_of o) < day_start b)
+use Rattle.fristen.specs.Windows.{ShowsWindow, spring_window, autumn_window, OtherDaysAreOutside}
+use Rattle.fristen.specs.Windows.{EveryYearHasWindowDays, WindowsAreApart, SpringDueMoves, AutumnDueMoves}
+use Rattle.fristen.specs.Windows.{OtherDueStays}
+use Rattle.fristen.specs.ChangeDay.{due_year, ChangeWindowDueMoves, ChangeWindowElseStays, ChangeDayDueMoves}
+use Rattle.fristen.specs.ChangeDay.{OtherDayDueStays}
 
 opens_proper : ProperClock window_opens
 opens_proper = proper_clock _ (omega arith) (omega arith)
@@ -74,10 +72,10 @@ module _ (a b : ℕ) (h : a ≤ last) (k : b ≤ last) (o : Moment) where
   unfolding in_window
   by_clock = rw (opened (berlin_at a window_opens) refl, before_midnight b o k)
 
-  shown_inside : Shown a b o → in_window a b o ≡ true
+  pub shown_inside : ShowsWindow a b o → in_window a b o ≡ true
   shown_inside s = by_clock ∙ rw (le-ltb t (day_start a + 64800) s.0, lt-ltb t (day_start b) s.1) refl
 
-  not_shown : (Shown a b o → ⊥) → in_window a b o ≡ false
+  not_shown : (ShowsWindow a b o → ⊥) → in_window a b o ≡ false
   not_shown n =
       by_clock
       ∙ elim (dec_lt t (day_start a + 64800)) [
@@ -89,7 +87,7 @@ module _ (a b : ℕ) (h : a ≤ last) (k : b ≤ last) (o : Moment) where
             ]
       ]
 
-  inside_shown : in_window a b o ≡ true → Shown a b o
+  pub inside_shown : in_window a b o ≡ true → ShowsWindow a b o
   inside_shown e =
       elim (dec_lt t (day_start a + 64800)) [
         | yes y ↦ absurd (cc (e, not_shown (λ s. omega arith)))
@@ -100,28 +98,10 @@ module _ (a b : ℕ) (h : a ≤ last) (k : b ≤ last) (o : Moment) where
             ]
       ]
 
-  pub window_iff : (in_window a b o ≡ true) ↔ Shown a b o
-  window_iff = (inside_shown, shown_inside)
-
-  -- so it lies in no window that ends by its Berlin day or begins after it
-  pub shut : Proper o → (b ≤ berlin_date o) ⊎ (berlin_date o < a) → in_window a b o ≡ false
-  shut p (inl q) = let c = clock_from (seconds_of o) p.from in not_shown (λ s. omega (arith, s.1))
-  shut p (inr q) = let c = clock_from (seconds_of o) p.from in not_shown (λ s. omega (arith, s.0))
-
-abbrev pub spring : ℕ → Moment → Bool
-spring y o = in_window (day_on y 3 31) (day_on y 4 2) o
-
-abbrev pub autumn : ℕ → Moment → Bool
-autumn y o = in_window (day_on y 9 30) (day_on y 10 2) o
-
--- the days of both windows, side by side, spring's before autumn's
-pub record Days (y : ℕ) : Type 0 where
-  pub march : day_on y 4 1 ≡ suc (day_on y 3 31)
-  pub april : day_on y 4 2 ≡ suc (day_on y 4 1)
-  pub between : day_on y 4 2 ≤ day_on y 9 30
-  pub september : day_on y 10 1 ≡ suc (day_on y 9 30)
-  pub october : day_on y 10 2 ≡ suc (day_on y 10 1)
-  pub final : day_on y 10 2 ≤ last
+-- it lies in no window that ends by its Berlin day or begins after it
+pub shut : OtherDaysAreOutside
+shut a b h k o p (inl q) = let c = clock_from (seconds_of o) p.from in not_shown a b h k o (λ s. omega (arith, s.1))
+shut a b h k o p (inr q) = let c = clock_from (seconds_of o) p.from in not_shown a b h k o (λ s. omega (arith, s.0))
 
 abbrev pub on : ℕ → ℕ → ℕ → Date
 on y m n = record { year = y; month = m; day = n }
@@ -137,7 +117,7 @@ dates y h k =
     let b = le-leb y 2899 k in
     (rw (a, b), rw (a, b), rw (a, b), rw (a, b), rw (a, b))
 
-pub days : (y : ℕ) → 1996 ≤ y → y ≤ 2899 → Days y
+pub days : EveryYearHasWindowDays
 days y h k =
     let s = starts (is_leap y) in
     record {
@@ -149,81 +129,52 @@ days y h k =
       final = index_below _ (valid_is _ (dates y h k).4);
     }
 
+pub apart : WindowsAreApart
+apart y h k o e f =
+    let g = days y h k in
+    let a = inside_shown (day_on y 3 31) (day_on y 4 2) (omega (arith, g)) (omega (arith, g)) o e in
+    let b = inside_shown (day_on y 9 30) (day_on y 10 2) (omega (arith, g)) g.final o f in
+    omega (arith, g, a.1, b.0)
+
+-- 2 April 00:00 lies in no autumn window
+spring_ends : (y : ℕ) → 1996 ≤ y → y ≤ 2899 → autumn_window y (berlin_midnight (day_on y 4 2)) ≡ false
+spring_ends y h k =
+    let g = days y h k in
+    let e = midnight_earliest (day_on y 4 2) (omega (arith, g)) in
+    not_shown (day_on y 9 30) (day_on y 10 2) (omega (arith, g)) g.final (berlin_midnight (day_on y 4 2))
+    (λ s. omega (arith, g, s.0, e.shown))
+
+pub by_spring : SpringDueMoves
+unfolding toleranz_in
+by_spring y h k o e = rw (e, spring_ends y h k)
+
+pub by_autumn : AutumnDueMoves
+unfolding toleranz_in
+by_autumn y h k o e = grind (arith, common_steps, apart y h k o)
+
+pub by_none : OtherDueStays
+unfolding toleranz_in
+by_none y h k o e f = rw (e, f)
+
 module _ (y : ℕ) (h : 1996 ≤ y) (k : y ≤ 2899) (o : Moment) where
-  pub apart : spring y o ≡ true → autumn y o ≡ true → ⊥
-  apart e f =
-      let g = days y h k in
-      let a = inside_shown (day_on y 3 31) (day_on y 4 2) (omega (arith, g)) (omega (arith, g)) o e in
-      let b = inside_shown (day_on y 9 30) (day_on y 10 2) (omega (arith, g)) g.final o f in
-      omega (arith, g, a.1, b.0)
-
-  -- 2 April 00:00 lies in no autumn window
-  spring_ends : autumn y (berlin_midnight (day_on y 4 2)) ≡ false
-  spring_ends =
-      let g = days y h k in
-      let e = midnight_earliest (day_on y 4 2) (omega (arith, g)) in
-      not_shown (day_on y 9 30) (day_on y 10 2) (omega (arith, g)) g.final (berlin_midnight (day_on y 4 2))
-      (λ s. omega (arith, g, s.0, e.shown))
-
-  pub by_spring : spring y o ≡ true → toleranz_in y o ≡ berlin_midnight (day_on y 4 2)
-  unfolding toleranz_in
-  by_spring e = rw (e, spring_ends)
-
-  pub by_autumn : autumn y o ≡ true → toleranz_in y o ≡ berlin_midnight (day_on y 10 2)
-  unfolding toleranz_in
-  by_autumn e = grind (arith, common_steps, apart)
-
-  pub by_none : spring y o ≡ false → autumn y o ≡ false → toleranz_in y o ≡ o
-  unfolding toleranz_in
-  by_none e f = rw (e, f)
-
-  pub spring_only : autumn y o ≡ false → toleranz_in y o ≡ toleranz (day_on y 3 31) (day_on y 4 2) o
+  pub spring_only : autumn_window y o ≡ false → toleranz_in y o ≡ toleranz (day_on y 3 31) (day_on y 4 2) o
   spring_only f =
-      split (spring y o) (λ e. by_spring e ∙ rw e refl) (λ e. by_none e f ∙ rw e refl)
+      split (spring_window y o) (λ e. by_spring y h k o e ∙ rw e refl) (λ e. by_none y h k o e f ∙ rw e refl)
 
-  pub autumn_only : spring y o ≡ false → toleranz_in y o ≡ toleranz (day_on y 9 30) (day_on y 10 2) o
+  pub autumn_only : spring_window y o ≡ false → toleranz_in y o ≡ toleranz (day_on y 9 30) (day_on y 10 2) o
   autumn_only e =
-      split (autumn y o) (λ f. by_autumn f ∙ rw f refl) (λ f. by_none e f ∙ rw f refl)
+      split (autumn_window y o) (λ f. by_autumn y h k o f ∙ rw f refl) (λ f. by_none y h k o e f ∙ rw f refl)
 
 -- the two windows of version one, that of the change day d from b to c, and the other from v to w
-record TwoWindows (y : ℕ) (o : Moment) (d b c v w : ℕ) : Type 0 where
-  eve : d ≡ suc b
-  end : c ≡ suc d
-  end_inside : c ≤ last
-  from_inside : v ≤ last
-  to_inside : w ≤ last
-  both : in_window b c o ≡ true → in_window v w o ≡ true → ⊥
-  this : in_window v w o ≡ false → toleranz_in y o ≡ toleranz b c o
-  other : in_window v w o ≡ true → toleranz_in y o ≡ berlin_midnight w
-
-module _ (y : ℕ) (h : 1996 ≤ y) (k : y ≤ 2899) (o : Moment) where
-  of_april : TwoWindows y o (day_on y 4 1) (day_on y 3 31) (day_on y 4 2) (day_on y 9 30) (day_on y 10 2)
-  of_april =
-      let g = days y h k in
-      record {
-        eve = g.march;
-        end = g.april;
-        end_inside = omega (arith, g);
-        from_inside = omega (arith, g);
-        to_inside = g.final;
-        both = apart y h k o;
-        this = spring_only y h k o;
-        other = by_autumn y h k o;
-      }
-
-  of_october : TwoWindows y o (day_on y 10 1) (day_on y 9 30) (day_on y 10 2) (day_on y 3 31) (day_on y 4 2)
-  of_october =
-      let g = days y h k in
-      record {
-        eve = g.september;
-        end = g.october;
-        end_inside = g.final;
-        from_inside = omega (arith, g);
-        to_inside = omega (arith, g);
-        both = λ f s. apart y h k o s f;
-        this = autumn_only y h k o;
-        other = by_spring y h k o;
-      }
+pub record TwoWindows (y : ℕ) (o : Moment) (d b c v w : ℕ) : Type 0 where
+  pub eve : d ≡ suc b
+  pub end : c ≡ suc d
+  pub end_inside : c ≤ last
+  pub from_inside : v ≤ last
+  pub to_inside : w ≤ last
+  pub both : in_window b c o ≡ true → in_window v w o ≡ true → ⊥
+  pub this : in_window v w o ≡ false → toleranz_in y o ≡ toleranz b c o
+  pub other : in_window v w o ≡ true → toleranz_in y o ≡ berlin_midnight w
 
 module _ (m : Moment) (a : ContrlAnlass) (d : ℕ) where
   by_change :
@@ -240,7 +191,7 @@ module _ (m : Moment) (a : ContrlAnlass) (d : ℕ) where
       (t : Moment → Moment) → tolerated_due t (before_tolerance m a) ≡ Err Outside → before_tolerance m a ≡ Err Outside
   not_due t e = grind (arith, common_steps)
 
-  refused_when :
+  pub refused_when :
       contrl_due_at_change m a d ≡ Err Outside → (before_tolerance m a ≡ Err Outside) ⊎ ((d ≡ 0) ⊎ (last ≤ d))
   refused_when e =
       elim (dec_le 1 d) [
@@ -252,7 +203,7 @@ module _ (m : Moment) (a : ContrlAnlass) (d : ℕ) where
             ]
       ]
 
-  when_refused :
+  pub when_refused :
       (before_tolerance m a ≡ Err Outside) ⊎ ((d ≡ 0) ⊎ (last ≤ d)) → contrl_due_at_change m a d ≡ Err Outside
   when_refused (inr f) = no_change f
   when_refused (inl e) =
@@ -264,10 +215,6 @@ module _ (m : Moment) (a : ContrlAnlass) (d : ℕ) where
               | yes z ↦ by_change x z ∙ rw e refl
             ]
       ]
-
-  pub change_refused :
-      (contrl_due_at_change m a d ≡ Err Outside) ↔ ((before_tolerance m a ≡ Err Outside) ⊎ ((d ≡ 0) ⊎ (last ≤ d)))
-  change_refused = (refused_when, when_refused)
 
 -- o is the due instant before the tolerance
 module _ (m : Moment) (p : Proper m) (a : ContrlAnlass) (o : Moment) (e : before_tolerance m a ≡ Ok o) where
@@ -291,22 +238,8 @@ module _ (m : Moment) (p : Proper m) (a : ContrlAnlass) (o : Moment) (e : before
   clock_inside : (day_start 0 ≤ berlin_clock (seconds_of o)) × (berlin_clock (seconds_of o) < day_start 330180)
   clock_inside = (clock_from (seconds_of o) inside.from, clock_to (seconds_of o) inside.from inside.to)
 
-  module _ (d : ℕ) (h : 1 ≤ d) (k : d < last) where
-    pub moved : Shown (d - 1) (suc d) o → contrl_due_at_change m a d ≡ Ok (berlin_midnight (suc d))
-    moved s = by_change m a d h k ∙ rw (e, shown_inside (d - 1) (suc d) (omega arith) k o s) refl
-
-    pub stays : (Shown (d - 1) (suc d) o → ⊥) → contrl_due_at_change m a d ≡ Ok o
-    stays n = by_change m a d h k ∙ rw (e, not_shown (d - 1) (suc d) (omega arith) k o n) refl
-
-    pub on_change_day : berlin_date o ≡ d → contrl_due_at_change m a d ≡ Ok (berlin_midnight (suc d))
-    on_change_day q = let c = clock_inside in moved (omega arith, omega arith)
-
-    pub days_away : (suc (berlin_date o) < d) ⊎ (d < berlin_date o) → contrl_due_at_change m a d ≡ Ok o
-    days_away (inl q) = let c = clock_inside in stays (λ s. omega (arith, s.0))
-    days_away (inr q) = let c = clock_inside in stays (λ s. omega (arith, s.1))
-
   abbrev y : ℕ
-  y = (date_of (berlin_date o)).year
+  y = due_year o
 
   from : 1996 ≤ y
   from = (index_date (berlin_date o) (day_le o inside)).0.from
@@ -328,16 +261,16 @@ module _ (m : Moment) (p : Proper m) (a : ContrlAnlass) (o : Moment) (e : before
       let z : o ≡ berlin_midnight c = cc in
       omega (arith, s.1, v.shown, ap (λ (x : Moment). berlin_clock (seconds_of x)) z)
 
-  module _ (d b c v w : ℕ) (g : TwoWindows y o d b c v w) where
+  module _ {d b c v w : ℕ} (g : TwoWindows y o d b c v w) where
     by_window : contrl_due_at_change m a d ≡ Ok (toleranz b c o)
     by_window =
         let z : d - 1 ≡ b = omega (arith, g) in
         by_change m a d (omega (arith, g)) (omega (arith, g)) ∙ rw (e, z, sym g.end) refl
 
-    stays_in_other : in_window v w o ≡ true → contrl_due_at_change m a d ≡ Ok o
+    pub stays_in_other : in_window v w o ≡ true → contrl_due_at_change m a d ≡ Ok o
     stays_in_other f = by_window ∙ split (in_window b c o) (λ s. absurd (g.both s f)) (λ s. rw s refl)
 
-    agree : (contrl_due_at_change m a d ≡ contrl_due_at m a) ↔ (in_window v w o ≡ false)
+    pub agree : (contrl_due_at_change m a d ≡ contrl_due_at m a) ↔ (in_window v w o ≡ false)
     agree = (
       λ r. split (in_window v w o)
           (λ f.
@@ -347,31 +280,55 @@ module _ (m : Moment) (p : Proper m) (a : ContrlAnlass) (o : Moment) (e : before
       λ f. by_window ∙ sym (version_one ∙ ap Ok (g.this f)),
     )
 
-    agree_inside : in_window b c o ≡ true → contrl_due_at_change m a d ≡ contrl_due_at m a
+    pub agree_inside : in_window b c o ≡ true → contrl_due_at_change m a d ≡ contrl_due_at m a
     agree_inside s = agree.1 (split (in_window v w o) (λ f. absurd (g.both s f)) (λ f. f))
 
-  pub spring_agree : (contrl_due_at_change m a (day_on y 4 1) ≡ contrl_due_at m a) ↔ (autumn y o ≡ false)
-  spring_agree = agree _ _ _ _ _ (of_april y from to o)
+  pub april : TwoWindows y o (day_on y 4 1) (day_on y 3 31) (day_on y 4 2) (day_on y 9 30) (day_on y 10 2)
+  april =
+      let g = days y from to in
+      record {
+        eve = g.march;
+        end = g.april;
+        end_inside = omega (arith, g);
+        from_inside = omega (arith, g);
+        to_inside = g.final;
+        both = apart y from to o;
+        this = spring_only y from to o;
+        other = by_autumn y from to o;
+      }
 
-  pub autumn_agree : (contrl_due_at_change m a (day_on y 10 1) ≡ contrl_due_at m a) ↔ (spring y o ≡ false)
-  autumn_agree = agree _ _ _ _ _ (of_october y from to o)
+  pub october : TwoWindows y o (day_on y 10 1) (day_on y 9 30) (day_on y 10 2) (day_on y 3 31) (day_on y 4 2)
+  october =
+      let g = days y from to in
+      record {
+        eve = g.september;
+        end = g.october;
+        end_inside = g.final;
+        from_inside = omega (arith, g);
+        to_inside = omega (arith, g);
+        both = λ f s. apart y from to o s f;
+        this = autumn_only y from to o;
+        other = by_spring y from to o;
+      }
 
-  pub inside_spring : spring y o ≡ true → contrl_due_at_change m a (day_on y 4 1) ≡ contrl_due_at m a
-  inside_spring s = agree_inside _ _ _ _ _ (of_april y from to o) s
+  pub untouched : spring_window y o ≡ false → autumn_window y o ≡ false → contrl_due_at m a ≡ Ok o
+  untouched s f = version_one ∙ ap Ok (by_none y from to o s f)
 
-  pub inside_autumn : autumn y o ≡ true → contrl_due_at_change m a (day_on y 10 1) ≡ contrl_due_at m a
-  inside_autumn s = agree_inside _ _ _ _ _ (of_october y from to o) s
+pub moved : ChangeWindowDueMoves
+moved m a o p e d h k s = by_change m a d h k ∙ rw (e, shown_inside (d - 1) (suc d) (omega arith) k o s) refl
 
-  pub stays_in_autumn : autumn y o ≡ true → contrl_due_at_change m a (day_on y 4 1) ≡ Ok o
-  stays_in_autumn f = stays_in_other _ _ _ _ _ (of_april y from to o) f
+pub stays : ChangeWindowElseStays
+stays m a o p e d h k n = by_change m a d h k ∙ rw (e, not_shown (d - 1) (suc d) (omega arith) k o n) refl
 
-  pub stays_in_spring : spring y o ≡ true → contrl_due_at_change m a (day_on y 10 1) ≡ Ok o
-  stays_in_spring f = stays_in_other _ _ _ _ _ (of_october y from to o) f
+pub on_change_day : ChangeDayDueMoves
+on_change_day m a o p e d h k q =
+    let c = clock_inside m p a o e in
+    moved m a o p e d h k (omega arith, omega arith)
 
-  pub outside :
-      spring y o ≡ false → autumn y o ≡ false →
-      (contrl_due_at_change m a (day_on y 4 1) ≡ Ok o) × (contrl_due_at_change m a (day_on y 10 1) ≡ Ok o)
-      × (contrl_due_at m a ≡ Ok o)
-  outside s f =
-      let v : contrl_due_at m a ≡ Ok o = version_one ∙ ap Ok (by_none y from to o s f) in
-      (spring_agree.1 f ∙ v, autumn_agree.1 s ∙ v, v)
+pub days_away : OtherDayDueStays
+days_away m a o p e d h k (inl q) =
+    let c = clock_inside m p a o e in
+    stays m a o p e d h k (λ s. omega (arith, s.0))
+days_away m a o p e d h k (inr q) =
+    let c = clock_inside m p a o e in
+    stays m a o p e d h k (λ s. omega (arith, s.1))

@@ -20,8 +20,8 @@ use Rattle.berlin.specs.Inside.{Proper}
 use Rattle.berlin.proofs.Proper.{day_le}
 use Rattle.fristen.specs.Fristen.{day_on, toleranz, formatumstellung_toleranz}
 use Rattle.fristen.specs.ByDate.{is_change_day, is_eve}
-use Rattle.fristen.proofs.Formatumstellung.{shut, spring, autumn, Days, days, on, dates, by_none}
-use Rattle.fristen.proofs.Formatumstellung.{spring_only, autumn_only}
+use Rattle.fristen.specs.Windows.{spring_window, autumn_window, WindowDays}
+use Rattle.fristen.proofs.Formatumstellung.{shut, days, on, dates, by_none, spring_only, autumn_only}
 
 change_parts : (d : Date) → is_change_day d ≡ true → (d.day ≡ 1) × ((d.month ≡ 4) ⊎ (d.month ≡ 10))
 change_parts d e = grind (arith, common_steps)
@@ -42,7 +42,7 @@ module _ (i : ℕ) (h : i ≤ last) where
   to : y i ≤ 2899
   to = (index_date i h).0.to
 
-  g : Days (y i)
+  g : WindowDays (y i)
   g = days (y i) from to
 
   named : (m n : ℕ) → (d i).month ≡ m → (d i).day ≡ n → day_on (y i) m n ≡ i
@@ -95,12 +95,12 @@ module _ (o : Moment) (p : Proper o) where
   inside : at ≤ last
   inside = day_le o p
 
-  spring_off : (suc (day_on (y at) 4 1) ≤ at) ⊎ (at < day_on (y at) 3 31) → spring (y at) o ≡ false
+  spring_off : (suc (day_on (y at) 4 1) ≤ at) ⊎ (at < day_on (y at) 3 31) → spring_window (y at) o ≡ false
   spring_off q =
       let g = g at inside in
       shut (day_on (y at) 3 31) (day_on (y at) 4 2) (omega (arith, g)) (omega (arith, g)) o p (rw g.april q)
 
-  autumn_off : (suc (day_on (y at) 10 1) ≤ at) ⊎ (at < day_on (y at) 9 30) → autumn (y at) o ≡ false
+  autumn_off : (suc (day_on (y at) 10 1) ≤ at) ⊎ (at < day_on (y at) 9 30) → autumn_window (y at) o ≡ false
   autumn_off q =
       let g = g at inside in
       shut (day_on (y at) 9 30) (day_on (y at) 10 2) (omega (arith, g)) g.final o p (rw g.october q)

@@ -1,3 +1,7 @@
 pub mod Fristen
 pub mod FristShape
 pub mod ByDate
+pub mod NeverAbsent
+pub mod Windows
+pub mod ChangeDay
+pub mod OutsideValues

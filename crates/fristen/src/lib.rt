@@ -26,6 +26,8 @@ use datum::Date;
 use werktag::HolidayCalendar;
 use zaehlung::LAST;
 
+pub mod theorems;
+
 /// Why there is no due instant.
 #[derive(Clone, Copy, PartialEq, Eq)]
 pub enum NoDue {

@@ -1,7 +1,3 @@
--- `tagesbeginn_utc` and `tag_des_beginns` are inverse to each other: 'the one conversion each way' (tagesbeginn.rs).
---   day_of_beginning   the day that the beginning of a day begins is that day
---   beginning_of_day   an instant that begins a day is the beginning of that day, to the nanosecond
--- Assumes nothing.
 use Prim.Native.Nat.{ℕ, ◌≤◌}
 use mathlib.Core.Path.{◌≡◌, refl, sym}
 use native.Mathlib.Omega.{arith}
@@ -13,6 +9,7 @@ use Rattle.berlin.specs.declared.Sparte.{Sparte}
 use Rattle.berlin.specs.declared.Sparte.TheVariants.{Strom, Gas}
 use Rattle.berlin.specs.Berlin.{seconds_of, berlin_day, berlin_date, tagesbeginn_utc, tag_des_beginns}
 use Rattle.berlin.proofs.Proper.{midnight_earliest, gas_earliest, begins_it}
+use Rattle.berlin.proofs.theorems.tagesbeginn.Goals as goal
 
 -- a beginning lies in its day
 in_its_day : (i : ℕ) → i ≤ last → (sp : Sparte) → berlin_day (seconds_of (tagesbeginn_utc i sp)) ≡ i
@@ -26,9 +23,9 @@ begins :
 unfolding tag_des_beginns
 begins m b i sp e p q = grind (arith, common_steps)
 
-pub day_of_beginning : (i : ℕ) → i ≤ last → (sp : Sparte) → tag_des_beginns (tagesbeginn_utc i sp) sp ≡ Some i
-day_of_beginning i h sp =
+pub returns-clause-day_of_beginning : goal.returns-clause-day_of_beginning
+returns-clause-day_of_beginning c = λ i h sp.
     begins (tagesbeginn_utc i sp) (tagesbeginn_utc i sp) i sp (sym (in_its_day i h sp)) refl refl
 
-pub beginning_of_day : (m : Moment) (sp : Sparte) (i : ℕ) → tag_des_beginns m sp ≡ Some i → m ≡ tagesbeginn_utc i sp
-beginning_of_day m sp i e = (begins_it m sp i e).1
+pub returns-clause-beginning_of_day : goal.returns-clause-beginning_of_day
+returns-clause-beginning_of_day c = λ m sp i e. (begins_it m sp i e).1

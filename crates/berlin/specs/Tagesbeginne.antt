@@ -1,0 +1,18 @@
+-- `tagesbeginn_utc` and `tag_des_beginns` undo each other, in Strom, whose days begin at 00:00, and in Gas, whose days
+-- begin at 06:00.
+--   BeginningBeginsItsDay   the day that the beginning of a day begins is that day
+--   BegunDayHasBeginning    an instant that begins a day is the beginning of that day, to the nanosecond
+use Rattle.std.specs.Prelude.{ℕ, ◌≤◌, ◌≡◌, Some}
+use Rattle.zaehlung.specs.Walk.{last}
+use Rattle.berlin.specs.declared.Moment.{Moment}
+use Rattle.berlin.specs.declared.Sparte.{Sparte}
+use Rattle.berlin.specs.Berlin.{tagesbeginn_utc, tag_des_beginns}
+
+abbrev pub BeginningBeginsItsDay : Type 0
+BeginningBeginsItsDay =
+    (day : ℕ) → day ≤ last → (sparte : Sparte) → tag_des_beginns (tagesbeginn_utc day sparte) sparte ≡ Some day
+
+abbrev pub BegunDayHasBeginning : Type 0
+BegunDayHasBeginning =
+    (moment : Moment) (sparte : Sparte) (day : ℕ) → tag_des_beginns moment sparte ≡ Some day →
+    moment ≡ tagesbeginn_utc day sparte

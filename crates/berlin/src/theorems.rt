@@ -1,0 +1,51 @@
+// The theorems about the Berlin clock. The functions do nothing: what each promises is a theorem about the definitions
+// that this crate's other functions are proved to meet.
+ghost use Rattle.berlin.specs.LocalTimes.{LimitsAreBerlinDays, FoundIsEarliest, NotFoundIsNeverShown, AbsentInMarch};
+ghost use Rattle.berlin.specs.LocalTimes.{RepeatedInOctober, MarchSwitchIsSunday, OctoberSwitchIsSunday};
+ghost use Rattle.berlin.specs.Tiles.{DaysTile, EndIsLast, EndIsInDay};
+ghost use Rattle.berlin.specs.Comparisons.{BeforeMidnightShowsEarlier, BeforeFullSecondShowsEarlier};
+ghost use Rattle.berlin.specs.Tagesbeginne.{BeginningBeginsItsDay, BegunDayHasBeginning};
+ghost use Rattle.berlin.specs.OutsideValues.{SwitchValues, ClockValues, BeginningValues, BegunDayValues};
+ghost use Rattle.berlin.specs.OutsideValues.{BerlinDayValues};
+
+/// Theorem: a local time means the earliest instant that shows it, if one does. Absent is only the hour from 02:00 on
+/// of the last Sunday of March, and repeated only that of the last Sunday of October.
+pub fn local_time()
+    ensures limits { LimitsAreBerlinDays }
+    ensures found { FoundIsEarliest }
+    ensures not_found { NotFoundIsNeverShown }
+    ensures absent { AbsentInMarch }
+    ensures repeated { RepeatedInOctober }
+    ensures march_switch { MarchSwitchIsSunday }
+    ensures october_switch { OctoberSwitchIsSunday }
+{}
+
+/// Theorem: days tile the time line. Each instant of the calendar lies in one day, from its midnight on and before the
+/// next, and none lies after the end of its day.
+pub fn days_tile()
+    ensures tile { DaysTile }
+    ensures end_last { EndIsLast }
+    ensures end_inside { EndIsInDay }
+{}
+
+/// Theorem: an instant is before a midnight, or before a full second that is neither absent nor repeated, exactly if
+/// the Berlin clock shows an earlier time.
+pub fn comparisons()
+    ensures midnight { BeforeMidnightShowsEarlier }
+    ensures full_second { BeforeFullSecondShowsEarlier }
+{}
+
+/// Theorem: a day and the instant at which it begins lead to each other, in either Sparte.
+pub fn tagesbeginn()
+    ensures day_of_beginning { BeginningBeginsItsDay }
+    ensures beginning_of_day { BegunDayHasBeginning }
+{}
+
+/// Theorem: the definitions give what the IANA time zone database has for Europe/Berlin, at chosen instants.
+pub fn outside_values()
+    ensures switches { SwitchValues }
+    ensures clocks { ClockValues }
+    ensures beginnings { BeginningValues }
+    ensures begun_days { BegunDayValues }
+    ensures berlin_days { BerlinDayValues }
+{}
