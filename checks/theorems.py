@@ -20,8 +20,9 @@ import sources
 
 LIST, MAP, PAGES = "checks/theorems.txt", "docs/MAP.md", ("README.md", "docs/MAP.md")
 CASES = "crates/faelle/src"
-HEAD = """# The clauses of the theorem functions, of the host calls and of the functions that README.md and docs/MAP.md name;
-# then the definitions that they come to, each with a checksum of its text. Written by `checks/theorems.py --renew`.
+HEAD = """# The clauses of the theorem functions, of the host calls and of the functions that README.md and docs/MAP.md
+# name; then the definitions that they come to, each with a checksum of its text.
+# `python3 -B checks/theorems.py --renew` writes this list.
 """
 
 # Functions and their clauses.
@@ -188,8 +189,9 @@ def listed_now(root):
             continue
         if function.name not in named.get(MAP, set()):
             faults.append(f"{function.place}: {function.name} stands in no row of {MAP}")
-        path = function.name.removeprefix("faelle::")
-        if not re.search(rf"(?<![\w:]){path}\(\)\s*;", calls):
+        crate, _, name = function.name.rpartition("::")
+        path = name if crate.startswith("faelle") else function.name
+        if not re.search(rf"(?<![\w:]){path}(?:::<\w+>)?\(\)\s*;", calls):
             faults.append(f"{function.place}: faelle does not call {function.name}")
         if any(not name for _, name, _ in function.clauses):
             faults.append(f"{function.place}: {function.name} has a clause without a name")

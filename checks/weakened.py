@@ -109,9 +109,9 @@ WEAKENED = [
     ("a word of a statement", put(WORDS, "last = 7", "last = 0"), f"{WORDS} last was"),
     ("a field of a record", put(WORDS, "  pub kept : day ≤ last\n", ""), f"{WORDS} Inside was"),
     ("a definition that a call promises", put(WORDS, "Some (suc d)", "Some d"), f"{WORDS} step was"),
-    ("a clause that is gone", put(FUNCTIONS, "    ensures inside { StepIsInside }\n", ""), "steps ensures inside is gone"),
+    ("a clause that is gone", put(FUNCTIONS, "    ensures inside { StepIsInside }\n", ""), "ensures inside is gone"),
     ("a clause that says another", put(FUNCTIONS, "{ StepIsInside }", "{ StepIsLater }"), "steps ensures inside was"),
-    ("a requires", put(FUNCTIONS, "    ensures inside", "    requires { ⊥ }\n    ensures inside"), "steps requires is not"),
+    ("a requires", put(FUNCTIONS, "    ensures in", "    requires { ⊥ }\n    ensures in"), "steps requires is not"),
     ("a function, its call and its row", {
         **put(FUNCTIONS, AGAIN, ""),
         **put(CASES, "    tage::theorems::again();\n", ""),
@@ -122,11 +122,11 @@ WEAKENED = [
     ("a promise of the code", put(CODE, "result ≡ step d", "result ≡ result"), "tage::step ensures was"),
     ("a promise of a call", put(CALLS, "≡ stepped d", "≡ stepped 0"), "mf_step ensures was"),
     ("a theorem that is not called", put(CASES, "    tage::theorems::again();\n", ""), "faelle does not call"),
-    ("one whose call is a comment", put(CASES, "    tage::theorems::again", "    // tage::theorems::again"), "does not call"),
+    ("one whose call is a comment", put(CASES, "    tage::theorems::a", "    // tage::theorems::a"), "not call"),
     ("one without a row", put(MAP, ", `tage::theorems::again`", ""), "again stands in no row"),
     ("a row of a clause that is gone", put(MAP, "steps.inside", "steps.outside"), "steps has no clause outside"),
-    ("a page's function that is gone", put(README, "`tage::step`", "`tage::stride`"), "there is no function tage::stride"),
-    ("a clause without a name", put(FUNCTIONS, "ensures later { StepIsLater }\n{}", "ensures { StepIsLater }\n{}"), "a clause"),
+    ("a page's function that is gone", put(README, "`tage::step`", "`tage::stride`"), "no function tage::stride"),
+    ("a clause without a name", put(FUNCTIONS, AGAIN, AGAIN.replace(" later ", " ")), "a clause without a name"),
     ("no list", {LIST: lambda text: None}, LIST),
 ]
 
