@@ -1,6 +1,7 @@
 pub mod Instant
 pub mod Berlin
 pub mod Inside
+pub mod SummerTime
 pub mod LocalTimes
 pub mod Tiles
 pub mod Comparisons

@@ -1,5 +1,6 @@
 // The theorems about the Berlin clock. The functions do nothing: what each promises is a theorem about the definitions
 // that this crate's other functions are proved to meet.
+ghost use Rattle.berlin.specs.SummerTime.{SummerTimeIsTwoHours, OtherTimeIsOneHour};
 ghost use Rattle.berlin.specs.LocalTimes.{LimitsAreBerlinDays, FoundIsEarliest, NotFoundIsNeverShown, AbsentInMarch};
 ghost use Rattle.berlin.specs.LocalTimes.{RepeatedInOctober, MarchSwitchIsSunday, OctoberSwitchIsSunday};
 ghost use Rattle.berlin.specs.Tiles.{DaysTile, EndIsLast, EndIsInDay};
@@ -7,6 +8,13 @@ ghost use Rattle.berlin.specs.Comparisons.{BeforeMidnightShowsEarlier, BeforeFul
 ghost use Rattle.berlin.specs.Tagesbeginne.{BeginningBeginsItsDay, BegunDayHasBeginning};
 ghost use Rattle.berlin.specs.OutsideValues.{SwitchValues, ClockValues, BeginningValues, BegunDayValues};
 ghost use Rattle.berlin.specs.OutsideValues.{BerlinDayValues};
+
+/// Theorem: Berlin is two hours ahead of UTC from the last Sunday of March 01:00 UTC to the last Sunday of October 01:00
+/// UTC, and else one.
+pub fn summer_time()
+    ensures summer { SummerTimeIsTwoHours }
+    ensures other { OtherTimeIsOneHour }
+{}
 
 /// Theorem: a local time means the earliest instant that shows it, if one does. Absent is only the hour from 02:00 on
 /// of the last Sunday of March, and repeated only that of the last Sunday of October.
