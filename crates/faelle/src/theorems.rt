@@ -27,6 +27,7 @@ pub fn call_all() {
     schritte::theorems::days_tested();
     schritte::theorems::outside_values();
     portfolio::theorems::runs();
+    berlin::theorems::summer_time();
     berlin::theorems::local_time();
     berlin::theorems::days_tile();
     berlin::theorems::comparisons();
