@@ -8,7 +8,6 @@ proof file no longer fits): `rt ci` itself ends well on most of these. The last 
 
 import re
 import sys
-from pathlib import Path
 
 import sources
 

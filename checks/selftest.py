@@ -262,6 +262,10 @@ def put(old, new):
     return lambda content: content.replace(old, new, 1)
 
 
+def after(text, more):
+    return put(text, text + more)
+
+
 def added(text):
     return lambda content: content + text
 
@@ -280,7 +284,6 @@ def cut(size):
 
 
 CI, COMPARED = f"{LEFT}/ci", f"{LEFT}/comparison"
-BEE = "refused, as it must be"
 ORACLE = "oracle/harness/tests/eins.rs"
 VEKTOREN, ASKED, COUNTED = (f"crates/{name}/out/{name}" for name in replays.PROGRAMS)
 LINES, FILES, LISTS = (f"crates/{name}/stdin" for name in replays.PROGRAMS)
@@ -427,9 +430,9 @@ BAD = [
     ("fragen", "half a record is answered", PROGRAM, put("% 32", "% 1"), "33 bytes: writes"),
     ("fragen", "a file too long is answered", PROGRAM, put("65536", "65568"), "65568 bytes: writes"),
     ("fragen", "what cannot be read is answered", PROGRAM, put('b"?"', 'b"?" * 32'), "cannot be read"),
-    ("gate", "a limit of the prover", CI, put(BEE, BEE + " (only by a limit)"), "x.edit: refused, but only by a"),
-    ("gate", "a proof that does not fit", CI, put(BEE, BEE + " (only because)"), "x.edit: refused, but only because"),
-    ("gate", "another word against one", CI, put(BEE, BEE + " (though)"), "andere/x.edit: refused, but though"),
+    ("gate", "a limit of the prover", CI, after("must be", " (only by a limit)"), "x.edit: refused, but only by a"),
+    ("gate", "a proof that does not fit", CI, after("must be", " (only because)"), "x.edit: refused, but only because"),
+    ("gate", "another word against one", CI, after("must be", " (though)"), "andere/x.edit: refused, but though"),
     ("gate", "an edit that is bad", CI, added("rt: must-fail andere/y.edit: BAD EDIT: x\n"), "andere/y.edit: BAD EDIT"),
     ("gate", "one in a wrong place", CI, added("rt: crates/a/must-fail/b/x: BAD EDIT: x\n"), "b/x: BAD EDIT"),
     ("gate", "one that is not tried", CI, added("rt: must-fail andere/y.edit: NOT TRIED: x\n"), "y.edit: NOT TRIED"),
