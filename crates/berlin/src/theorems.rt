@@ -9,8 +9,8 @@ ghost use Rattle.berlin.specs.Tagesbeginne.{BeginningBeginsItsDay, BegunDayHasBe
 ghost use Rattle.berlin.specs.OutsideValues.{SwitchValues, ClockValues, BeginningValues, BegunDayValues};
 ghost use Rattle.berlin.specs.OutsideValues.{BerlinDayValues};
 
-/// Theorem: Berlin is two hours ahead of UTC from the last Sunday of March 01:00 UTC to the last Sunday of October 01:00
-/// UTC, and else one.
+/// Theorem: Berlin is two hours ahead of UTC from the last Sunday of March 01:00 UTC to the last Sunday of October
+/// 01:00 UTC, and else one.
 pub fn summer_time()
     ensures summer { SummerTimeIsTwoHours }
     ensures other { OtherTimeIsOneHour }
