@@ -3,9 +3,9 @@
 ghost use Rattle.berlin.specs.SummerTime.{SummerTimeIsTwoHours, OtherTimeIsOneHour};
 ghost use Rattle.berlin.specs.LocalTimes.{LimitsAreBerlinDays, FoundIsEarliest, NotFoundIsNeverShown, AbsentInMarch};
 ghost use Rattle.berlin.specs.LocalTimes.{RepeatedInOctober, MarchSwitchIsSunday, OctoberSwitchIsSunday};
-ghost use Rattle.berlin.specs.Tiles.{DaysTile, EndIsLast, EndIsInDay};
+ghost use Rattle.berlin.specs.Tiles.{MidnightIsShown, EndIsShown, DaysTile, EndIsLast, EndIsInDay};
 ghost use Rattle.berlin.specs.Comparisons.{BeforeMidnightShowsEarlier, BeforeFullSecondShowsEarlier};
-ghost use Rattle.berlin.specs.Tagesbeginne.{BeginningBeginsItsDay, BegunDayHasBeginning};
+ghost use Rattle.berlin.specs.Tagesbeginne.{GasBeginningIsShown, BeginningBeginsItsDay, BegunDayHasBeginning};
 ghost use Rattle.berlin.specs.OutsideValues.{SwitchValues, ClockValues, BeginningValues, BegunDayValues};
 ghost use Rattle.berlin.specs.OutsideValues.{BerlinDayValues};
 
@@ -29,8 +29,10 @@ pub fn local_time()
 {}
 
 /// Theorem: days tile the time line. Each instant of the calendar lies in one day, from its midnight on and before the
-/// next, and none lies after the end of its day.
+/// next, and none lies after the end of its day. A midnight shows 00:00, and an end 23:59:59.999999999.
 pub fn days_tile()
+    ensures midnight_shown { MidnightIsShown }
+    ensures end_shown { EndIsShown }
     ensures tile { DaysTile }
     ensures end_last { EndIsLast }
     ensures end_inside { EndIsInDay }
@@ -43,8 +45,10 @@ pub fn comparisons()
     ensures full_second { BeforeFullSecondShowsEarlier }
 {}
 
-/// Theorem: a day and the instant at which it begins lead to each other, in either Sparte.
+/// Theorem: a day and the instant at which it begins lead to each other, in either Sparte. A Gas day begins when the
+/// clock shows 06:00.
 pub fn tagesbeginn()
+    ensures gas_shown { GasBeginningIsShown }
     ensures day_of_beginning { BeginningBeginsItsDay }
     ensures beginning_of_day { BegunDayHasBeginning }
 {}

@@ -1,8 +1,14 @@
 use native.Mathlib.Omega.{arith}
-use Rattle.berlin.proofs.Proper.{end_earliest}
+use Rattle.berlin.proofs.Proper.{midnight_earliest, end_earliest}
 use Rattle.berlin.proofs.Tiling.{end_last}
 use Rattle.berlin.proofs.Zeit.{tiling}
 use Rattle.berlin.proofs.theorems.days_tile.Goals as goal
+
+pub returns-clause-midnight_shown : goal.returns-clause-midnight_shown
+returns-clause-midnight_shown c = midnight_earliest
+
+pub returns-clause-end_shown : goal.returns-clause-end_shown
+returns-clause-end_shown c = end_earliest
 
 pub returns-clause-tile : goal.returns-clause-tile
 returns-clause-tile c = tiling

@@ -23,6 +23,9 @@ begins :
 unfolding tag_des_beginns
 begins m b i sp e p q = grind (arith, common_steps)
 
+pub returns-clause-gas_shown : goal.returns-clause-gas_shown
+returns-clause-gas_shown c = gas_earliest
+
 pub returns-clause-day_of_beginning : goal.returns-clause-day_of_beginning
 returns-clause-day_of_beginning c = λ i h sp.
     begins (tagesbeginn_utc i sp) (tagesbeginn_utc i sp) i sp (sym (in_its_day i h sp)) refl refl
