@@ -7,7 +7,8 @@ import theorems
 
 LAWS, WORDS = "crates/tage/specs/Laws.antt", "crates/tage/specs/Tage.antt"
 FUNCTIONS, CODE = "crates/tage/src/theorems.rt", "crates/tage/src/lib.rt"
-CASES, LIST, MAP, README = "crates/faelle/src/main.rt", theorems.LIST, theorems.MAP, "README.md"
+CASES, CALLED = "crates/faelle/src/main.rt", "crates/faelle/src/theorems.rt"
+LIST, MAP, README = theorems.LIST, theorems.MAP, "README.md"
 CALLS = "crates/mako_fristen/src/lib.rt"
 PROVED = {
     LAWS: """-- Laws of steps.
@@ -75,7 +76,22 @@ pub fn mf_step(d: u8, answer: &mut [u8]) -> u8
     0
 }
 """,
-    CASES: "fn main() {\n    tage::theorems::steps();\n    tage::theorems::again();\n}\n",
+    CASES: """mod theorems;
+
+fn main() {
+    theorems::call_all();
+}
+""",
+    CALLED: """/// Calls each.
+pub fn call_all() {
+    tage::theorems::steps();
+    own();
+}
+
+fn own() {
+    tage::theorems::again();
+}
+""",
     MAP: "| a step | `tage::theorems::steps.later`, `tage::theorems::steps.inside`, `tage::theorems::again` |\n",
     README: "Proved: `tage::step`, `tage::theorems`, `std::num`.\n",
 }
@@ -95,6 +111,8 @@ def put(file, old, new):
     return {file: lambda text: text.replace(old, new, 1)}
 
 
+USE = "ghost use Rattle.tage.specs.Laws.{StepIsLater, StepIsInside};\n"
+TAGE = "use Rattle.tage.specs.Tage.{last, step, Inside}\n"
 AGAIN = """
 /// Theorem: steps again.
 pub fn again()
@@ -114,15 +132,51 @@ WEAKENED = [
     ("a requires", put(FUNCTIONS, "    ensures in", "    requires { ⊥ }\n    ensures in"), "steps requires is not"),
     ("a function, its call and its row", {
         **put(FUNCTIONS, AGAIN, ""),
-        **put(CASES, "    tage::theorems::again();\n", ""),
+        **put(CALLED, "    tage::theorems::again();\n", ""),
         **put(MAP, ", `tage::theorems::again`", ""),
     }, "tage::theorems::again ensures later is gone"),
     ("a statement from elsewhere", put(FUNCTIONS, "specs.Laws.", "proofs.Laws."), "is no definition of specs/"),
     ("a statement that is not there", put(FUNCTIONS, "specs.Laws.", "specs.Tage."), "StepIsLater is not defined in"),
     ("a promise of the code", put(CODE, "result ≡ step d", "result ≡ result"), "tage::step ensures was"),
     ("a promise of a call", put(CALLS, "≡ stepped d", "≡ stepped 0"), "mf_step ensures was"),
-    ("a theorem that is not called", put(CASES, "    tage::theorems::again();\n", ""), "faelle does not call"),
-    ("one whose call is a comment", put(CASES, "    tage::theorems::a", "    // tage::theorems::a"), "not call"),
+    ("a theorem that is not called", put(CALLED, "    tage::theorems::again();\n", ""), "faelle does not call"),
+    ("one whose call is a comment", put(CALLED, "    tage::theorems::a", "    // tage::theorems::a"), "not call"),
+    ("one whose caller is not called", put(CASES, "    theorems::call_all();\n", ""), "faelle does not call"),
+    ("calls in a file of no module", put(CASES, "mod theorems;\n", ""), "no file of its crate names it"),
+    ("theorems in a file of no module", put(CODE, "pub mod theorems;\n", ""), "no file of its crate names it"),
+    ("a theorem that is private", put(FUNCTIONS, AGAIN, AGAIN.replace("pub fn", "fn")), "again was theorem"),
+    ("one that no call meets", put(FUNCTIONS, AGAIN, AGAIN.replace("()", "(_n: Never)")), "again was theorem"),
+    ("one that does not end", put(FUNCTIONS, AGAIN, AGAIN.replace("{}", "{ loop {} }")), "again was theorem"),
+    (
+        "two of one name",
+        put(CODE, "pub mod theorems;", "pub mod theorems { " + AGAIN + "}\npub mod theorems;"),
+        "2 functions",
+    ),
+    ("a statement before it in a text", put(FUNCTIONS, AGAIN, 'const A: &str = "' + AGAIN + '";\n'), "again is gone"),
+    (
+        "the statement of a test alone",
+        put(FUNCTIONS, USE, USE.replace("Laws", "Tage") + "mod tests { " + USE + " }\n"),
+        "not defined",
+    ),
+    ("an import in a comment", put(LAWS, TAGE, TAGE.replace("Tage", "Weak") + "-- " + TAGE), "is not defined in"),
+    (
+        "a name of the library",
+        put(LAWS, "use Rattle.std.specs.Prelude.", "use Rattle.std.specs.Int."),
+        "StepIsLater was",
+    ),
+    ("a comment in braces", put(LAWS, "StepIsLater =", "StepIsLater = ℕ\n{- = -}\n  "), "a comment in braces"),
+    ("a whole module", put(LAWS, TAGE, TAGE + "use Rattle.tage.specs.Weak.*\n"), "an import of a whole module"),
+    (
+        "a name inside of a module",
+        put(LAWS, "-- both", "module _ where\n  last : ℕ\n  last = 0\n-- both"),
+        "cannot be read",
+    ),
+    ("an operator of our own", put(WORDS, "abbrev pub other : ℕ\nother", "abbrev pub ◌↔◌ : ℕ\n◌↔◌"), "is an operator"),
+    (
+        "two definitions of one name",
+        put(WORDS, "abbrev pub other : ℕ\nother", "abbrev pub last : ℕ\nlast"),
+        "defined twice",
+    ),
     ("one without a row", put(MAP, ", `tage::theorems::again`", ""), "again stands in no row"),
     ("a row of a clause that is gone", put(MAP, "steps.inside", "steps.outside"), "steps has no clause outside"),
     ("a page's function that is gone", put(README, "`tage::step`", "`tage::stride`"), "no function tage::stride"),

@@ -163,7 +163,7 @@ module _ (w : ℕ → Bool) (t a : ℕ) where
       judged_parts = zip_parts (check_of w s t a) (margin_of w s t a) v m j
 
       -- the two days whose difference the margin is
-      margin_days :
+      pub margin_days :
           (c : ℕ) × (r : ℕ) × (closes w s a ≡ Some c) × (reaches w s t ≡ Some r) × (m ≡ pos c -ℤ pos r)
       unfolding margin_of
       margin_days =

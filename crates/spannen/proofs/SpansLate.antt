@@ -1,7 +1,6 @@
 -- What a TooLate says, for every shape and any test w of a day.
---   names w s t a     = the date that a TooLate of the shape names, as a step: `earliest_possible`
---   Late w s t a b y  the window closes on a day, the day held against it comes later, b Werktage later, and y is that
---                     date
+--   Late w s t a b y  the window closes on a day, the day held against it comes later, b Werktage later, and y is the date
+--                     that a TooLate of the shape names
 --   late_says         so if the verdict is TooLate b y
 -- Source: document 01, vorlauf.rs.
 -- Assumes nothing.
@@ -18,19 +17,9 @@ use Rattle.vorlauf.specs.declared.VorlaufShape.TheVariants.{LatestMonateUndWerkt
 use Rattle.vorlauf.specs.declared.VorlaufVerdict.TheVariants.{TooLate}
 use Rattle.vorlauf.specs.Verdict.{closes, reaches, fruehester_termin_nach_tag_vor_dem_letzten_werktag, verdict_on}
 use Rattle.vorlauf.specs.Verdict.{check_of}
+use Rattle.spannen.specs.Late.{date_of_late}
 use Rattle.spannen.proofs.SpansCases.{late_day, late_upto, late_window}
 use Rattle.std.specs.Prelude.{Option, Some, None}
-
-abbrev pub names : (ℕ → Bool) → VorlaufShape → ℕ → ℕ → Option ℕ
-names w (LatestWerktageBefore n) t a = add w t n
-names w (WindowWerktageBefore earliest latest) t a = add w t latest
-names w (LatestWerktageAfter n) t a = Some a
-names w (EarliestWerktageAfter n) t a = add w t n
-names w (Korridor n) t a = sub w a n
-names w TagVorDemLetztenWerktagVor t a = fruehester_termin_nach_tag_vor_dem_letzten_werktag w t
-names w (LatestMonateBefore n) t a = months_later t n
-names w (LatestMonateUndWerktageBefore monate werktage) t a = on_step None (add w t werktage)
-    (λ d. months_later d monate)
 
 pub record Late (w : ℕ → Bool) (s : VorlaufShape) (t a b y : ℕ) : Type 0 where
   pub last_day_lem : ℕ
@@ -39,11 +28,11 @@ pub record Late (w : ℕ → Bool) (s : VorlaufShape) (t a b y : ℕ) : Type 0 w
   pub reached : reaches w s t ≡ Some held
   pub after : last_day_lem < held
   pub short : between w last_day_lem held ≡ b
-  pub named : names w s t a ≡ Some y
+  pub named : date_of_late w s t a ≡ Some y
 
 module _ (w : ℕ → Bool) (t a b y : ℕ) where
   module _ (s : VorlaufShape) (c r : ℕ) (p : closes w s a ≡ Some c) (q : reaches w s t ≡ Some r) where
-    is_late : c < r → names w s t a ≡ Some y → between w c r ≡ b → Late w s t a b y
+    is_late : c < r → date_of_late w s t a ≡ Some y → between w c r ≡ b → Late w s t a b y
     is_late h e g = record { last_day_lem = c; held = r; closed = p; reached = q; after = h; short = g; named = e }
 
   verdict_says :

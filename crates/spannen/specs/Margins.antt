@@ -2,7 +2,10 @@
 -- judgement is a verdict with its margin.
 --   IsEarly verdict          it is TooEarly, by some Werktage
 --   JudgementHasVerdict      a judgement's verdict is that of `check`
---   JudgementHasMargin       its margin is the last permitted transmission day less the transmission day, `margin_of`
+--   JudgementHasMargin       its margin is that of `margin_of`
+--   MarginIsDifference       that is the last permitted transmission day less the day that is held against it
+--   EarliestMarginIsAnchors  of `EarliestWerktageAfter` it is the anchor less the n-th Werktag after the transmission
+--                            day, so beside Ok too
 --   NoJudgementWithoutVerdict   there is no judgement exactly if there is no verdict: the margin adds no refusal
 --   NoJudgementWithoutClosing   there is none where the last permitted transmission day leaves the calendar
 --   EarliestRefusedByStep    of `EarliestWerktageAfter` there is none exactly if the Werktage leave the calendar
@@ -15,7 +18,7 @@
 --   NegativeWindowIsEarly    the verdict is TooEarly
 --   NegativeWindowIsCrossed  and `earliest` is below `latest`
 --   NegativeWindow           which happens: on 3 January 1996, Window(1, 3) for the 5th is TooEarly beside −1
-use Rattle.std.specs.Prelude.{ℕ, ◌≤◌, ◌<◌, ◌≡◌, ◌↔◌, Bool, ℤ, pos, negsuc, ◌<ℤ◌, nat_abs, Some, None}
+use Rattle.std.specs.Prelude.{ℕ, ◌≤◌, ◌<◌, ◌≡◌, ◌↔◌, Bool, ℤ, pos, negsuc, ◌<ℤ◌, ◌-ℤ◌, nat_abs, Some, None}
 use Rattle.zaehlung.specs.Walk.{last, add}
 use Rattle.werktag.specs.declared.HolidayCalendar.TheVariants.{BdewMaKo}
 use Rattle.werktag.specs.Werktag.{is_werktag}
@@ -23,7 +26,7 @@ use Rattle.vorlauf.specs.declared.VorlaufShape.{VorlaufShape}
 use Rattle.vorlauf.specs.declared.VorlaufShape.TheVariants.{WindowWerktageBefore, EarliestWerktageAfter}
 use Rattle.vorlauf.specs.declared.VorlaufVerdict.{VorlaufVerdict}
 use Rattle.vorlauf.specs.declared.VorlaufVerdict.TheVariants.{TooEarly}
-use Rattle.vorlauf.specs.Verdict.{closes, check_of}
+use Rattle.vorlauf.specs.Verdict.{closes, reaches, check_of}
 use Rattle.vorlauf.specs.Margin.{margin_of, judgement_of}
 use Rattle.spannen.specs.Sharp.{index_on}
 use Rattle.spannen.specs.Late.{IsLate, IsOrdered}
@@ -42,6 +45,19 @@ JudgementHasMargin =
     (is_open : ℕ → Bool) (day anchor : ℕ) (shape : VorlaufShape) (verdict : VorlaufVerdict) (margin : ℤ) →
     judgement_of is_open shape day anchor ≡ Some (verdict, margin) →
     margin_of is_open shape day anchor ≡ Some margin
+
+abbrev pub MarginIsDifference : Type 0
+MarginIsDifference =
+    (is_open : ℕ → Bool) (day anchor : ℕ) (shape : VorlaufShape) (verdict : VorlaufVerdict) (margin : ℤ)
+    (closed reached : ℕ) → judgement_of is_open shape day anchor ≡ Some (verdict, margin) →
+    closes is_open shape anchor ≡ Some closed → reaches is_open shape day ≡ Some reached →
+    margin ≡ pos closed -ℤ pos reached
+
+abbrev pub EarliestMarginIsAnchors : Type 0
+EarliestMarginIsAnchors =
+    (is_open : ℕ → Bool) (day anchor n : ℕ) (verdict : VorlaufVerdict) (margin : ℤ) (reached : ℕ) →
+    judgement_of is_open (EarliestWerktageAfter n) day anchor ≡ Some (verdict, margin) →
+    add is_open day n ≡ Some reached → margin ≡ pos anchor -ℤ pos reached
 
 abbrev pub NoJudgementWithoutVerdict : Type 0
 NoJudgementWithoutVerdict =

@@ -10,8 +10,10 @@ ghost use Rattle.spannen.specs.Named.{BeforeNamesAcceptableFromWerktag, MonateUn
 ghost use Rattle.spannen.specs.Named.{MonateUndWerktageMayMiss};
 ghost use Rattle.spannen.specs.Sharp.{RefusedAnchorSpan, RefusedAnchorVerdict, RefusedSpan, RefusedSpanVerdicts};
 ghost use Rattle.spannen.specs.Sharp.{RefusedSpanAcceptsNone, LeavingSpanVerdict, LeavingSpan, LeavingSpanBeginsNever};
-ghost use Rattle.spannen.specs.Late.{LateIsAfter, LateIsAfterIfOrdered};
-ghost use Rattle.spannen.specs.Margins.{JudgementHasVerdict, JudgementHasMargin, NoJudgementWithoutVerdict};
+ghost use Rattle.spannen.specs.Late.{LateIsAfter, LateIsAfterIfOrdered, LateHasShortfall, LateNamesDate};
+ghost use Rattle.spannen.specs.Late.{MonthsBeforeAreExact};
+ghost use Rattle.spannen.specs.Margins.{JudgementHasVerdict, JudgementHasMargin, MarginIsDifference};
+ghost use Rattle.spannen.specs.Margins.{EarliestMarginIsAnchors, NoJudgementWithoutVerdict};
 ghost use Rattle.spannen.specs.Margins.{NoJudgementWithoutClosing, EarliestRefusedByStep, MarginFits, LateIsNegative};
 ghost use Rattle.spannen.specs.Margins.{NegativeIsLate, NegativeWindowIsEarly, NegativeWindowIsCrossed, NegativeWindow};
 
@@ -57,11 +59,20 @@ pub fn span_is_sharp()
     ensures leaving_span_begins_never { LeavingSpanBeginsNever }
 {}
 
-/// Theorem: a verdict is TooLate exactly if the last permitted transmission day lies before the day that is held
-/// against it.
+/// Theorem: a verdict is TooLate only if the last permitted transmission day lies before the day that is held against
+/// it; and exactly then, if it is not refused and the shape is no window with `earliest` below `latest`. Its shortfall
+/// and its date are those of the shape.
 pub fn late_verdict()
     ensures after { LateIsAfter }
     ensures exactly_after { LateIsAfterIfOrdered }
+    ensures shortfall { LateHasShortfall }
+    ensures date { LateNamesDate }
+{}
+
+/// Theorem: a day is in time by months exactly if the anchor is not before M, the day and as many months or, where the
+/// day was cut to the month's last, the first of the next month.
+pub fn months_before()
+    ensures exact { MonthsBeforeAreExact }
 {}
 
 /// Theorem: a verdict's margin is negative exactly if the verdict is TooLate, but for a window that closes before it
@@ -69,6 +80,8 @@ pub fn late_verdict()
 pub fn verdict_margin()
     ensures verdict { JudgementHasVerdict }
     ensures margin { JudgementHasMargin }
+    ensures difference { MarginIsDifference }
+    ensures earliest_difference { EarliestMarginIsAnchors }
     ensures refused { NoJudgementWithoutVerdict }
     ensures refused_closing { NoJudgementWithoutClosing }
     ensures refused_earliest { EarliestRefusedByStep }

@@ -1,5 +1,8 @@
-use Rattle.spannen.proofs.Margin.{judged_parts, judged_iff, refused_closes, refused_earliest, margin_fits}
+use Rattle.std.proofs.Common.{◌≡◌, ℕ}
+use Rattle.spannen.proofs.Margin.{margin_days, judged_parts, judged_iff, refused_closes, refused_earliest, margin_fits}
 use Rattle.spannen.proofs.Margin.{late_negative, negative_iff, window_early, early_negative}
+use Rattle.vorlauf.specs.declared.VorlaufShape.TheVariants.{EarliestWerktageAfter}
+use Rattle.vorlauf.specs.Verdict.{closes, reaches}
 use Rattle.spannen.proofs.verdict_margin.Goals as goal
 
 pub returns-clause-verdict : goal.returns-clause-verdict
@@ -7,6 +10,21 @@ returns-clause-verdict c = λ w t a s v m j. (judged_parts w t a s v m j).0
 
 pub returns-clause-margin : goal.returns-clause-margin
 returns-clause-margin c = λ w t a s v m j. (judged_parts w t a s v m j).1
+
+pub returns-clause-difference : goal.returns-clause-difference
+returns-clause-difference c = λ w t a s v m x y j p q.
+    let d = margin_days w t a s v m j in
+    let f : x ≡ d.0 = cc (d.2) in
+    let g : y ≡ d.1 = cc (d.3) in
+    cc (d.4)
+
+pub returns-clause-earliest_difference : goal.returns-clause-earliest_difference
+unfolding closes reaches
+returns-clause-earliest_difference c = λ w t a n v m y j q.
+    let d = margin_days w t a (EarliestWerktageAfter n) v m j in
+    let f : a ≡ d.0 = cc (d.2) in
+    let g : y ≡ d.1 = cc (d.3) in
+    cc (d.4)
 
 pub returns-clause-refused : goal.returns-clause-refused
 returns-clause-refused c = judged_iff
