@@ -1,6 +1,6 @@
 -- What a TooLate says, for every shape and any test w of a day.
---   Late w s t a b y  the window closes on a day, the day held against it comes later, b Werktage later, and y is the date
---                     that a TooLate of the shape names
+--   Late w s t a b y  the window closes on a day, the day held against it comes later, b Werktage later, and y is the
+--                     date that a TooLate of the shape names
 --   late_says         so if the verdict is TooLate b y
 -- Source: document 01, vorlauf.rs.
 -- Assumes nothing.

@@ -1,6 +1,6 @@
 -- When a verdict is TooLate, and what it then says: for any test of a day, every shape, and a transmission day and an
--- anchor of the calendar. `closes` is the last permitted transmission day for the anchor, `reaches` the day that is held
--- against it.
+-- anchor of the calendar. `closes` is the last permitted transmission day for the anchor, `reaches` the day that is
+-- held against it.
 --   IsLate verdict    there is a verdict, and it is TooLate, with some shortfall and some date
 --   IsOrdered shape   it is no `WindowWerktageBefore` with `earliest` below `latest`
 --   date_of_late is_open shape day anchor   the date that a TooLate of the shape names, as the original computes it:

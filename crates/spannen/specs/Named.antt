@@ -1,5 +1,5 @@
 -- When the date that a TooLate names is the first day of the span: shape by shape, for any test of a day, any
--- transmission day and anchor of the calendar and whatever counts. It is the date that the Rust computes.
+-- transmission day and anchor of the calendar and whatever counts. It is the date that the original computes.
 --   OnTooLate shape P         P holds of the test, the transmission day and the date of every TooLate of the shape
 --   NamesFirstDay shape       that date is the first day of the span
 --   NamesFirstDayIfOpen shape count   in a span that has a first day, it is that exactly if the count is 0 or both the
