@@ -8,11 +8,14 @@
 // 48 a second code; 49 the length of a reason and 50 to 63 its bytes. A line of another form counts as different.
 #![tactic(auto)]
 
-ghost use Rattle.std.specs.Prelude.{true, ◌≡◌, ◌↔◌, ◌+◌, ◌*◌, ◌<◌, ◌≤◌, get_or, IfSome, IsSome, IsTrue, option_map};
+ghost use Rattle.std.specs.Prelude.{true, ◌≡◌, ◌↔◌, ◌+◌, ◌*◌, ◌<◌, ◌≤◌, [], ◌∷◌, get_or, option_map};
+ghost use Rattle.std.specs.Prelude.{IfSome, IfNone, IsSome, IsTrue, IfOk, OnOk};
+ghost use Rattle.std.specs.Io.KnownBytes.{Consumes, IsAtEnd};
 ghost use Rattle.antwortsatz.specs.Bytes.{reply};
 ghost use Rattle.vektoren.specs.Hex.{digit, bytes_at};
 ghost use Rattle.vektoren.specs.Asked.{stored_question, stored_reason, stored_answer};
 ghost use Rattle.vektoren.specs.Line.{line_case, IsEqualLine};
+ghost use Rattle.vektoren.specs.Input.{still_to_come, ReplaysLine};
 
 use std::io;
 use std::io::Read;
@@ -222,13 +225,37 @@ struct Bytes<R> {
 }
 
 impl<R: Read> Bytes<R> {
-    fn next(&mut self) -> io::Result<Option<u8>> {
-        if self.at == self.end {
-            // None, also where the read fails.
-            self.at = 0;
-            self.end = 0;
-            self.end = eingabe::read_full(&mut self.input, &mut self.block)?;
+    // Reads the next block where all of this one has come.
+    #[tactic(auto, using(crate::proofs::Blocks::block_rules))]
+    fn fill(&mut self) -> io::Result<()>
+        ensures none_lost { OnOk result (Consumes
+            (still_to_come (R.remaining self.old.input) self.old.block self.old.at self.old.end)
+            (still_to_come (R.remaining self.new.input) self.new.block self.new.at self.new.end) []) }
+        ensures end { OnOk result (self.new.at ≡ self.new.end → IsAtEnd
+            (still_to_come (R.remaining self.new.input) self.new.block self.new.at self.new.end)) }
+    {
+        if self.at < self.end {
+            return Ok(());
         }
+        // None, also where the read fails.
+        self.at = 0;
+        self.end = 0;
+        self.end = eingabe::read_full(&mut self.input, &mut self.block)?;
+        Ok(())
+    }
+
+    // The next byte; none where the input has ended.
+    #[tactic(auto, using(crate::proofs::Blocks::block_rules))]
+    fn next(&mut self) -> io::Result<Option<u8>>
+        ensures byte { IfOk result (λ next. IfSome next (λ byte. Consumes
+            (still_to_come (R.remaining self.old.input) self.old.block self.old.at self.old.end)
+            (still_to_come (R.remaining self.new.input) self.new.block self.new.at self.new.end) (byte ∷ []))) }
+        ensures none { IfOk result (λ next. IfNone next (Consumes
+            (still_to_come (R.remaining self.old.input) self.old.block self.old.at self.old.end)
+            (still_to_come (R.remaining self.new.input) self.new.block self.new.at self.new.end) []
+            × IsAtEnd (still_to_come (R.remaining self.new.input) self.new.block self.new.at self.new.end))) }
+    {
+        self.fill()?;
         if self.at == self.end {
             return Ok(None);
         }
@@ -238,22 +265,32 @@ impl<R: Read> Bytes<R> {
     }
 }
 
+// Whether a line of some length is equal: its bytes, or the first of them where it has more.
+fn is_equal_line(line: &[u8; LINE_BYTES], length: usize) -> bool
+    ensures { IsTrue result ↔ ((length ≡ 193) × IsEqualLine line.now) }
+{
+    length == LINE_BYTES && is_equal(line) == Some(true)
+}
+
 // Reads the next line, and asks its question.
-fn replay_next<R: Read>(bytes: &mut Bytes<R>) -> io::Result<Option<Replayed>> {
+#[tactic(auto, using(crate::proofs::Held::held_rules))]
+fn replay_next<R: Read>(bytes: &mut Bytes<R>) -> io::Result<Option<Replayed>>
+    ensures { let old = bytes.old in let new = bytes.new in IfOk result (ReplaysLine
+        (still_to_come (R.remaining old.input) old.block old.at old.end)
+        (still_to_come (R.remaining new.input) new.block new.at new.end)) }
+{
     let mut line = [0u8; LINE_BYTES];
     // A proved loop has to end, and nothing says that a line does.
     for held in 0..usize::MAX {
         let Some(byte) = bytes.next()? else {
+            if held == 0 {
+                return Ok(None);
+            }
             // A last line without its end is of another form.
-            return Ok(if held == 0 {
-                None
-            } else {
-                Some(Replayed::Unreadable)
-            });
+            return Ok(Some(Replayed::Unreadable));
         };
         if byte == b'\n' {
-            let equal = held == LINE_BYTES && is_equal(&line) == Some(true);
-            return Ok(Some(Replayed::from(equal)));
+            return Ok(Some(Replayed::from(is_equal_line(&line, held))));
         }
         if held < LINE_BYTES {
             line[held] = byte;
