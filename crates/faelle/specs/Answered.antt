@@ -3,7 +3,7 @@
 --   left_by a           = the number that a call returns and the 32 bytes that it leaves if a is its answer
 --   LeavesAs a e        = a call with the answer a leaves the same as one with the answer e
 --   AnswersA .. AnswersM = the call of the case answers as the case says; A is Easter Sunday
-use Rattle.std.specs.Prelude.{◌≡◌, ℕ, Bool, List, replicate, ℤ, pos, negsuc, Option, Some, None, Result, Ok, Err}
+use Rattle.std.specs.Prelude.{◌≡◌, ℕ, Bool, List, replicate, ℤ, pos, negsuc, Some, None, Result, Ok, Err}
 use Rattle.datum.specs.declared.Date.{Date}
 use Rattle.datum.specs.Calendar.{date_of}
 use Rattle.werktag.specs.declared.HolidayCalendar.TheVariants.{BdewMaKo}

@@ -129,7 +129,9 @@ fn is_announced(seconds: i64, nanos: u32, kind: u8) -> bool
     ensures { IsTrue result ↔ IsAnnounced seconds nanos kind }
 {
     let mut left = UNWRITTEN;
-    let number = mako_fristen::mf_eog_ankuendigung_fristgerecht(seconds, nanos, 2026, 1, 12, &mut left);
+    let number = mako_fristen::mf_eog_ankuendigung_fristgerecht(
+        seconds, nanos, 2026, 1, 12, &mut left,
+    );
     leaves(number, &left, Ok(antwortsatz::of_kind(kind)))
 }
 
@@ -203,7 +205,13 @@ fn case_g() -> bool
 fn case_h() -> bool
     ensures { IsTrue result ↔ AnswersH }
 {
-    is_spanned(WINDOW_WERKTAGE_BEFORE, 1, 1, on(1, 10), antwortsatz::of_kind(2))
+    is_spanned(
+        WINDOW_WERKTAGE_BEFORE,
+        1,
+        1,
+        on(1, 10),
+        antwortsatz::of_kind(2),
+    )
 }
 
 // Received 31 March 11:59:59 is due 17:59:59; received 12:00:00, 2 April 00:00.
@@ -229,7 +237,11 @@ fn case_k() -> bool
 {
     let mut left = UNWRITTEN;
     let number = mako_fristen::mf_tagesbeginn_utc(2026, 3, 29, GAS, &mut left);
-    leaves(number, &left, Ok(antwortsatz::at_instant(0, MARCH_29_06_00, 0)))
+    leaves(
+        number,
+        &left,
+        Ok(antwortsatz::at_instant(0, MARCH_29_06_00, 0)),
+    )
 }
 
 // `SameDayAt` 12:00 received 9 January 12:00: 12 January 12:00.
@@ -237,8 +249,22 @@ fn case_l() -> bool
     ensures { IsTrue result ↔ AnswersL }
 {
     let mut left = UNWRITTEN;
-    let number = mako_fristen::mf_frist_due_at(SAME_DAY_AT, 0, 12, 0, 0, 0, JANUARY_9_12_00, 0, &mut left);
-    leaves(number, &left, Ok(antwortsatz::at_instant(0, JANUARY_12_12_00, 0)))
+    let number = mako_fristen::mf_frist_due_at(
+        SAME_DAY_AT,
+        0,
+        12,
+        0,
+        0,
+        0,
+        JANUARY_9_12_00,
+        0,
+        &mut left,
+    );
+    leaves(
+        number,
+        &left,
+        Ok(antwortsatz::at_instant(0, JANUARY_12_12_00, 0)),
+    )
 }
 
 // Announcement for 12 January: 9 January 13:00 yes, a nanosecond later no, 12 January 00:00 neither.

@@ -2,7 +2,7 @@
 // writes all answers. For what is no file, and for an input that cannot be read to its end, it writes nothing.
 #![tactic(auto)]
 
-ghost use Rattle.std.specs.Prelude.{◌≡◌, ◌↔◌, [], length, replicate, IsTrue, IfOk, OnOk, IfSome};
+ghost use Rattle.std.specs.Prelude.{◌≡◌, ◌↔◌, [], length, IsTrue, IfOk, OnOk, IfSome};
 ghost use Rattle.std.specs.Io.KnownBytes.{Appends};
 ghost use Rattle.fragen.specs.Output.{output_for};
 
@@ -19,10 +19,9 @@ fn is_at_end<R: Read>(input: &mut R) -> io::Result<bool>
     Ok(input.read(&mut [0u8; 1])? == 0)
 }
 
-// What is to be written for questions: all answers, which go into a place that is empty before, or nothing.
-#[tactic(auto, unfolding(crate::specs::Output::output_for))]
+// What is to be written for questions: all answers, which go into a place of their length, or nothing.
 fn answered<'a>(questions: &[u8], answers: &'a mut [u8]) -> &'a [u8]
-    requires { answers.old ≡ replicate (length questions.now) 0 }
+    requires { length answers.old ≡ length questions.now }
     ensures { result.now ≡ output_for questions.now }
 {
     if mako_fristen::mf_questions(questions, answers) == 0 {
@@ -35,13 +34,16 @@ fn answered<'a>(questions: &[u8], answers: &'a mut [u8]) -> &'a [u8]
 // Reads the input to its end, and writes what is to be written for it. After an error, of reading or of writing, nothing
 // is said of what was written.
 #[tactic(auto, using(crate::proofs::Whole::whole_rules))]
-fn answer_input<R: Read, W: Write>(input: &mut R, output: &mut W) -> io::Result<()>
+fn answer_input<R: Read, W: Write>(
+    input: &mut R,
+    output: &mut W,
+    questions: &mut [u8; INPUT_BYTES],
+    answers: &mut [u8; INPUT_BYTES],
+) -> io::Result<()>
     ensures { OnOk result (IfSome (R.remaining input.old) (λ known.
         Appends (W.contents output.old) (W.contents output.new) (output_for known))) }
 {
-    let mut questions = [0u8; INPUT_BYTES];
-    let mut answers = [0u8; INPUT_BYTES];
-    let n = eingabe::read_full(input, &mut questions)?;
+    let n = eingabe::read_full(input, questions)?;
     // An input that fills the slice for the questions is too long, and its end need not be waited for.
     if n == INPUT_BYTES {
         return Ok(());
@@ -54,5 +56,12 @@ fn answer_input<R: Read, W: Write>(input: &mut R, output: &mut W) -> io::Result<
 }
 
 fn main(rt: HostRuntime) -> io::Result<()> {
-    answer_input(&mut rt.stdin(), &mut io::writer(&rt))
+    let mut questions = [0u8; INPUT_BYTES];
+    let mut answers = [0u8; INPUT_BYTES];
+    answer_input(
+        &mut rt.stdin(),
+        &mut io::writer(&rt),
+        &mut questions,
+        &mut answers,
+    )
 }

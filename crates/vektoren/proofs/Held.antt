@@ -105,7 +105,7 @@ module _ {old now : Option (List ℕ)} {line : List ℕ} {n : ℕ} (before : IsH
       before.bytes,
       before.unended,
       subst (Consumes old next) (append-nil before.bytes)
-      (Consumes-trans old now next before.bytes [] before.taken step),
+          (Consumes-trans old now next before.bytes [] before.taken step),
       λ _. e,
     )
 

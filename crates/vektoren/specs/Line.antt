@@ -21,7 +21,7 @@ has_form l bs =
 unfoldable pub line_case : List ℕ → Option ((ℕ × List ℕ) × List ℕ)
 line_case l =
     option_and_then (λ bs. option_and_then (λ e.
-        if has_form l bs then option_map (λ a. (reply unwritten a, e)) (stored_answer (stored_question bs)) else None)
+    if has_form l bs then option_map (λ a. (reply unwritten a, e)) (stored_answer (stored_question bs)) else None)
     (bytes_at l 129 32)) (bytes_at l 0 64)
 
 pub record IsEqualLine (l : List ℕ) : Type 0 where

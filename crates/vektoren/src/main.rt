@@ -150,11 +150,22 @@ fn ask(q: &Question, answer: &mut [u8]) -> Option<u8>
         1 => Some(mako_fristen::mf_next_werktag(q.year, q.month, q.day, answer)),
         2 => Some(mako_fristen::mf_add_werktage(q.year, q.month, q.day, q.count, answer)),
         3 => Some(mako_fristen::mf_sub_werktage(q.year, q.month, q.day, q.count, answer)),
-        4 => Some(mako_fristen::mf_werktage_between(q.year, q.month, q.day, q.year2, q.month2, q.day2, answer)),
+        4 => Some(mako_fristen::mf_werktage_between(
+            q.year, q.month, q.day, q.year2, q.month2, q.day2, answer,
+        )),
         5 => Some(mako_fristen::mf_add_months(q.year, q.month, q.day, q.count, answer)),
         6 => Some(mako_fristen::mf_subtract_months(q.year, q.month, q.day, q.count, answer)),
         // Clock on a date, day of an instant.
-        7 => Some(mako_fristen::mf_berlin_at(q.year, q.month, q.day, q.hour, q.minute, q.second, q.nanos_of_second, answer)),
+        7 => Some(mako_fristen::mf_berlin_at(
+            q.year,
+            q.month,
+            q.day,
+            q.hour,
+            q.minute,
+            q.second,
+            q.nanos_of_second,
+            answer,
+        )),
         8 => Some(mako_fristen::mf_berlin_midnight(q.year, q.month, q.day, answer)),
         9 => Some(mako_fristen::mf_end_of_day_berlin(q.year, q.month, q.day, answer)),
         10 => Some(mako_fristen::mf_tagesbeginn_utc(q.year, q.month, q.day, q.code, answer)),
@@ -170,20 +181,67 @@ fn ask(q: &Question, answer: &mut [u8]) -> Option<u8>
         19 => Some(mako_fristen::mf_add_hours(q.seconds, q.nanos, q.count, answer)),
         20 => Some(mako_fristen::mf_deadline_at_werktage(q.seconds, q.nanos, q.count, answer)),
         21 => Some(mako_fristen::mf_end_of_werktag_after(q.seconds, q.nanos, q.count, answer)),
-        22 => Some(mako_fristen::mf_next_werktag_at(q.seconds, q.nanos, q.hour, q.minute, q.second, q.nanos_of_second, answer)),
-        23 => Some(mako_fristen::mf_nth_werktag_at(q.seconds, q.nanos, q.count, q.hour, q.minute, q.second, q.nanos_of_second, answer)),
-        24 => Some(mako_fristen::mf_frist_due_at(q.code, q.count, q.hour, q.minute, q.second, q.nanos_of_second, q.seconds, q.nanos, answer)),
+        22 => Some(mako_fristen::mf_next_werktag_at(
+            q.seconds,
+            q.nanos,
+            q.hour,
+            q.minute,
+            q.second,
+            q.nanos_of_second,
+            answer,
+        )),
+        23 => Some(mako_fristen::mf_nth_werktag_at(
+            q.seconds,
+            q.nanos,
+            q.count,
+            q.hour,
+            q.minute,
+            q.second,
+            q.nanos_of_second,
+            answer,
+        )),
+        24 => Some(mako_fristen::mf_frist_due_at(
+            q.code,
+            q.count,
+            q.hour,
+            q.minute,
+            q.second,
+            q.nanos_of_second,
+            q.seconds,
+            q.nanos,
+            answer,
+        )),
         // Verdicts and spans.
-        25 => Some(mako_fristen::mf_vorlauf_check(q.code, q.count, q.count2, q.year, q.month, q.day, q.year2, q.month2, q.day2, answer)),
-        26 => Some(mako_fristen::mf_vorlauf_check_at(q.code, q.count, q.count2, q.seconds, q.nanos, q.seconds2, q.nanos2, q.code2, answer)),
-        27 => Some(mako_fristen::mf_vorlauf_span(q.code, q.count, q.count2, q.year, q.month, q.day, answer)),
+        25 => Some(mako_fristen::mf_vorlauf_check(
+            q.code, q.count, q.count2, q.year, q.month, q.day, q.year2, q.month2, q.day2, answer,
+        )),
+        26 => Some(mako_fristen::mf_vorlauf_check_at(
+            q.code, q.count, q.count2, q.seconds, q.nanos, q.seconds2, q.nanos2, q.code2, answer,
+        )),
+        27 => Some(mako_fristen::mf_vorlauf_span(
+            q.code, q.count, q.count2, q.year, q.month, q.day, answer,
+        )),
         // Deregistrations.
         28 => Some(mako_fristen::mf_abmeldung_fuer(reason_of(q)?, q.code, answer)),
-        29 => Some(mako_fristen::mf_abmeldung_check(reason_of(q)?, q.code, q.year, q.month, q.day, q.year2, q.month2, q.day2, answer)),
+        29 => Some(mako_fristen::mf_abmeldung_check(
+            reason_of(q)?,
+            q.code,
+            q.year,
+            q.month,
+            q.day,
+            q.year2,
+            q.month2,
+            q.day2,
+            answer,
+        )),
         // The announcement.
-        30 => Some(mako_fristen::mf_eog_ankuendigung_fristgerecht(q.seconds, q.nanos, q.year, q.month, q.day, answer)),
+        30 => Some(mako_fristen::mf_eog_ankuendigung_fristgerecht(
+            q.seconds, q.nanos, q.year, q.month, q.day, answer,
+        )),
         // A CONTRL with a change day.
-        31 => Some(mako_fristen::mf_contrl_due_at_change(q.seconds, q.nanos, q.code, q.year, q.month, q.day, answer)),
+        31 => Some(mako_fristen::mf_contrl_due_at_change(
+            q.seconds, q.nanos, q.code, q.year, q.month, q.day, answer,
+        )),
         _ => None,
     }
 }

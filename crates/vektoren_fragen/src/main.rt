@@ -8,7 +8,7 @@
 #![tactic(auto)]
 
 ghost use Rattle.std.specs.Prelude.{◌≡◌, ◌↔◌, IsTrue, IfOk};
-ghost use Rattle.vektoren_fragen.specs.FileCase.{AsExpected, ReplaysFile, ReplaysNext};
+ghost use Rattle.vektoren_fragen.specs.FileCase.{AsExpected, ReplaysFile};
 
 use std::io;
 use std::io::Read;
@@ -56,9 +56,7 @@ fn replay_file<R: Read>(
 }
 
 // Reads the two lengths of the next file, and then the file.
-fn replay_next<R: Read>(input: &mut R) -> io::Result<Option<Replayed>>
-    ensures { IfOk result (ReplaysNext (R.remaining input.old) (R.remaining input.new)) }
-{
+fn replay_next(input: &mut impl Read) -> io::Result<Option<Replayed>> {
     // `vektoren_portfolio` begins alike, with a longer head: a function for both would have three outcomes to tell, and
     // be no shorter.
     let mut head = [0u8; HEAD_BYTES];
@@ -74,16 +72,14 @@ fn replay_next<R: Read>(input: &mut R) -> io::Result<Option<Replayed>>
     let mut questions = [0u8; MOST_BYTES];
     let mut answers = [UNWRITTEN; MOST_BYTES];
     let mut expected = [0u8; MOST_BYTES];
-    if MOST_BYTES < asked || MOST_BYTES < lent {
+    let (Some(questions), Some(answers), Some(expected)) = (
+        questions.get_mut(..asked),
+        answers.get_mut(..lent),
+        expected.get_mut(..lent),
+    ) else {
         return Ok(Some(Replayed::Unreadable));
-    }
-    let case = replay_file(
-        input,
-        &mut questions[..asked],
-        &mut answers[..lent],
-        &mut expected[..lent],
-    )?;
-    Ok(Some(case))
+    };
+    replay_file(input, questions, answers, expected).map(Some)
 }
 
 fn main(rt: HostRuntime) -> io::Result<()> {

@@ -47,10 +47,10 @@ module _ {old now : Option (List ℕ)} {list : List ℕ} {i : ℕ} (before : IsF
     taken =
         let both = Consumes-trans old now next (bytes_of_list (take i list)) l before.taken step in
         let front : take (i + 1) (set list i x) ≡ take i list ++ x ∷ [] =
-            rw (add-one i) (take-suc-set list i x h) in
+        rw (add-one i) (take-suc-set list i x h) in
         let bytes : bytes_of_list (take (i + 1) (set list i x)) ≡ bytes_of_list (take i list) ++ l =
-            ap bytes_of_list front ∙ flat_map-append le4 (take i list) (x ∷ [])
-            ∙ ap (λ bs. bytes_of_list (take i list) ++ bs) (append-nil (le4 x) ∙ e) in
+        ap bytes_of_list front ∙ flat_map-append le4 (take i list) (x ∷ [])
+        ∙ ap (λ bs. bytes_of_list (take i list) ++ bs) (append-nil (le4 x) ∙ e) in
         subst (Consumes old next) (sym bytes) both;
   }
 

@@ -1,11 +1,12 @@
 -- What a stored portfolio comes to.
---   bytes_of_list xs = the numbers of the list xs as they are stored, 4 bytes each
---   bytes_of_portfolio xs ys n cs e = a portfolio as it is stored: its days, the number returned, the counts, the answer
---   LeavesAll xs ys zs m n cs e = for the days xs and ys, a third list that held zs and an answer's place that held m,
---                                 the call returns n, and leaves the counts cs and the answer e
+--   bytes_of_list xs                  = the numbers of the list xs as they are stored, 4 bytes each
+--   bytes_of_portfolio xs ys n cs e   = a portfolio behind its head: its days, the number returned, the counts, the answer
+--   LeavesAll xs ys zs m n cs e       = for the days xs and ys, a third list that held zs and an answer's place that held
+--                                       m, the call returns n, and leaves the counts cs and the answer e
 --   ReplaysPortfolio old new xs ys zs m cs e r = with the counts cs and the answer e that are expected the portfolio comes
---                                 to r: the call leaves them and returns the portfolio's number, or it does not, or the
---                                 input has ended within it. The bytes to come, which were old and are new, lose it
+--                                       to r: the call leaves them and returns the portfolio's number, or it does not, or
+--                                       the input has ended within the portfolio. The bytes to come, which were old and
+--                                       are new, lose it
 use Rattle.std.specs.Prelude.{◌≡◌, ℕ, List, ◌∷◌, ◌++◌, Option, flat_map}
 use Rattle.std.specs.Io.KnownBytes.{Consumes, IsAtEnd}
 use Rattle.werktag.specs.declared.HolidayCalendar.TheVariants.{BdewMaKo}

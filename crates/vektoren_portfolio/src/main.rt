@@ -103,7 +103,15 @@ fn replay_portfolio<R: Read>(
     if !eingabe::fills(input, expected)? {
         return Ok(Replayed::Unreadable);
     }
-    let equal = is_expected(from, to, counts, answer, number[0], expected_counts, expected);
+    let equal = is_expected(
+        from,
+        to,
+        counts,
+        answer,
+        number[0],
+        expected_counts,
+        expected,
+    );
     Ok(Replayed::from(equal))
 }
 
@@ -129,22 +137,15 @@ fn replay_next(input: &mut impl Read) -> io::Result<Option<Replayed>> {
     let mut answer = [UNWRITTEN; MOST_BYTES];
     let mut expected_counts = [0u32; MOST_ENTRIES];
     let mut expected = [0u8; MOST_BYTES];
-    let (
-        Some(from),
-        Some(to),
-        Some(counts),
-        Some(answer),
-        Some(expected_counts),
-        Some(expected),
-    ) = (
-        from.get_mut(..first),
-        to.get_mut(..second),
-        counts.get_mut(..third),
-        answer.get_mut(..lent),
-        expected_counts.get_mut(..third),
-        expected.get_mut(..lent),
-    )
-    else {
+    let (Some(from), Some(to), Some(counts), Some(answer), Some(expected_counts), Some(expected)) =
+        (
+            from.get_mut(..first),
+            to.get_mut(..second),
+            counts.get_mut(..third),
+            answer.get_mut(..lent),
+            expected_counts.get_mut(..third),
+            expected.get_mut(..lent),
+        ) else {
         return Ok(Some(Replayed::Unreadable));
     };
     replay_portfolio(input, from, to, counts, answer, expected_counts, expected).map(Some)

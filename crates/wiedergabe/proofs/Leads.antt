@@ -56,7 +56,7 @@ module _ {S : Type 0} {step : Step S} where
           t < m → Replays step f m (t + 1) n
       leads_break {m} {n} l s i j q below =
           let k = l.rest (suc (m - suc t)) 1 0
-              (breaks g h (m - suc t) (subst (λ o. step g (Ok o) h) (i ∙ ap Some j) s)) in
+          (breaks g h (m - suc t) (subst (λ o. step g (Ok o) h) (i ∙ ap Some j) s)) in
           let p : t + suc (m - suc t) ≡ m = omega arith in
           let z : n ≡ e + 0 = q ∙ ap (λ r. e + equal_of r) j in
           rw z (rw p at k)
