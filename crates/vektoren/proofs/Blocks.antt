@@ -1,5 +1,5 @@
 -- An input that is read in blocks: what a block more, and a byte more, does to the bytes to come.
-use Rattle.std.proofs.Common.{◌≡◌, ◌∙◌, ℕ, ◌+◌, ◌-◌, ◌<◌, ◌≤◌, List, [], ◌∷◌, ◌++◌, length, take, drop}
+use Rattle.std.proofs.Common.{◌≡◌, ◌∙◌, ℕ, ◌+◌, ◌-◌, ◌<◌, ◌≤◌, List, [], ◌∷◌, ◌++◌, length, take}
 use Rattle.std.proofs.Common.{suc, get_or, slice_range, Option, Some, None, refl, ap, arith, drop-cons, add-one}
 use Rattle.std.specs.Io.KnownBytes.{Consumes, IsAtEnd, prepend_known}
 use Rattle.std.proofs.KnownBytes.{Consumes-nil}
@@ -28,7 +28,9 @@ filled None new bs h = tt
 filled (Some xs) None bs h = absurd h
 filled (Some xs) (Some ys) bs h = h
 
-one : (known : Option (List ℕ)) (b : ℕ) (bs : List ℕ) → Consumes (prepend_known (b ∷ bs) known) (prepend_known bs known) (b ∷ [])
+one :
+    (known : Option (List ℕ)) (b : ℕ) (bs : List ℕ) →
+    Consumes (prepend_known (b ∷ bs) known) (prepend_known bs known) (b ∷ [])
 one None b bs = tt
 one (Some xs) b bs = refl
 

@@ -1,15 +1,14 @@
 -- A line that is being read.
---   IsHeld old now line n = n bytes were read since the bytes to come were old: none is a line end, and the line's place
---                           begins with them, or holds the first of them
+--   IsHeld old now line n = n bytes were read since the bytes to come were old: none is a line end, and the place of the
+--                           line begins with them, if it has room
 --   held_rules            = none is read yet; one byte more is; the line ends; the input ends
-use Rattle.std.proofs.Common.{◌≡◌, ◌≢◌, ◌∙◌, ℕ, suc, ◌+◌, ◌-◌, ◌^◌, ◌<◌, ◌≤◌, List, [], ◌∷◌, ◌++◌, length, set, take}
-use Rattle.std.proofs.Common.{Option, Some, None, All, IsTrue, ◌↔◌, Bool, true, false, if◌then◌else◌, refl, sym, ap, subst, arith}
-use Rattle.std.proofs.Common.{add-one, zero, length-append, length-set, append-nil}
+use Rattle.std.proofs.Common.{◌≡◌, ◌≢◌, ◌∙◌, ℕ, suc, ◌+◌, ◌<◌, ◌≤◌, List, [], ◌∷◌, ◌++◌, length, set, take}
+use Rattle.std.proofs.Common.{Option, Some, None, IsTrue, ◌↔◌, Bool, true, false, if◌then◌else◌, refl, sym, ap, subst}
+use Rattle.std.proofs.Common.{arith, add-one, zero, length-append, length-set, append-nil}
 use lib.Seq.{take-suc-set, take_all}
 use Rattle.std.proofs.lemmas.List.Elements.{All-append}
 use Rattle.std.specs.Io.KnownBytes.{Consumes, IsAtEnd}
 use Rattle.std.proofs.KnownBytes.{Consumes-nil, Consumes-trans}
-use Rattle.wiedergabe.specs.declared.Replayed.{Replayed}
 use Rattle.wiedergabe.specs.declared.Replayed.TheVariants.{Equal, Different, Unreadable}
 use Rattle.vektoren.specs.Line.{IsEqualLine}
 use Rattle.vektoren.specs.Input.{IsUnended, ReplaysLine}

@@ -2,8 +2,8 @@
 --   stored_question bs = the question of the 64 bytes bs
 --   stored_reason q    = the bytes of its reason; None where it is longer than its place
 --   call_answers q     = what each call answers with the question's fields, in the order of the calls' numbers
---   stored_answer q    = what the call answers that the question names; None where no call has its number, or its reason
---                        is longer than its place
+--   stored_answer q    = what the call answers that the question names; None where no call has its number, or where its
+--                        reason is longer than its place
 use Rattle.std.specs.Prelude.{ℕ, Bool, List, [], ◌∷◌, get_or, take, drop, Option, Some, None, Result, nat_le}
 use Rattle.std.specs.Prelude.{slice_get, if◌then◌else◌, option_map, option_and_then}
 use Rattle.datum.specs.declared.Date.{Date}

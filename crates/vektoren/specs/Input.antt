@@ -1,10 +1,10 @@
 -- What is read of an input of stored lines. A line end is 10.
---   still_to_come known block from to = the bytes to come where the input's are known: those of the block from one place
---                                       to another, and then the input's
+--   still_to_come known block from to = the bytes to come where the input's are known: those of the block from one
+--                                       place to another, and then the input's
 --   IsUnended l                       = no line end is in l
---   ReplaysLine old new case          = the case is that of the line with which the bytes to come begin: there are none;
---                                       the line is equal; it is not; there is no line end up to the end of the input.
---                                       They lose the line, old and new being what they were and are
+--   ReplaysLine old new case          = the case is that of the line with which the bytes to come begin: there are
+--                                       none; the line is equal; it is not; no line end comes before the end of the
+--                                       input. They lose the line, old and new being what they were and are
 use Rattle.std.specs.Prelude.{◌≢◌, ℕ, ◌<◌, ◌^◌, ◌-◌, List, [], ◌∷◌, ◌++◌, length, slice_range, Option, Some, None, All}
 use Rattle.std.specs.Io.KnownBytes.{Consumes, IsAtEnd, prepend_known}
 use Rattle.wiedergabe.specs.declared.Replayed.{Replayed}

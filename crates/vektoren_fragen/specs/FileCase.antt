@@ -1,8 +1,9 @@
 -- What a stored file of questions comes to.
 --   AsExpected q m n e          = for the questions q, and answers whose place held m, the call returns n and leaves e
 --   ReplaysFile old new q m e r = with the answers e that are expected the file comes to r: the call leaves them and
---                                 returns the file's number, or it does not, or the input has ended within the file. The
---                                 bytes to come, which were old and are new, lose the questions, the number and the answers
+--                                 returns the file's number, or it does not, or the input has ended within the file.
+--                                 The bytes to come, which were old and are new, lose the questions, the number and the
+--                                 answers
 use Rattle.std.specs.Prelude.{◌≡◌, ℕ, List, ◌∷◌, ◌++◌, Option}
 use Rattle.std.specs.Io.KnownBytes.{Consumes, IsAtEnd}
 use Rattle.werktag.specs.declared.HolidayCalendar.TheVariants.{BdewMaKo}

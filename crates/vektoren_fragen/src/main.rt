@@ -23,8 +23,8 @@ const MOST_BYTES: usize = 65600;
 // What each byte of the answers is before the call, so that one that the call leaves out is seen.
 const UNWRITTEN: u8 = 170;
 
-// Asks the questions, and returns whether the number that the call returns and the answers that it leaves are those that
-// are expected.
+// Asks the questions, and returns whether the number that the call returns and the answers that it leaves are as
+// expected.
 fn is_expected(questions: &[u8], answers: &mut [u8], number: u8, expected: &[u8]) -> bool
     ensures { IsTrue result ↔ AsExpected questions.now answers.old number expected.now }
 {
@@ -39,7 +39,8 @@ fn replay_file<R: Read>(
     answers: &mut [u8],
     expected: &mut [u8],
 ) -> io::Result<Replayed>
-    ensures { IfOk result (ReplaysFile (R.remaining input.old) (R.remaining input.new) questions.new answers.old expected.new) }
+    ensures { IfOk result (ReplaysFile (R.remaining input.old) (R.remaining input.new)
+        questions.new answers.old expected.new) }
 {
     let mut number = [0u8; 1];
     if !eingabe::fills(input, questions)? {
