@@ -1,6 +1,6 @@
 -- An input that was read whole, and one that is too long.
---   whole_rules = what was written for the bytes that were read was written for the input; for one that is too long nothing
---                 is to be written; two parts of places are as long
+--   whole_rules = what was written for the bytes that were read was written for the input; for one that is too long
+--                 nothing is to be written; two parts of places are as long
 use Rattle.std.proofs.Common.{◌≡◌, ◌∙◌, ℕ, ◌-◌, ◌%◌, ◌<◌, ◌≤◌, List, [], ◌++◌, length, take, slice_range}
 use Rattle.std.proofs.Common.{Option, Some, None, IfSome, Bool, true, false, ◌&&◌, refl, sym, ap, subst, arith}
 use Rattle.std.proofs.Common.{length-append, length-take-le, append-nil, leb, eqb, nat_eq, cond, if◌then◌else◌, ◌≢◌}
@@ -69,7 +69,8 @@ nothing :
 nothing true answers l m p e z = absurd (z (ap (λ p. p.0) e))
 nothing false answers l m p e z = refl
 
-module _ (l m : List ℕ) (p : ℕ × List ℕ) (h : length m ≡ length l) (e : p ≡ questions_reply (is_werktag BdewMaKo) l m) where
+module _ (l m : List ℕ) (p : ℕ × List ℕ) (h : length m ≡ length l)
+    (e : p ≡ questions_reply (is_werktag BdewMaKo) l m) where
   reply_is : p ≡ cond (is_file (length l) (length l)) (0, answers_to (is_werktag BdewMaKo) (questions_of l)) (9, m)
   unfolding questions_reply
   reply_is =

@@ -5,8 +5,8 @@ use Rattle.werktag.specs.declared.HolidayCalendar.TheVariants.{BdewMaKo}
 use Rattle.werktag.specs.Werktag.{is_werktag}
 use Rattle.antworten_frage.specs.Fragen.{questions_reply}
 
--- the call returns 0 for a file, and else 9; the answers are as long as the questions, and the call writes over all that
--- stood in their place
+-- the call returns 0 for a file, and else 9; the answers are as long as the questions, and replace what stood in their
+-- place
 unfoldable pub output_for : List ℕ → List ℕ
 output_for l =
     let r = questions_reply (is_werktag BdewMaKo) l l in

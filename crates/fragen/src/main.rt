@@ -31,8 +31,8 @@ fn answered<'a>(questions: &[u8], answers: &'a mut [u8]) -> &'a [u8]
     }
 }
 
-// Reads the input to its end, and writes what is to be written for it. After an error, of reading or of writing, nothing
-// is said of what was written.
+// Reads the input to its end, and writes what is to be written for it. After an error, nothing is said of what was
+// written.
 #[tactic(auto, using(crate::proofs::Whole::whole_rules))]
 fn answer_input<R: Read, W: Write>(
     input: &mut R,

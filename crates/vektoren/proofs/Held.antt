@@ -1,6 +1,6 @@
 -- A line that is being read.
---   IsHeld old now line n = n bytes were read since the bytes to come were old: none is a line end, and the place of the
---                           line begins with them, if it has room
+--   IsHeld old now line n = n bytes were read since the bytes to come were old: none is a line end, and the line's room
+--                           begins with them, if they fit
 --   held_rules            = none is read yet; one byte more is; the line ends; the input ends
 use Rattle.std.proofs.Common.{◌≡◌, ◌≢◌, ◌∙◌, ℕ, suc, ◌+◌, ◌<◌, ◌≤◌, List, [], ◌∷◌, ◌++◌, length, set, take}
 use Rattle.std.proofs.Common.{Option, Some, None, IsTrue, ◌↔◌, Bool, true, false, if◌then◌else◌, refl, sym, ap, subst}

@@ -2,17 +2,22 @@
 --   IsFilled old now list i = the first i numbers of the list are those whose bytes the bytes to come lost since old
 --   list_rules              = none is read yet; one number more is; all are
 --   portfolio_read          = a portfolio that was read whole comes to what the call leaves
-use Rattle.std.proofs.Common.{◌≡◌, ◌∙◌, ℕ, zero, suc, ◌+◌, ◌*◌, ◌<◌, ◌≤◌, List, [], ◌∷◌, ◌++◌, length, get_or, set, take}
-use Rattle.std.proofs.Common.{Option, Bool, true, false, IsTrue, ◌↔◌, if◌then◌else◌, MatchBool, refl, sym, ap, subst, arith, add-one, append-nil}
+--   next_none, next_long, next_read = so does the next: there is none, it is too long, it was read behind its head
+use Rattle.std.proofs.Common.{◌≡◌, ◌∙◌, ℕ, zero, suc, ◌+◌, ◌*◌, ◌<◌, ◌≤◌, List, [], ◌∷◌, ◌++◌, length, get_or, set}
+use Rattle.std.proofs.Common.{take, Option, Bool, true, false, IsTrue, ◌↔◌, if◌then◌else◌, MatchBool, refl, sym, ap}
+use Rattle.std.proofs.Common.{subst, arith, add-one, append-nil}
+use Rattle.std.proofs.Common.{◌⊎◌, inl, inr, Some, None, replicate, length-take-le}
 use Rattle.std.proofs.lemmas.Grind.{flat_map-append}
 use lib.Seq.{take_all, take-suc-set}
-use Rattle.std.specs.Io.KnownBytes.{Consumes}
+use Rattle.std.specs.Io.KnownBytes.{Consumes, IsAtEnd}
 use Rattle.std.proofs.KnownBytes.{Consumes-nil, Consumes-trans}
 use Rattle.zahlen.specs.LittleEndian.{le4, u32_from}
 use Rattle.zahlen.specs.Places.{u32_at}
 use Rattle.zahlen.proofs.RoundTrip.{Below, u32_bytes}
 use Rattle.zahlen.proofs.RoundTrip.Below.{none, more}
-use Rattle.wiedergabe.specs.declared.Replayed.TheVariants.{Equal, Different}
+use Rattle.wiedergabe.specs.declared.Replayed.{Replayed}
+use Rattle.wiedergabe.specs.declared.Replayed.TheVariants.{Equal, Different, Unreadable}
+use Rattle.vektoren_portfolio.specs.PortfolioCase.{IsPortfolioHead, ReplaysNextPortfolio}
 use Rattle.vektoren_portfolio.specs.PortfolioCase.{bytes_of_list, bytes_of_portfolio, LeavesAll, ReplaysPortfolio}
 
 pub record IsFilled (old now : Option (List ℕ)) (list : List ℕ) (i : ℕ) : Type 0 where
@@ -72,11 +77,82 @@ module _ (old a b c d new : Option (List ℕ)) (xs ys zs m l cs e : List ℕ) wh
 
   pub portfolio_read :
       Consumes old a (bytes_of_list xs) → Consumes a b (bytes_of_list ys) → Consumes b c l → length l ≡ 1 →
-      Consumes c d (bytes_of_list cs) → Consumes d new e → (equal : Bool) →
-      (IsTrue equal ↔ LeavesAll xs ys zs m (get_or l 0 0) cs e) →
-      ReplaysPortfolio old new xs ys zs m cs e (if equal then Equal else Different)
-  portfolio_read p q r h s t true k = (get_or l 0 0, whole p q r h s t, k.0 refl)
-  portfolio_read p q r h s t false k =
-      (get_or l 0 0, whole p q r h s t, λ x. let no : false ≡ true = k.1 x in cc)
+      Consumes c d (bytes_of_list cs) → Consumes d new e → zs ≡ replicate (length cs) 2863311530 →
+      m ≡ replicate (length e) 170 → (equal : Bool) → (IsTrue equal ↔ LeavesAll xs ys zs m (get_or l 0 0) cs e) →
+      ReplaysPortfolio old new xs ys cs e (if equal then Equal else Different)
+  portfolio_read p q r h s t i j true k = (
+    get_or l 0 0,
+    whole p q r h s t,
+    subst (λ zs. LeavesAll xs ys zs (replicate (length e) 170) (get_or l 0 0) cs e) i
+    (subst (λ m. LeavesAll xs ys zs m (get_or l 0 0) cs e) j (k.0 refl)),
+  )
+  portfolio_read p q r h s t i j false k = (
+    get_or l 0 0,
+    whole p q r h s t,
+    λ x.
+        let y = subst (λ m. LeavesAll xs ys zs m (get_or l 0 0) cs e) (sym j)
+            (subst (λ zs. LeavesAll xs ys zs (replicate (length e) 170) (get_or l 0 0) cs e) (sym i) x) in
+        let no : false ≡ true = k.1 y in cc,
+  )
+
+pub filled_as :
+    (m e f : List ℕ) (n x : ℕ) → m ≡ replicate n x → n ≡ length f → length e ≡ length f → m ≡ replicate (length e) x
+filled_as m e f n x i j k = i ∙ ap (λ n. replicate n x) (j ∙ sym k)
+
+module _ (old mid : Option (List ℕ)) (h : List ℕ) (n : ℕ) (sized : length h ≡ 16) (all : n ≡ 16)
+    (head : Consumes old mid (take n h)) where
+  begun : Consumes old mid h
+  begun = let front : take n h ≡ h = take_all n h (omega arith) in subst (Consumes old mid) front head
+
+  pub next_long :
+      (4100 < u32_at h 0) ⊎ (4100 < u32_at h 4) ⊎ (4100 < u32_at h 8) ⊎ (64 < u32_at h 12) →
+      ReplaysNextPortfolio old mid (Some Unreadable)
+  next_long long = inr (h, (sized, long), begun)
+
+  next_portfolio :
+      (new : Option (List ℕ)) (xs ys cs e : List ℕ) (r : Replayed) → IsPortfolioHead h xs ys cs e →
+      ReplaysPortfolio mid new xs ys cs e r → ReplaysNextPortfolio old new (Some r)
+  next_portfolio new xs ys cs e Equal i p =
+      (h, xs, ys, p.0, cs, e, i, Consumes-trans old mid new h (bytes_of_portfolio xs ys p.0 cs e) begun p.1, p.2)
+  next_portfolio new xs ys cs e Different i p =
+      (h, xs, ys, p.0, cs, e, i, Consumes-trans old mid new h (bytes_of_portfolio xs ys p.0 cs e) begun p.1, p.2)
+  next_portfolio new xs ys cs e Unreadable i p = inl p
+
+  lent :
+      (xs l : List ℕ) (k place : ℕ) → k ≡ u32_at h place → k ≤ length l → length xs ≡ length (take k l) →
+      u32_at h place ≡ length xs
+  lent xs l k place i j e = sym i ∙ sym (e ∙ length-take-le k l j)
+
+  pub next_read :
+      (new : Option (List ℕ)) (a b c d : ℕ) (from to counts answer xs ys cs e : List ℕ) (r : Replayed) →
+      a ≡ u32_at h 0 → b ≡ u32_at h 4 → c ≡ u32_at h 8 → d ≡ u32_at h 12 →
+      a ≤ length from → b ≤ length to → c ≤ length counts → d ≤ length answer →
+      length xs ≡ length (take a from) → length ys ≡ length (take b to) →
+      length cs ≡ length (take c counts) → length e ≡ length (take d answer) →
+      ReplaysPortfolio mid new xs ys cs e r → ReplaysNextPortfolio old new (Some r)
+  next_read new a b c d from to counts answer xs ys cs e r ia ib ic id ja jb jc jd ka kb kc kd p =
+      next_portfolio new xs ys cs e r (
+        sized,
+        lent xs from a 0 ia ja ka,
+        lent ys to b 4 ib jb kb,
+        lent cs counts c 8 ic jc kc,
+        lent e answer d 12 id jd kd,
+      ) p
+
+all_come : (old new : Option (List ℕ)) → Consumes old new [] → IsAtEnd new → IsAtEnd old
+all_come None new h e = tt
+all_come (Some xs) None h e = absurd h
+all_come (Some xs) (Some ys) h e = h ∙ e
+
+pub next_none :
+    (old new : Option (List ℕ)) (h : List ℕ) (n : ℕ) → n ≡ 0 → Consumes old new (take n h) →
+    (n < length h → IsAtEnd new) → 0 < length h → IsAtEnd old
+next_none old new h n z c e l =
+    let first : take n h ≡ [] = rw z refl in
+    all_come old new (subst (Consumes old new) first c) (e (omega arith))
 
 pub ruleset list_rules = (filled_begin, filled_more, filled_all)
+
+pub ruleset portfolio_rules = (portfolio_read, filled_as)
+
+pub ruleset next_rules = (next_none, next_long)

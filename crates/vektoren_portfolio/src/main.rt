@@ -7,10 +7,11 @@
 // portfolio, or has one longer than any here, counts as one that differs, and nothing behind it is read.
 #![tactic(auto)]
 
-ghost use Rattle.std.specs.Prelude.{◌≡◌, ◌↔◌, IsTrue, IfOk, MatchBool};
+ghost use Rattle.std.specs.Prelude.{◌≡◌, ◌↔◌, length, IsTrue, IfOk, MatchBool};
 ghost use Rattle.std.specs.Io.KnownBytes.{Consumes, IsAtEnd};
 ghost use Rattle.zahlen.specs.LittleEndian.{le4};
 ghost use Rattle.vektoren_portfolio.specs.PortfolioCase.{bytes_of_list, LeavesAll, ReplaysPortfolio};
+ghost use Rattle.vektoren_portfolio.specs.PortfolioCase.{ReplaysNextPortfolio};
 
 use std::io;
 use std::io::Read;
@@ -74,7 +75,7 @@ fn is_expected(
 }
 
 // Reads a portfolio into lists of its lengths, asks for its counts and compares.
-#[tactic(auto, using(crate::proofs::Read::portfolio_read))]
+#[tactic(auto, using(crate::proofs::Read::portfolio_rules))]
 fn replay_portfolio<R: Read>(
     input: &mut R,
     from: &mut [u32],
@@ -84,8 +85,10 @@ fn replay_portfolio<R: Read>(
     expected_counts: &mut [u32],
     expected: &mut [u8],
 ) -> io::Result<Replayed>
+    requires counts { length counts.old ≡ length expected_counts.old }
+    requires answer { length answer.old ≡ length expected.old }
     ensures { IfOk result (ReplaysPortfolio (R.remaining input.old) (R.remaining input.new)
-        from.new to.new counts.old answer.old expected_counts.new expected.new) }
+        from.new to.new expected_counts.new expected.new) }
 {
     let mut number = [0u8; 1];
     if !fills_numbers(input, from)? {
@@ -103,6 +106,8 @@ fn replay_portfolio<R: Read>(
     if !eingabe::fills(input, expected)? {
         return Ok(Replayed::Unreadable);
     }
+    counts.fill(UNWRITTEN_ENTRY);
+    answer.fill(UNWRITTEN);
     let equal = is_expected(
         from,
         to,
@@ -115,8 +120,20 @@ fn replay_portfolio<R: Read>(
     Ok(Replayed::from(equal))
 }
 
-// Reads the four lengths of the next portfolio, and then the portfolio.
-fn replay_next(input: &mut impl Read) -> io::Result<Option<Replayed>> {
+// Reads the four lengths of the next portfolio, and then the portfolio, into places for its lists, its answer and what
+// is expected.
+#[tactic(auto, using(crate::proofs::Read::next_rules))]
+fn replay_next<R: Read>(
+    input: &mut R,
+    from: &mut [u32; MOST_ENTRIES],
+    to: &mut [u32; MOST_ENTRIES],
+    counts: &mut [u32; MOST_ENTRIES],
+    answer: &mut [u8; MOST_BYTES],
+    expected_counts: &mut [u32; MOST_ENTRIES],
+    expected: &mut [u8; MOST_BYTES],
+) -> io::Result<Option<Replayed>>
+    ensures { IfOk result (ReplaysNextPortfolio (R.remaining input.old) (R.remaining input.new)) }
+{
     // `vektoren_fragen` begins alike, with a shorter head: a function for both would have three outcomes to tell, and
     // be no shorter.
     let mut head = [0u8; HEAD_BYTES];
@@ -131,28 +148,43 @@ fn replay_next(input: &mut impl Read) -> io::Result<Option<Replayed>> {
     let second = zahlen::u32_at(&head, 4) as usize;
     let third = zahlen::u32_at(&head, 8) as usize;
     let lent = zahlen::u32_at(&head, 12) as usize;
-    let mut from = [0u32; MOST_ENTRIES];
-    let mut to = [0u32; MOST_ENTRIES];
-    let mut counts = [UNWRITTEN_ENTRY; MOST_ENTRIES];
-    let mut answer = [UNWRITTEN; MOST_BYTES];
-    let mut expected_counts = [0u32; MOST_ENTRIES];
-    let mut expected = [0u8; MOST_BYTES];
-    let (Some(from), Some(to), Some(counts), Some(answer), Some(expected_counts), Some(expected)) =
-        (
-            from.get_mut(..first),
-            to.get_mut(..second),
-            counts.get_mut(..third),
-            answer.get_mut(..lent),
-            expected_counts.get_mut(..third),
-            expected.get_mut(..lent),
-        ) else {
+    if MOST_ENTRIES < first || MOST_ENTRIES < second {
         return Ok(Some(Replayed::Unreadable));
-    };
-    replay_portfolio(input, from, to, counts, answer, expected_counts, expected).map(Some)
+    }
+    if MOST_ENTRIES < third || MOST_BYTES < lent {
+        return Ok(Some(Replayed::Unreadable));
+    }
+    let case = replay_portfolio(
+        input,
+        &mut from[..first],
+        &mut to[..second],
+        &mut counts[..third],
+        &mut answer[..lent],
+        &mut expected_counts[..third],
+        &mut expected[..lent],
+    )?;
+    Ok(Some(case))
 }
 
 fn main(rt: HostRuntime) -> io::Result<()> {
     let mut input = rt.stdin();
-    let counts = wiedergabe::replay_all(&rt, || replay_next(&mut input))?;
-    println!(rt; "{} portfolios, {} equal", counts.total, counts.equal)
+    let mut from = [0u32; MOST_ENTRIES];
+    let mut to = [0u32; MOST_ENTRIES];
+    let mut counts = [0u32; MOST_ENTRIES];
+    let mut answer = [0u8; MOST_BYTES];
+    let mut expected_counts = [0u32; MOST_ENTRIES];
+    let mut expected = [0u8; MOST_BYTES];
+    let replayed = wiedergabe::replay_all(
+        &rt,
+        || replay_next(
+            &mut input,
+            &mut from,
+            &mut to,
+            &mut counts,
+            &mut answer,
+            &mut expected_counts,
+            &mut expected,
+        ),
+    )?;
+    println!(rt; "{} portfolios, {} equal", replayed.total, replayed.equal)
 }
