@@ -3,7 +3,7 @@
 --   list_rules              = none is read yet; one number more is; all are
 --   portfolio_read          = a portfolio that was read whole comes to what the call leaves
 --   next_none, next_long, next_read = so does the next: there is none, it is too long, it was read behind its head
-use Rattle.std.proofs.Common.{◌≡◌, ◌∙◌, ℕ, zero, suc, ◌+◌, ◌*◌, ◌<◌, ◌≤◌, List, [], ◌∷◌, ◌++◌, length, get_or, set}
+use Rattle.std.proofs.Common.{◌≡◌, ◌∙◌, ℕ, ◌+◌, ◌<◌, ◌≤◌, List, [], ◌∷◌, ◌++◌, length, get_or, set}
 use Rattle.std.proofs.Common.{take, Option, Bool, true, false, IsTrue, ◌↔◌, if◌then◌else◌, MatchBool, refl, sym, ap}
 use Rattle.std.proofs.Common.{subst, arith, add-one, append-nil}
 use Rattle.std.proofs.Common.{◌⊎◌, inl, inr, Some, None, replicate, length-take-le}
@@ -11,9 +11,9 @@ use Rattle.std.proofs.lemmas.Grind.{flat_map-append}
 use lib.Seq.{take_all, take-suc-set}
 use Rattle.std.specs.Io.KnownBytes.{Consumes, IsAtEnd}
 use Rattle.std.proofs.KnownBytes.{Consumes-nil, Consumes-trans}
-use Rattle.zahlen.specs.LittleEndian.{le4, u32_from}
+use Rattle.zahlen.specs.LittleEndian.{le4}
 use Rattle.zahlen.specs.Places.{u32_at}
-use Rattle.zahlen.proofs.RoundTrip.{Below, u32_bytes}
+use Rattle.zahlen.proofs.RoundTrip.{u32_bytes}
 use Rattle.zahlen.proofs.RoundTrip.Below.{none, more}
 use Rattle.wiedergabe.specs.declared.Replayed.{Replayed}
 use Rattle.wiedergabe.specs.declared.Replayed.TheVariants.{Equal, Different, Unreadable}
@@ -84,14 +84,14 @@ module _ (old a b c d new : Option (List ℕ)) (xs ys zs m l cs e : List ℕ) wh
     get_or l 0 0,
     whole p q r h s t,
     subst (λ zs. LeavesAll xs ys zs (replicate (length e) 170) (get_or l 0 0) cs e) i
-    (subst (λ m. LeavesAll xs ys zs m (get_or l 0 0) cs e) j (k.0 refl)),
+        (subst (λ m. LeavesAll xs ys zs m (get_or l 0 0) cs e) j (k.0 refl)),
   )
   portfolio_read p q r h s t i j false k = (
     get_or l 0 0,
     whole p q r h s t,
     λ x.
         let y = subst (λ m. LeavesAll xs ys zs m (get_or l 0 0) cs e) (sym j)
-            (subst (λ zs. LeavesAll xs ys zs (replicate (length e) 170) (get_or l 0 0) cs e) (sym i) x) in
+        (subst (λ zs. LeavesAll xs ys zs (replicate (length e) 170) (get_or l 0 0) cs e) (sym i) x) in
         let no : false ≡ true = k.1 y in cc,
   )
 

@@ -1,5 +1,4 @@
 -- The numbers before the present one are read.
-use Rattle.std.proofs.Common.{◌≡◌, length}
 use Rattle.vektoren_portfolio.proofs.Read.{IsFilled}
 use Rattle.vektoren_portfolio.proofs.fills_numbers.Given as goal
 
