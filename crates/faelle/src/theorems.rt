@@ -44,6 +44,7 @@ pub fn call_all() {
     spannen::named_date();
     spannen::span_is_sharp();
     spannen::late_verdict();
+    spannen::months_before();
     spannen::verdict_margin();
     zahlen::theorems::written_is_read_back();
     zahlen::theorems::read_is_written_back();

@@ -1,1 +1,4 @@
 pub mod Rules
+pub mod NoCall
+pub mod Blocks
+pub mod Held

@@ -7,6 +7,12 @@
 // portfolio, or has one longer than any here, counts as one that differs, and nothing behind it is read.
 #![tactic(auto)]
 
+ghost use Rattle.std.specs.Prelude.{◌≡◌, ◌↔◌, length, IsTrue, IfOk, MatchBool};
+ghost use Rattle.std.specs.Io.KnownBytes.{Consumes, IsAtEnd};
+ghost use Rattle.zahlen.specs.LittleEndian.{le4};
+ghost use Rattle.vektoren_portfolio.specs.PortfolioCase.{bytes_of_list, LeavesAll, ReplaysPortfolio};
+ghost use Rattle.vektoren_portfolio.specs.PortfolioCase.{ReplaysNextPortfolio};
+
 use std::io;
 use std::io::Read;
 use wiedergabe::Replayed;
@@ -26,69 +32,108 @@ const UNWRITTEN_ENTRY: u32 = 2863311530;
 
 const UNWRITTEN: u8 = 170;
 
-// A number of a list, as it is stored.
-trait Stored: Copy + PartialEq {
-    // The number that the input goes on with; none where it ends before.
-    fn read(input: &mut impl Read) -> io::Result<Option<Self>>;
+// The number that is stored as four bytes.
+fn number_of(bytes: &[u8; 4]) -> u32
+    ensures { le4 result ≡ bytes.now }
+{
+    zahlen::u32_at(bytes, 0)
 }
 
-impl Stored for u8 {
-    fn read(input: &mut impl Read) -> io::Result<Option<u8>> {
-        let mut bytes = [0u8; 1];
-        let is_there = eingabe::fills(input, &mut bytes)?;
-        Ok(is_there.then_some(bytes[0]))
-    }
-}
-
-impl Stored for u32 {
-    fn read(input: &mut impl Read) -> io::Result<Option<u32>> {
+// Whether all of a list could be filled from the input, 4 bytes a number.
+#[tactic(auto, using(crate::proofs::Read::list_rules))]
+fn fills_numbers<R: Read>(input: &mut R, list: &mut [u32]) -> io::Result<bool>
+    ensures { IfOk result (λ full. MatchBool full
+        (Consumes (R.remaining input.old) (R.remaining input.new) (bytes_of_list list.new))
+        (IsAtEnd (R.remaining input.new))) }
+{
+    for i in 0..list.len() {
         let mut bytes = [0u8; 4];
-        let is_there = eingabe::fills(input, &mut bytes)?;
-        Ok(is_there.then_some(zahlen::u32_at(&bytes, 0)))
-    }
-}
-
-// Whether all of a list could be filled from the input.
-fn fills_list<T: Stored>(input: &mut impl Read, list: &mut [T]) -> io::Result<bool> {
-    for place in list.iter_mut() {
-        let Some(x) = T::read(input)? else {
+        if !eingabe::fills(input, &mut bytes)? {
             return Ok(false);
-        };
-        *place = x;
+        }
+        list[i] = number_of(&bytes);
     }
     Ok(true)
 }
 
-// Whether the input goes on with a list. As many numbers are read, also behind one that differs.
-fn is_next<T: Stored>(input: &mut impl Read, list: &[T]) -> io::Result<bool> {
-    let mut same = true;
-    for x in list {
-        same &= T::read(input)? == Some(*x);
-    }
-    Ok(same)
+// Asks for the counts, and returns whether the call returns the number that is expected, and leaves the counts and the
+// answer.
+fn is_expected(
+    from: &[u32],
+    to: &[u32],
+    counts: &mut [u32],
+    answer: &mut [u8],
+    number: u8,
+    expected_counts: &[u32],
+    expected: &[u8],
+) -> bool
+    ensures { IsTrue result ↔ LeavesAll from.now to.now counts.old answer.old number expected_counts.now expected.now }
+{
+    mako_fristen::mf_portfolio(from, to, counts, answer) == number
+        && *counts == *expected_counts
+        && *answer == *expected
 }
 
-// Reads the days of a portfolio into lists of its lengths, asks for its counts, and compares with what is expected. All
-// of that is read before it is told whether it differs: there the next portfolio begins.
-fn replay_portfolio(
-    input: &mut impl Read,
+// Reads a portfolio into lists of its lengths, asks for its counts and compares.
+#[tactic(auto, using(crate::proofs::Read::portfolio_rules))]
+fn replay_portfolio<R: Read>(
+    input: &mut R,
     from: &mut [u32],
     to: &mut [u32],
     counts: &mut [u32],
     answer: &mut [u8],
-) -> io::Result<Replayed> {
-    if !fills_list(input, from)? || !fills_list(input, to)? {
+    expected_counts: &mut [u32],
+    expected: &mut [u8],
+) -> io::Result<Replayed>
+    requires counts { length counts.old ≡ length expected_counts.old }
+    requires answer { length answer.old ≡ length expected.old }
+    ensures { IfOk result (ReplaysPortfolio (R.remaining input.old) (R.remaining input.new)
+        from.new to.new expected_counts.new expected.new) }
+{
+    let mut number = [0u8; 1];
+    if !fills_numbers(input, from)? {
         return Ok(Replayed::Unreadable);
     }
-    let number = mako_fristen::mf_portfolio(from, to, counts, answer);
-    let same_number = is_next(input, &[number])?;
-    let same_counts = is_next(input, counts)?;
-    let same_answer = is_next(input, answer)?;
-    Ok(Replayed::from(same_number && same_counts && same_answer))
+    if !fills_numbers(input, to)? {
+        return Ok(Replayed::Unreadable);
+    }
+    if !eingabe::fills(input, &mut number)? {
+        return Ok(Replayed::Unreadable);
+    }
+    if !fills_numbers(input, expected_counts)? {
+        return Ok(Replayed::Unreadable);
+    }
+    if !eingabe::fills(input, expected)? {
+        return Ok(Replayed::Unreadable);
+    }
+    counts.fill(UNWRITTEN_ENTRY);
+    answer.fill(UNWRITTEN);
+    let equal = is_expected(
+        from,
+        to,
+        counts,
+        answer,
+        number[0],
+        expected_counts,
+        expected,
+    );
+    Ok(Replayed::from(equal))
 }
 
-// Reads the four lengths of the next portfolio, and then the portfolio.
-fn replay_next(input: &mut impl Read) -> io::Result<Option<Replayed>> {
+// Reads the four lengths of the next portfolio, and then the portfolio, into places for its lists, its answer and what
+// is expected.
+#[tactic(auto, using(crate::proofs::Read::next_rules))]
+fn replay_next<R: Read>(
+    input: &mut R,
+    from: &mut [u32; MOST_ENTRIES],
+    to: &mut [u32; MOST_ENTRIES],
+    counts: &mut [u32; MOST_ENTRIES],
+    answer: &mut [u8; MOST_BYTES],
+    expected_counts: &mut [u32; MOST_ENTRIES],
+    expected: &mut [u8; MOST_BYTES],
+) -> io::Result<Option<Replayed>>
+    ensures { IfOk result (ReplaysNextPortfolio (R.remaining input.old) (R.remaining input.new)) }
+{
     // `vektoren_fragen` begins alike, with a shorter head: a function for both would have three outcomes to tell, and
     // be no shorter.
     let mut head = [0u8; HEAD_BYTES];
@@ -103,23 +148,43 @@ fn replay_next(input: &mut impl Read) -> io::Result<Option<Replayed>> {
     let second = zahlen::u32_at(&head, 4) as usize;
     let third = zahlen::u32_at(&head, 8) as usize;
     let lent = zahlen::u32_at(&head, 12) as usize;
-    let mut from = [0u32; MOST_ENTRIES];
-    let mut to = [0u32; MOST_ENTRIES];
-    let mut counts = [UNWRITTEN_ENTRY; MOST_ENTRIES];
-    let mut answer = [UNWRITTEN; MOST_BYTES];
-    let (Some(from), Some(to), Some(counts), Some(answer)) = (
-        from.get_mut(..first),
-        to.get_mut(..second),
-        counts.get_mut(..third),
-        answer.get_mut(..lent),
-    ) else {
+    if MOST_ENTRIES < first || MOST_ENTRIES < second {
         return Ok(Some(Replayed::Unreadable));
-    };
-    replay_portfolio(input, from, to, counts, answer).map(Some)
+    }
+    if MOST_ENTRIES < third || MOST_BYTES < lent {
+        return Ok(Some(Replayed::Unreadable));
+    }
+    let case = replay_portfolio(
+        input,
+        &mut from[..first],
+        &mut to[..second],
+        &mut counts[..third],
+        &mut answer[..lent],
+        &mut expected_counts[..third],
+        &mut expected[..lent],
+    )?;
+    Ok(Some(case))
 }
 
 fn main(rt: HostRuntime) -> io::Result<()> {
     let mut input = rt.stdin();
-    let counts = wiedergabe::replay_all(&rt, || replay_next(&mut input))?;
-    println!(rt; "{} portfolios, {} equal", counts.total, counts.equal)
+    let mut from = [0u32; MOST_ENTRIES];
+    let mut to = [0u32; MOST_ENTRIES];
+    let mut counts = [0u32; MOST_ENTRIES];
+    let mut answer = [0u8; MOST_BYTES];
+    let mut expected_counts = [0u32; MOST_ENTRIES];
+    let mut expected = [0u8; MOST_BYTES];
+    let replayed = wiedergabe::replay_all(
+        &rt,
+        || replay_next(
+            &mut input,
+            &mut from,
+            &mut to,
+            &mut counts,
+            &mut answer,
+            &mut expected_counts,
+            &mut expected,
+        ),
+    )?;
+    println!(rt; "{} portfolios, {} equal", replayed.total, replayed.equal)
 }
