@@ -2,4 +2,4 @@ use Rattle.faelle.proofs.Cases.{cases}
 use Rattle.faelle.proofs.theorems.cases_a_to_l.Goals as goal
 
 pub returns : goal.returns
-returns c = cases
+returns c = record { table = cases }
