@@ -45,20 +45,16 @@ pub fn never_absent()
 {}
 
 /// Theorem: an instant lies in the window of a Formatumstellung exactly if the Berlin clock shows a time of it, and in
-/// one of a year's two windows at most.
+/// one of a year's two windows at most. The tolerance of a year moves an instant in the window of 1 April or of
+/// 1 October of that year to the end of that window, and leaves an instant in neither.
 pub fn window()
     ensures shown { WindowIsShown }
     ensures other_days { OtherDaysAreOutside }
     ensures days { EveryYearHasWindowDays }
     ensures apart { WindowsAreApart }
-{}
-
-/// Theorem: the tolerance of a year moves an instant in the window of 1 April or of 1 October of that year to the end
-/// of the window, and leaves an instant in neither.
-pub fn tolerance_of_a_year()
-    ensures spring { ToleranceMovesSpring }
-    ensures autumn { ToleranceMovesAutumn }
-    ensures neither { ToleranceLeavesOthers }
+    ensures tolerance_in_spring { ToleranceMovesSpring }
+    ensures tolerance_in_autumn { ToleranceMovesAutumn }
+    ensures tolerance_in_neither { ToleranceLeavesOthers }
 {}
 
 /// Theorem: version one of the CONTRL rule moves what is due, before the tolerance, in the window of 1 April or of
