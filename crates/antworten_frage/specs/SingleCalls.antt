@@ -2,8 +2,8 @@
 -- file, gets the 32 bytes that the call leaves in an answer of its own. It holds for any test of a day.
 --   Stands questions answers place question   questions and answers are a file, whose record at the place, counted from
 --                        0, is the question's
---   Gets is_open questions answers place answer   what the file's answers hold at the place is what a call that answers
---                        so leaves in any slice of 32 bytes
+--   Gets is_open questions answers place answer   at the place the file's answers hold what a call that answers so
+--                        leaves in any slice of 32 bytes
 --   AnsweredAs question answer   so it is wherever the question stands in a file, if its fields fit their bytes
 -- What a call does not use may be anything in the record:
 --   ContrlAsCall         a CONTRL, operation 0, which uses no counts and no dates

@@ -6,8 +6,8 @@ ghost use Rattle.antworten_frage.specs.FileAnswers.{AnswersAreAsLong, AnswerStan
 ghost use Rattle.antworten_frage.specs.FileAnswers.{SecondsHaveClock, NoClockFromADayOn};
 ghost use Rattle.antworten_frage.specs.OutsideValues.{FileOfSeven};
 
-/// Theorem: a question of a file is answered as the single call is that it stands for, whatever stands in what that
-/// call does not use.
+/// Theorem: a question of a file gets the answer of the single call that it stands for, whatever the record holds in
+/// fields that the call does not use.
 pub fn answered_as_call()
     ensures contrl { ContrlAsCall }
     ensures frist { FristAsCall }
@@ -23,14 +23,15 @@ pub fn answers_in_order()
     ensures place { AnswerStandsAtPlace }
 {}
 
-/// Theorem: a clock and the seconds that a question has for it are given by each other.
+/// Theorem: the seconds that a question has for a clock give that clock, and up to 86,399 any seconds give the clock of
+/// their hours, minutes and seconds. From 86,400 on there is none.
 pub fn clock_in_seconds()
     ensures back { ClockFromItsSeconds }
     ensures parts { SecondsHaveClock }
     ensures none { NoClockFromADayOn }
 {}
 
-/// Theorem: seven questions, with values from outside, get the answers that such values have.
+/// Theorem: seven questions get the answers that are known for them from outside.
 pub fn outside_values()
     ensures file { FileOfSeven }
 {}

@@ -3,7 +3,7 @@
 ghost use Rattle.antworten_frist.specs.Versions.{CallsAgreeWithVersions};
 
 /// Theorem: the call for a CONTRL that takes a change day answers what the call without one does, wherever both
-/// versions of the rule agree. Where they do says `fristen::theorems::versions_agree`.
+/// versions of the rule agree. `fristen::theorems::versions_agree` says where they do.
 #[tactic(auto, unfolding(crate::specs::Frist::contrl_due_at_answer, crate::specs::Frist::contrl_due_at_change_answer))]
 pub fn calls_agree()
     ensures agree { CallsAgreeWithVersions }

@@ -4,8 +4,8 @@ ghost use Rattle.antworten_portfolio.specs.SingleCount.{PairHasSingleCount, Plac
 ghost use Rattle.antworten_portfolio.specs.OutsideValues.{NinePairsAnswered, UnequalListsRefused};
 ghost use Rattle.antworten_portfolio.specs.OutsideValues.{ShortAnswerUntouched};
 
-/// Theorem: each count of a portfolio is the one that the single call answers, and the number at the place of a pair
-/// out of range is no count.
+/// Theorem: each count of a portfolio is the one that the single call answers. It is at most 330,180, so the
+/// 4,294,967,295 at the place of a pair out of range is no count.
 pub fn single_count()
     ensures pair { PairHasSingleCount }
     ensures place { PlaceHasSingleCount }

@@ -3,10 +3,10 @@
 -- nanoseconds, 20 to 31 three words of 4 bytes. All are little-endian. An answer is `Ok`, a refusal `Err`.
 --   AnswerHas32Bytes        an answer has 32 bytes, a refusal too
 --   AnswerBytesFit          each byte of an answer is below 256, if its kind is
---   RefusalBytesFit         and so is each of a refusal
+--   RefusalBytesFit         each byte of a refusal is below 256
 --   AnswerBeginsWithZero    byte 0 of an answer is 0
---   RefusalBeginsWithNumber   that of a refusal is its number
---   RefusalIsNumberAlone    and bytes 1 to 31 of a refusal are zero
+--   RefusalBeginsWithNumber   byte 0 of a refusal is its number
+--   RefusalIsNumberAlone    bytes 1 to 31 of a refusal are zero
 -- Of an answer, where the field fits its bytes:
 --   KindInByte1             the kind is byte 1
 --   ZeroInBytes2And3        bytes 2 and 3 are zero
@@ -19,8 +19,8 @@
 -- A date is a word, and the margin of a verdict is the third word of its answer, as a signed number:
 --   DateWordBytes           the bytes of a date are those of its year, 2 bytes, its month and its day
 --   MarginFromByte28        the margin is read from bytes 28 to 31
---   NoMarginBesideKindAlone   which give 0 in an answer that is a kind alone, as where there is no shape
---   NoMarginInRefusal       and in a refusal
+--   NoMarginBesideKindAlone   in an answer that is a kind alone, as where there is no shape, these bytes give 0
+--   NoMarginInRefusal       in a refusal they give 0 too
 use Rattle.std.specs.Prelude.{ℕ, ◌<◌, ◌≡◌, [], ◌∷◌, ◌++◌, length, replicate, slice_get, All, ℤ, pos, FitsSigned}
 use Rattle.std.specs.Prelude.{Option, Some, Result, Ok, Err}
 use Rattle.std.specs.Int.{w32, w64}

@@ -6,7 +6,8 @@ ghost use Rattle.antwortsatz.specs.Layout.{KindInByte1, ZeroInBytes2And3, CountF
 ghost use Rattle.antwortsatz.specs.Layout.{NanosFromByte16, Word20FromByte20, Word24FromByte24, Word28FromByte28};
 ghost use Rattle.antwortsatz.specs.Layout.{DateWordBytes, MarginFromByte28, NoMarginBesideKindAlone, NoMarginInRefusal};
 
-/// Theorem: an answer has 32 bytes, and the first tells a refusal, whose others are zero.
+/// Theorem: an answer has 32 bytes, and so has a refusal. The first is 0 in an answer and the refusal's number in a
+/// refusal, whose other bytes are zero.
 pub fn answer_bytes()
     ensures length { AnswerHas32Bytes }
     ensures answer_fits { AnswerBytesFit }
@@ -29,7 +30,7 @@ pub fn fields_are_read_back()
 {}
 
 /// Theorem: a date's bytes are its year, month and day; a verdict's margin is read back from bytes 28 to 31 of its
-/// answer, where a kind alone and a refusal have none.
+/// answer. In an answer that is a kind alone, and in a refusal, these bytes give 0.
 pub fn dates_and_margins()
     ensures date { DateWordBytes }
     ensures margin { MarginFromByte28 }

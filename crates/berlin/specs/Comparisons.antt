@@ -1,5 +1,5 @@
--- Instants are compared by what the Berlin clock shows at them: before a midnight, or before a full second that is
--- neither absent nor repeated, the clock shows an earlier time, and else it does not.
+-- Instants are compared by what the Berlin clock shows at them: before a midnight, or before a full second outside the
+-- hour from 02:00, the clock shows an earlier time, and from then on it does not.
 --   BeforeMidnightShowsEarlier     an instant is before a day's midnight exactly if the clock shows an earlier day
 --   BeforeFullSecondShowsEarlier   it is before a full second of a day exactly if the clock shows an earlier time, if
 --                                  that second does not lie from 02:00 to before 03:00

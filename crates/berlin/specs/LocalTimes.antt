@@ -6,10 +6,10 @@
 --   LimitsAreBerlinDays         an instant lies inside the limits exactly if its Berlin day is one of the calendar
 --   FoundIsEarliest             what is found for a time is the earliest instant that shows it, and that is found
 --   NotFoundIsNeverShown        none is found exactly if no instant shows the time
---   AbsentInMarch               that is so exactly from 02:00 to before 03:00 of the last Sunday of March
+--   AbsentInMarch               none is found exactly from 02:00 to before 03:00 of the last Sunday of March
 --   RepeatedInOctober           two show it exactly from 02:00 to before 03:00 of the last Sunday of October
 --   MarchSwitchIsSunday         the day in March on which the clock changes is a Sunday, weekday 6
---   OctoberSwitchIsSunday       and so is that in October
+--   OctoberSwitchIsSunday       the day in October on which it changes is a Sunday too
 use Rattle.std.specs.Prelude.{ℕ, ◌+◌, ◌<◌, ◌≤◌, ◌≡◌, ◌↔◌, Some, None}
 use Rattle.zaehlung.specs.Walk.{last}
 use Rattle.datum.specs.Calendar.{first_year, date_of, weekday}

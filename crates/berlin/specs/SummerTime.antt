@@ -1,5 +1,6 @@
 -- Summer time by the rule of Directive 2000/84/EC: Berlin is two hours ahead of UTC from the last Sunday of March 01:00
--- UTC to the last Sunday of October 01:00 UTC, and else one. Years are those of the calendar, 1996 to 2899.
+-- UTC to the last Sunday of October 01:00 UTC, and one hour at any other time. Years are those of the calendar, 1996 to
+-- 2899.
 --   SummerTimeIsTwoHours   the offset is two hours from a year's one switch on and before its other
 --   OtherTimeIsOneHour     and one hour at each instant inside the limits that lies in no year's summer time
 use Rattle.std.specs.Prelude.{ℕ, ◌<◌, ◌≤◌, ◌≡◌}

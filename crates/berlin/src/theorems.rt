@@ -10,14 +10,14 @@ ghost use Rattle.berlin.specs.OutsideValues.{SwitchValues, ClockValues, Beginnin
 ghost use Rattle.berlin.specs.OutsideValues.{BerlinDayValues};
 
 /// Theorem: Berlin is two hours ahead of UTC from the last Sunday of March 01:00 UTC to the last Sunday of October
-/// 01:00 UTC, and else one.
+/// 01:00 UTC, and one hour at any other time.
 pub fn summer_time()
     ensures summer { SummerTimeIsTwoHours }
     ensures other { OtherTimeIsOneHour }
 {}
 
-/// Theorem: a local time means the earliest instant that shows it, if one does. Absent is only the hour from 02:00 on
-/// of the last Sunday of March, and repeated only that of the last Sunday of October.
+/// Theorem: a local time means the earliest instant that shows it, if one does. Absent is exactly the hour from 02:00
+/// of the last Sunday of March, and repeated exactly that of the last Sunday of October.
 pub fn local_time()
     ensures limits { LimitsAreBerlinDays }
     ensures found { FoundIsEarliest }
@@ -38,8 +38,8 @@ pub fn days_tile()
     ensures end_inside { EndIsInDay }
 {}
 
-/// Theorem: an instant is before a midnight, or before a full second that is neither absent nor repeated, exactly if
-/// the Berlin clock shows an earlier time.
+/// Theorem: an instant is before a midnight, or before a full second outside the hour from 02:00, exactly if the Berlin
+/// clock shows an earlier time.
 pub fn comparisons()
     ensures midnight { BeforeMidnightShowsEarlier }
     ensures full_second { BeforeFullSecondShowsEarlier }

@@ -8,7 +8,7 @@
 --   SubtractedMonth, SubtractedDay, SubtractedIsDate   the same of what lies n months before a date
 --   SubtractedLeaves     nothing lies n months before a date of the range exactly if that month is before January 1996
 --   LaterStaysInside     what lies n months after a day of the calendar is a day of it
---   EarlierStaysInside   and so is what lies n months before it
+--   EarlierStaysInside   what lies n months before a day of the calendar is one too
 -- M by the date that lies n months later:
 --   MKeepsDay            where its day of the month isn't cut, M is the index of that date
 --   MOfCutDay            where it is cut, M is the index of the first of the next month, or leaves the calendar with it

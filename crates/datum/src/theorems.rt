@@ -16,8 +16,8 @@ pub fn date_and_index()
     ensures no_index { NoIndexIfInvalid }
 {}
 
-/// Theorem: n months after a date, or before it, comes the same day of that month, or the month's last where the month
-/// lacks the day, BGB §188; and none exactly if the month lies outside of the calendar.
+/// Theorem: what lies n months after a date, or before it, has the date's day of the month, or is the month's last day
+/// where the month lacks that day, BGB §188. There is none exactly if its month lies outside of the calendar.
 pub fn month_shifts()
     ensures added_month { AddedMonth }
     ensures added_day { AddedDay }
@@ -32,7 +32,7 @@ pub fn month_shifts()
 {}
 
 /// Theorem: M of a day is the day n months later, if its day of the month isn't cut; if it is cut to the month's last,
-/// M is the first of the next month.
+/// M is the first of the next month. M leaves the calendar where these do.
 pub fn month_or_first_of_next()
     ensures kept { MKeepsDay }
     ensures cut { MOfCutDay }

@@ -2,15 +2,15 @@
 
 ghost use Rattle.fragesatz.specs.ReadBack.{QuestionReadBack, QuestionWrittenBack, QuestionHas32Bytes, FileByLengths};
 
-/// Theorem: a question and its 32 bytes are given by each other, and nothing of either is lost.
+/// Theorem: a question whose fields fit and its 32 bytes give each other, and nothing of either is lost.
 pub fn question_and_bytes()
     ensures read_back { QuestionReadBack }
     ensures written_back { QuestionWrittenBack }
     ensures length { QuestionHas32Bytes }
 {}
 
-/// Theorem: a file's questions are a multiple of 32 bytes, at most 65,536, and its answers as many; and all such
-/// lengths may be those of a file.
+/// Theorem: a file's questions are a multiple of 32 bytes, at most 65,536, and its answers are as many bytes; and any
+/// such lengths may be those of a file.
 pub fn file_lengths()
     ensures lengths { FileByLengths }
 {}

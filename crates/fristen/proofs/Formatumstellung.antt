@@ -2,11 +2,11 @@
 -- `contrl_due_at_change`, with the one of a change day d. o is the due instant before the tolerance, y its year. The
 -- statements stand in specs/.
 --   inside_shown shown_inside    o lies in a window exactly if the clock shows it
---   shut               it does not where the window ends by its Berlin day or begins after that
+--   shut               it lies in no window that ends by its Berlin day or begins after it
 --   days               the days of both windows, side by side
 --   on dates           their dates, which every year has
 --   apart              it lies in one at most
---   by_spring by_autumn by_none    version one
+--   by_spring by_autumn by_none    the tolerance of a year
 --   spring_only autumn_only        outside of the one window it has the other alone
 --   refused_when when_refused      version two is refused exactly if the due instant is outside, or a day beside the
 --                      change day
@@ -14,7 +14,8 @@
 --   agree              both versions agree exactly if o is not in the other window
 --   agree_inside       so they agree in the change day's window
 --   stays_in_other     in the other window version two leaves it as it is
---   untouched          in neither window version one does
+--   in_spring in_autumn untouched  by version one it is due at the end of its window, and in neither window it stays
+--   refused            version one is refused exactly if the due instant is outside
 --   moved stays        what is due in the change day's window is due when that ends, and all else when it is
 --   on_change_day      so what is due on the change day is moved
 --   days_away          and what is due on another day stays, but for the evening before
@@ -48,10 +49,10 @@ use Rattle.fristen.specs.Fristen.{window_opens, receipt_day, contrl_seconds, bef
 use Rattle.fristen.specs.Fristen.{day_on, in_window, toleranz, toleranz_in, formatumstellung_toleranz}
 use Rattle.fristen.specs.Fristen.{tolerated_due, contrl_due_at, contrl_due_at_change}
 use Rattle.fristen.specs.Windows.{ShowsWindow, spring_window, autumn_window, OtherDaysAreOutside}
-use Rattle.fristen.specs.Windows.{EveryYearHasWindowDays, WindowsAreApart, SpringDueMoves, AutumnDueMoves}
-use Rattle.fristen.specs.Windows.{OtherDueStays}
-use Rattle.fristen.specs.ChangeDay.{due_year, ChangeWindowDueMoves, ChangeWindowElseStays, ChangeDayDueMoves}
-use Rattle.fristen.specs.ChangeDay.{OtherDayDueStays}
+use Rattle.fristen.specs.Windows.{EveryYearHasWindowDays, WindowsAreApart, ToleranceMovesSpring, ToleranceMovesAutumn}
+use Rattle.fristen.specs.Windows.{ToleranceLeavesOthers}
+use Rattle.fristen.specs.VersionOne.{due_year, VersionOneRefusesIfOutside}
+use Rattle.fristen.specs.ChangeDay.{ChangeWindowDueMoves, ChangeWindowElseStays, ChangeDayDueMoves, OtherDayDueStays}
 
 opens_proper : ProperClock window_opens
 opens_proper = proper_clock _ (omega arith) (omega arith)
@@ -144,15 +145,15 @@ spring_ends y h k =
     not_shown (day_on y 9 30) (day_on y 10 2) (omega (arith, g)) g.final (berlin_midnight (day_on y 4 2))
     (λ s. omega (arith, g, s.0, e.shown))
 
-pub by_spring : SpringDueMoves
+pub by_spring : ToleranceMovesSpring
 unfolding toleranz_in
 by_spring y h k o e = rw (e, spring_ends y h k)
 
-pub by_autumn : AutumnDueMoves
+pub by_autumn : ToleranceMovesAutumn
 unfolding toleranz_in
 by_autumn y h k o e = grind (arith, common_steps, apart y h k o)
 
-pub by_none : OtherDueStays
+pub by_none : ToleranceLeavesOthers
 unfolding toleranz_in
 by_none y h k o e f = rw (e, f)
 
@@ -176,6 +177,15 @@ pub record TwoWindows (y : ℕ) (o : Moment) (d b c v w : ℕ) : Type 0 where
   pub this : in_window v w o ≡ false → toleranz_in y o ≡ toleranz b c o
   pub other : in_window v w o ≡ true → toleranz_in y o ≡ berlin_midnight w
 
+not_due :
+    (m : Moment) (a : ContrlAnlass) (t : Moment → Moment) → tolerated_due t (before_tolerance m a) ≡ Err Outside →
+    before_tolerance m a ≡ Err Outside
+not_due m a t e = grind (arith, common_steps)
+
+pub refused : VersionOneRefusesIfOutside
+unfolding contrl_due_at
+refused m a = (λ e. not_due m a formatumstellung_toleranz e, λ e. rw e refl)
+
 module _ (m : Moment) (a : ContrlAnlass) (d : ℕ) where
   by_change :
       1 ≤ d → d < last → contrl_due_at_change m a d ≡ tolerated_due (toleranz (d - 1) (suc d)) (before_tolerance m a)
@@ -187,10 +197,6 @@ module _ (m : Moment) (a : ContrlAnlass) (d : ℕ) where
   no_change (inl e) = rw e
   no_change (inr h) = grind (arith, common_steps, le-ltb d last h)
 
-  not_due :
-      (t : Moment → Moment) → tolerated_due t (before_tolerance m a) ≡ Err Outside → before_tolerance m a ≡ Err Outside
-  not_due t e = grind (arith, common_steps)
-
   pub refused_when :
       contrl_due_at_change m a d ≡ Err Outside → (before_tolerance m a ≡ Err Outside) ⊎ ((d ≡ 0) ⊎ (last ≤ d))
   refused_when e =
@@ -199,7 +205,7 @@ module _ (m : Moment) (a : ContrlAnlass) (d : ℕ) where
         | yes x ↦
             elim (dec_lt d last) [
               | no z ↦ inr (inr (omega arith))
-              | yes z ↦ inl (not_due (toleranz (d - 1) (suc d)) (sym (by_change x z) ∙ e))
+              | yes z ↦ inl (not_due m a (toleranz (d - 1) (suc d)) (sym (by_change x z) ∙ e))
             ]
       ]
 
@@ -310,6 +316,12 @@ module _ (m : Moment) (p : Proper m) (a : ContrlAnlass) (o : Moment) (e : before
         this = autumn_only y from to o;
         other = by_spring y from to o;
       }
+
+  pub in_spring : spring_window y o ≡ true → contrl_due_at m a ≡ Ok (berlin_midnight (day_on y 4 2))
+  in_spring s = version_one ∙ ap Ok (by_spring y from to o s)
+
+  pub in_autumn : autumn_window y o ≡ true → contrl_due_at m a ≡ Ok (berlin_midnight (day_on y 10 2))
+  in_autumn f = version_one ∙ ap Ok (by_autumn y from to o f)
 
   pub untouched : spring_window y o ≡ false → autumn_window y o ≡ false → contrl_due_at m a ≡ Ok o
   untouched s f = version_one ∙ ap Ok (by_none y from to o s f)

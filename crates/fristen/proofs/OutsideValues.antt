@@ -1,4 +1,4 @@
--- The definitions against values from outside: each side is computed. Which values they are says specs/.
+-- The definitions against values from outside: each side is computed. specs/ says which values they are.
 use mathlib.Core.Path.{refl}
 use Rattle.zaehlung.specs.Blocks.{start, at}
 use Rattle.zaehlung.specs.Walk.{day_after, up, add}

@@ -1,40 +1,30 @@
 -- Version two of the CONTRL rule takes the change day from the caller: its window runs from 18:00 of the day before to
 -- 00:00 of the day after, and there is no other. With a change day of 1 April or 1 October of the year in which a
 -- message is due before the tolerance, it is held against version one.
---   due_year due             = the year of the Berlin day of a due instant
---   OnDue P                  P holds of each receipt, its occasion, and when it is due before the tolerance
---   OnChangeDue P            and of each change day that has a day before and one after
+--   OnChangeDue P            P holds of each receipt, its occasion, when it is due before the tolerance, and each
+--                            change day that has a day before and one after
 -- Version two:
 --   ChangeIsRefusedIfOutside   refused as Outside exactly if it would be without the tolerance, or if the change day is
 --                            the calendar's first or last, or later
 --   ChangeWindowDueMoves     what is due in the change day's window is due at its end
---   ChangeWindowElseStays    and all else is due when it is
+--   ChangeWindowElseStays    what is due outside of that window stays
 --   ChangeDayDueMoves        so what is due on the change day is moved
 --   OtherDayDueStays         and what is due on another day stays, but for the day before
--- With a change day of 1 April or 1 October:
+-- With a change day of 1 April or 1 October of the year in which a message is due before the tolerance:
 --   AprilAgreesOffAutumn OctoberAgreesOffSpring     both versions agree exactly if the due instant is not in the other
 --                            window of version one
 --   AprilAgreesInSpring OctoberAgreesInAutumn       so they agree in the change day's window
 --   AprilLeavesAutumn OctoberLeavesSpring           in the other window version two leaves the due instant
---   AprilLeavesOutside OctoberLeavesOutside VersionOneLeavesOutside   and outside of both windows, either leaves it
+--   AprilLeavesOutside OctoberLeavesOutside         and in neither window it leaves it too, as version one does
 use Rattle.std.specs.Prelude.{ℕ, suc, ◌-◌, ◌<◌, ◌≤◌, ◌≡◌, ◌↔◌, ◌⊎◌, true, false, Ok, Err}
 use Rattle.zaehlung.specs.Walk.{last}
-use Rattle.datum.specs.Calendar.{date_of}
 use Rattle.berlin.specs.declared.Moment.{Moment}
 use Rattle.berlin.specs.Berlin.{berlin_date, berlin_midnight}
-use Rattle.berlin.specs.Inside.{Proper}
 use Rattle.fristen.specs.declared.ContrlAnlass.{ContrlAnlass}
 use Rattle.fristen.specs.declared.NoDue.TheVariants.{Outside}
 use Rattle.fristen.specs.Fristen.{before_tolerance, day_on, contrl_due_at, contrl_due_at_change}
 use Rattle.fristen.specs.Windows.{ShowsWindow, spring_window, autumn_window}
-
-abbrev pub due_year : Moment → ℕ
-due_year due = (date_of (berlin_date due)).year
-
-abbrev pub OnDue : (Moment → ContrlAnlass → Moment → Type 0) → Type 0
-OnDue P =
-    (received : Moment) (anlass : ContrlAnlass) (due : Moment) → Proper received →
-    before_tolerance received anlass ≡ Ok due → P received anlass due
+use Rattle.fristen.specs.VersionOne.{due_year, OnDue, OnDueOutside}
 
 abbrev pub OnChangeDue : (Moment → ContrlAnlass → Moment → ℕ → Type 0) → Type 0
 OnChangeDue P =
@@ -100,12 +90,6 @@ OctoberLeavesSpring =
     OnDue (λ received anlass due. spring_window (due_year due) due ≡ true →
     contrl_due_at_change received anlass (day_on (due_year due) 10 1) ≡ Ok due)
 
--- of an instant in neither window of its year
-abbrev pub OnDueOutside : (Moment → ContrlAnlass → Moment → Type 0) → Type 0
-OnDueOutside P =
-    OnDue (λ received anlass due. spring_window (due_year due) due ≡ false →
-    autumn_window (due_year due) due ≡ false → P received anlass due)
-
 abbrev pub AprilLeavesOutside : Type 0
 AprilLeavesOutside =
     OnDueOutside (λ received anlass due.
@@ -115,6 +99,3 @@ abbrev pub OctoberLeavesOutside : Type 0
 OctoberLeavesOutside =
     OnDueOutside (λ received anlass due.
     contrl_due_at_change received anlass (day_on (due_year due) 10 1) ≡ Ok due)
-
-abbrev pub VersionOneLeavesOutside : Type 0
-VersionOneLeavesOutside = OnDueOutside (λ received anlass due. contrl_due_at received anlass ≡ Ok due)

@@ -3,5 +3,6 @@ pub mod FristShape
 pub mod ByDate
 pub mod NeverAbsent
 pub mod Windows
+pub mod VersionOne
 pub mod ChangeDay
 pub mod OutsideValues

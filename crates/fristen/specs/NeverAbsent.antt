@@ -4,7 +4,7 @@
 --   SundaysAreShut is_open        no Sunday, which is weekday 6, passes the test
 --   WerktagShutsSundays           that is so of the day test of each holiday list
 --   MarchSwitchIsShut             on the last Sunday of March, on which the clock changes, there is no Werktag
---   OctoberSwitchIsShut           nor on that of October
+--   OctoberSwitchIsShut           on the last Sunday of October, on which it changes back, there is none
 --   OpenDayShowsEachClock         so on a Werktag no local time is absent
 -- Never Absent:
 --   ContrlIsNeverAbsent           a CONTRL; ContrlChangeIsNeverAbsent   with a change day too

@@ -1,17 +1,17 @@
--- The windows of a Formatumstellung, and version one of the CONTRL rule, which has two in each year: from 31 March and
--- 30 September 18:00 Berlin to 2 April and 2 October 00:00 (CONTRL AHB 1.0).
+-- The windows of a Formatumstellung, of which each year has two: from 31 March and 30 September 18:00 Berlin to 2 April
+-- and 2 October 00:00 (CONTRL AHB 1.0). And the tolerance of a year, which moves an instant in either to its end.
 --   ShowsWindow from to moment   at the moment the Berlin clock shows 18:00 of the day `from` or later, and no time of
 --                                the day `to` yet
 --   spring_window year moment    whether the moment lies in the window of 1 April; autumn_window, in that of 1 October
 --   WindowDays year              the days of both windows: 31 March, 1 and 2 April follow one another, and so do 30
 --                                September, 1 and 2 October, which are later and inside the calendar
 --   WindowIsShown                a moment lies in the window of two days exactly if the clock shows it
---   OtherDaysAreOutside          it does not where the window ends by its Berlin day or begins after that
+--   OtherDaysAreOutside          a moment is in no window that ends by its Berlin day or begins after it
 --   EveryYearHasWindowDays       each year of the calendar has the days of both windows
 --   WindowsAreApart              a moment in the window of 1 April is not in that of 1 October
---   SpringDueMoves               by version one, what is due in the window of 1 April is due on 2 April at 00:00
---   AutumnDueMoves               what is due in that of 1 October is due on 2 October at 00:00
---   OtherDueStays                and all else is due when it is
+--   ToleranceMovesSpring         the tolerance of a year moves a moment in its window of 1 April to 2 April 00:00
+--   ToleranceMovesAutumn         it moves a moment in its window of 1 October to 2 October 00:00
+--   ToleranceLeavesOthers        it leaves a moment in neither window
 use Rattle.std.specs.Prelude.{ℕ, suc, ◌+◌, ◌<◌, ◌≤◌, ◌≡◌, ◌≢◌, ◌↔◌, ◌⊎◌, Bool, true, false}
 use Rattle.zaehlung.specs.Walk.{last}
 use Rattle.datum.specs.Calendar.{first_year, last_year}
@@ -57,17 +57,17 @@ WindowsAreApart =
     (year : ℕ) → first_year ≤ year → year ≤ last_year → (moment : Moment) →
     spring_window year moment ≡ true → autumn_window year moment ≢ true
 
-abbrev pub SpringDueMoves : Type 0
-SpringDueMoves =
+abbrev pub ToleranceMovesSpring : Type 0
+ToleranceMovesSpring =
     (year : ℕ) → first_year ≤ year → year ≤ last_year → (moment : Moment) →
     spring_window year moment ≡ true → toleranz_in year moment ≡ berlin_midnight (day_on year 4 2)
 
-abbrev pub AutumnDueMoves : Type 0
-AutumnDueMoves =
+abbrev pub ToleranceMovesAutumn : Type 0
+ToleranceMovesAutumn =
     (year : ℕ) → first_year ≤ year → year ≤ last_year → (moment : Moment) →
     autumn_window year moment ≡ true → toleranz_in year moment ≡ berlin_midnight (day_on year 10 2)
 
-abbrev pub OtherDueStays : Type 0
-OtherDueStays =
+abbrev pub ToleranceLeavesOthers : Type 0
+ToleranceLeavesOthers =
     (year : ℕ) → first_year ≤ year → year ≤ last_year → (moment : Moment) →
     spring_window year moment ≡ false → autumn_window year moment ≡ false → toleranz_in year moment ≡ moment

@@ -7,18 +7,20 @@ ghost use Rattle.fristen.specs.NeverAbsent.{NthWerktagIsNeverAbsent, EndOfWerkta
 ghost use Rattle.fristen.specs.NeverAbsent.{WerktagAtIsNeverAbsent, EndOfWerktagShapeIsNeverAbsent};
 ghost use Rattle.fristen.specs.NeverAbsent.{SameDayIsNeverAbsent, SameDayAtIsAbsentIfUnshown};
 ghost use Rattle.fristen.specs.Windows.{WindowIsShown, OtherDaysAreOutside, EveryYearHasWindowDays, WindowsAreApart};
-ghost use Rattle.fristen.specs.Windows.{SpringDueMoves, AutumnDueMoves, OtherDueStays};
+ghost use Rattle.fristen.specs.Windows.{ToleranceMovesSpring, ToleranceMovesAutumn, ToleranceLeavesOthers};
+ghost use Rattle.fristen.specs.VersionOne.{VersionOneMovesSpring, VersionOneMovesAutumn, VersionOneLeavesOutside};
+ghost use Rattle.fristen.specs.VersionOne.{VersionOneRefusesIfOutside};
 ghost use Rattle.fristen.specs.ChangeDay.{ChangeIsRefusedIfOutside, ChangeWindowDueMoves, ChangeWindowElseStays};
 ghost use Rattle.fristen.specs.ChangeDay.{ChangeDayDueMoves, OtherDayDueStays, AprilAgreesOffAutumn};
 ghost use Rattle.fristen.specs.ChangeDay.{OctoberAgreesOffSpring, AprilAgreesInSpring, OctoberAgreesInAutumn};
 ghost use Rattle.fristen.specs.ChangeDay.{AprilLeavesAutumn, OctoberLeavesSpring, AprilLeavesOutside};
-ghost use Rattle.fristen.specs.ChangeDay.{OctoberLeavesOutside, VersionOneLeavesOutside};
+ghost use Rattle.fristen.specs.ChangeDay.{OctoberLeavesOutside};
 ghost use Rattle.fristen.specs.OutsideValues.{ContrlWindowValues, ContrlValues, ChangeWindowValues};
 ghost use Rattle.fristen.specs.OutsideValues.{SwitchSundayValues, ChangeEdgeValues, AperakStromValues};
 ghost use Rattle.fristen.specs.OutsideValues.{WerktagDueValues, GasProzessValues, AperakGasValues, AddedHoursValues};
 ghost use Rattle.fristen.specs.OutsideValues.{ShapeValues};
 
-/// Theorem: the clock changes on days that are no Werktage, so on a Werktag it shows every time.
+/// Theorem: no Sunday is a Werktag, nor a day on which the clock changes, so on a Werktag the clock shows every time.
 pub fn werktag_clocks()
     ensures sundays { WerktagShutsSundays }
     ensures march { MarchSwitchIsShut }
@@ -26,8 +28,8 @@ pub fn werktag_clocks()
     ensures shown { OpenDayShowsEachClock }
 {}
 
-/// Theorem: no due instant but that of `SameDayAt` is ever refused because no clock shows its time, and that one is
-/// exactly if none shows its time on the receipt day.
+/// Theorem: no due instant is ever refused because the clock doesn't show its time, but for that of `SameDayAt`: it is,
+/// exactly if the clock doesn't show its time on the receipt day. The test of a day is any that no Sunday passes.
 pub fn never_absent()
     ensures contrl { ContrlIsNeverAbsent }
     ensures contrl_change { ContrlChangeIsNeverAbsent }
@@ -43,23 +45,31 @@ pub fn never_absent()
 {}
 
 /// Theorem: an instant lies in the window of a Formatumstellung exactly if the Berlin clock shows a time of it, and in
-/// one of a year's two windows at most.
+/// one of a year's two windows at most. The tolerance of a year moves an instant in the window of 1 April or of
+/// 1 October of that year to the end of that window, and leaves an instant in neither.
 pub fn window()
     ensures shown { WindowIsShown }
     ensures other_days { OtherDaysAreOutside }
     ensures days { EveryYearHasWindowDays }
     ensures apart { WindowsAreApart }
+    ensures tolerance_in_spring { ToleranceMovesSpring }
+    ensures tolerance_in_autumn { ToleranceMovesAutumn }
+    ensures tolerance_in_neither { ToleranceLeavesOthers }
 {}
 
-/// Theorem: by version one of the CONTRL rule, what is due in the window of 1 April or of 1 October is due when that
-/// ends, and all else when it is.
+/// Theorem: version one of the CONTRL rule moves what is due, before the tolerance, in the window of 1 April or of
+/// 1 October of its year to the end of that window, and leaves what is due in neither. It refuses a message as Outside
+/// exactly if it would without the tolerance.
 pub fn formatumstellung()
-    ensures spring { SpringDueMoves }
-    ensures autumn { AutumnDueMoves }
-    ensures neither { OtherDueStays }
+    ensures spring { VersionOneMovesSpring }
+    ensures autumn { VersionOneMovesAutumn }
+    ensures neither { VersionOneLeavesOutside }
+    ensures refused { VersionOneRefusesIfOutside }
 {}
 
-/// Theorem: by version two, what is due in the window of the change day is due when that ends, and all else when it is.
+/// Theorem: version two moves what is due, before the tolerance, in the window of the change day to the end of that
+/// window, and leaves all else. It refuses a message as Outside exactly if it would without the tolerance, or if the
+/// calendar has no day before the change day or none after it.
 pub fn change_day()
     ensures refused { ChangeIsRefusedIfOutside }
     ensures moved { ChangeWindowDueMoves }
@@ -68,8 +78,9 @@ pub fn change_day()
     ensures days_away { OtherDayDueStays }
 {}
 
-/// Theorem: with a change day of 1 April or 1 October both versions agree, unless the message is due in the other
-/// window of version one.
+/// Theorem: with a change day of 1 April or 1 October of the year in which a message is due before the tolerance, both
+/// versions agree exactly if it is not due in the other window of version one. In that window, and in neither, version
+/// two leaves it.
 pub fn versions_agree()
     ensures april { AprilAgreesOffAutumn }
     ensures october { OctoberAgreesOffSpring }
@@ -79,7 +90,6 @@ pub fn versions_agree()
     ensures october_in_spring { OctoberLeavesSpring }
     ensures april_in_neither { AprilLeavesOutside }
     ensures october_in_neither { OctoberLeavesOutside }
-    ensures version_one_in_neither { VersionOneLeavesOutside }
 {}
 
 /// Theorem: the definitions give the due instants that the AHB and the GPKE name, at chosen receipts.

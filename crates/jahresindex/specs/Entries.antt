@@ -1,6 +1,6 @@
 -- The entries of the year index as they stand in the code, where a proof has no name for them. No reader need believe
--- them: that they are right is computed in proofs/Table.antt, and that the code has the same is shown where it reads
--- them.
+-- them: `jahresindex::theorems::year_index.entry` proves that they are right, and that the code has the same is shown
+-- where it reads them.
 --   entries = the 905 numbers
 -- Source: document 02, F-3.
 -- Assumes nothing.

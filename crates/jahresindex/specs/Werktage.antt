@@ -1,4 +1,4 @@
--- How many Werktage the calendar has. That it is so is `all_is` of proofs/Table.antt; nobody need believe it.
+-- How many Werktage the calendar has. `jahresindex::theorems::year_index.all` proves it; nobody need believe it.
 --   werktage = 222,031, the last entry of the year index
 -- Assumes nothing.
 use Rattle.std.specs.Prelude.{ℕ}

@@ -3,7 +3,8 @@
 ghost use Rattle.schritte.specs.TestedDays.{TestedAtMost732, NoneTestedUnlessLater};
 ghost use Rattle.schritte.specs.OutsideValues.{TestedOutside};
 
-/// Theorem: a count never tests more than 732 days, and none exactly if its second day isn't later.
+/// Theorem: a count between two days of the calendar never tests more than 732 days, and none exactly if the second
+/// isn't later.
 pub fn days_tested()
     ensures most { TestedAtMost732 }
     ensures none { NoneTestedUnlessLater }

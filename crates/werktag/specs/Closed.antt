@@ -13,7 +13,7 @@
 --   RuleOfBussUndBettag    of place 13, that it is the Wednesday from 16 to 22 November
 --   RuleOfFeast            of the six places from 14 on, that it lies at that place's offset from Easter Sunday
 -- And of all reasons:
---   TwentyIsNeverGiven     it is never that of Pfingstsonntag, which is a Sunday
+--   TwentyIsNeverGiven     of a day of the calendar, it is never that of Pfingstsonntag, which is a Sunday
 --   ReasonIsAtMost22       it is at most 22, for every calendar
 use Rattle.std.specs.Prelude.{ℕ, ◌+◌, ◌≤◌, ◌<◌, ◌≡◌, ◌≢◌, ◌↔◌, Bool, true, false, not, slice_index_or}
 use Rattle.zaehlung.specs.Walk.{last}

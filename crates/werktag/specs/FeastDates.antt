@@ -7,8 +7,8 @@
 --   FeastByDistance        it is one of the six built dates exactly if its distance is one of the six offsets
 --   PlaceByDistance        it is the built date of a place exactly if its distance is that place's offset
 --   ReasonEitherWay        its reason is the same by built dates and by distance
---   BuiltReasonIsReason    by built dates it is the day's reason
---   DistantReasonIsReason  and by distance
+--   BuiltReasonIsReason    the reason by built dates is the day's reason
+--   DistantReasonIsReason  the reason by distance is the day's reason
 use Rattle.std.specs.Prelude.{ℕ, ◌≤◌, ◌<◌, ◌≡◌, ◌↔◌, true, ℤ, pos, nat_abs, slice_index_or}
 use Rattle.zaehlung.specs.Lists.{any}
 use Rattle.datum.specs.declared.Date.{Date}

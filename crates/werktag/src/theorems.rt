@@ -20,7 +20,7 @@ pub fn open_day()
 {}
 
 /// Theorem: the reason is 1 exactly on a Saturday, 2 exactly on a Sunday, and on a weekday it is 3 or more by the place
-/// of the list's first rule that holds. That of Pfingstsonntag, 20, is never given.
+/// of the list's first rule that holds. It is at most 22, and on no day of the calendar that of Pfingstsonntag, 20.
 pub fn closed_day()
     ensures saturday { OneIsSaturday }
     ensures sunday { TwoIsSunday }

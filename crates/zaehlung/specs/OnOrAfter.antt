@@ -1,19 +1,21 @@
 -- Steps that begin on the day itself, by how many open days come before a day, `count`: the first open day on or after
 -- a day, `next`, and the day after the n-th open day on or after it, `W`. For any test of a day, any days of the
 -- calendar, 0 to `last`, and any n; a day that passes the test is open.
---   NextReaches      `next` is a day exactly if that is open, in the calendar, and as many open days come before it
+--   NextReaches      `next` is a day exactly if that is open, in the calendar, and as many open days come before it as
+--                    before the given day
 --   NextLeaves       it leaves the calendar exactly if no open day comes on the day or after it
 --   NextStaysInside  a day that it reaches lies in the calendar
 --   NextOfOpenDay    of an open day it is the day itself
 --   NextOfShutDay    of any other it is the first open day after it
 --   WReaches         from n = 1 on, `W` is a day exactly if that is the day after an open one, in the calendar, and n
---                    more open days come before it
+--                    more open days come before it than before the given day
 --   WLeaves          it leaves the calendar exactly if fewer than n open days lie from the day to the last day but one
---   WOfNone          no open day on it is the day itself, open or not
+--   WOfNone          for n = 0 it is the given day itself, open or not
 --   WStaysInside     a day that it reaches lies in the calendar
---   WOfOpenDay       from n = 1 on, of an open day it is the day after one open day fewer on
---   WOfShutDay       and of any other the day after n open days on
---   WIsDayAfterAdd   it is the day after a step on from another day, if as many open days come up to both ends
+--   WOfOpenDay       from n = 1 on, of an open day it is the day after a step on of n - 1 open days
+--   WOfShutDay       from n = 1 on, of any other it is the day after a step on of n open days
+--   WIsDayAfterAdd   it is the day after a step on from another day, both from n = 1 on, if as many open days come up
+--                    to both ends
 use Rattle.std.specs.Prelude.{ℕ, suc, ◌+◌, ◌-◌, ◌≤◌, ◌<◌, ◌≡◌, ◌↔◌, Bool, true, false, Some, None}
 use Rattle.zaehlung.specs.Walk.{last, on_step, day_after, add, next, W, count}
 

@@ -1,17 +1,19 @@
--- Steps and counts are one thing: what n open days on from a day or back from it are, by how many open days come
+-- Steps and counts are one thing: where n open days on from a day or back from it lead, by how many open days come
 -- before a day, `count`. For any test of a day, any days of the calendar, 0 to `last`, and any n; a day that passes the
 -- test is open. Before `suc day` come the open days up to and with `day`.
 --   AddReaches     from n = 1 on, a step on reaches a day exactly if that is open, in the calendar, and n more open
 --                  days come up to and with it than up to and with the day of the step
---   SubReaches     a step back reaches a day exactly if that is open, and n fewer open days come before it
+--   SubReaches     from n = 1 on, a step back reaches a day exactly if that is open, and n fewer open days come before
+--                  it than before the day of the step
 --   AddLeaves      a step on leaves the calendar exactly if fewer than n open days come after the day
---   SubLeaves      a step back does exactly if fewer than n come before the day
+--   SubLeaves      a step back leaves it exactly if fewer than n open days come before the day
 --   AddOfNone      no open day on is the day itself, open or not
---   SubOfNone      and so is no open day back
+--   SubOfNone      no open day back is the day itself, open or not
 --   AddStaysInside   a day that a step on reaches lies in the calendar
---   SubStaysInside   and so does one that a step back reaches
+--   SubStaysInside   a day that a step back reaches lies in it too
 --   AddFromElsewhere   two steps on, each from n = 1 on, give the same if as many open days come up to both ends
---   SubIsAddFromElsewhere   a step back gives the same as a step on from another day, if as many do
+--   SubIsAddFromElsewhere   a step back gives the same as a step on from another day, each from n = 1 on, if as many
+--                  open days come up to both ends
 use Rattle.std.specs.Prelude.{ℕ, suc, ◌+◌, ◌≤◌, ◌<◌, ◌≡◌, ◌↔◌, Bool, true, Some, None}
 use Rattle.zaehlung.specs.Walk.{last, add, sub, count}
 

@@ -6,9 +6,10 @@ ghost use Rattle.zaehlung.specs.OnOrAfter.{WReaches, WLeaves, WOfNone, WStaysIns
 ghost use Rattle.zaehlung.specs.OnOrAfter.{WIsDayAfterAdd};
 ghost use Rattle.zaehlung.specs.Counts.{BetweenIsDifference, BetweenUnlessLater, BetweenUndoesAdd, AddUndoesBetween};
 
-/// Theorem: steps and counts are one thing. The n-th open day after a day is that open day up to and with which come n
-/// more open days; the n-th before it is that open day before which come n fewer; and a step leaves the calendar
-/// exactly if there are too few. So two steps that end at the same count end at the same day, wherever they begin.
+/// Theorem: steps and counts are one thing. The n-th open day after a given day is the open day up to and with which
+/// come n more open days than up to and with the given one; the n-th before it is the open day before which come n
+/// fewer than before the given one; and a step leaves the calendar exactly if there are too few. So two steps that lead
+/// to the same count end at the same day, wherever they begin.
 pub fn steps()
     ensures add { AddReaches }
     ensures sub { SubReaches }
@@ -22,8 +23,8 @@ pub fn steps()
     ensures sub_elsewhere { SubIsAddFromElsewhere }
 {}
 
-/// Theorem: the first open day on or after a day is that open day before which come as many open days. It is the day
-/// itself, if that is open, or else the first one after it.
+/// Theorem: the first open day on or after a given day is the open day before which come as many open days as before
+/// the given one. It is the given day itself, if that is open, or else the first open day after it.
 pub fn first_open_day()
     ensures next { NextReaches }
     ensures leaves { NextLeaves }
@@ -32,8 +33,9 @@ pub fn first_open_day()
     ensures shut { NextOfShutDay }
 {}
 
-/// Theorem: the day after the n-th open day on or after a day follows an open day, and n more open days come before it.
-/// It is the day after a step: of n - 1 open days from a day that is open, of n from any other.
+/// Theorem: the day after the n-th open day on or after a given day follows an open day, and before it come n more open
+/// days than before the given one. It is the day after a step on from the given day: of n - 1 open days, if that is
+/// open, and of n, if it isn't.
 pub fn day_after_open_days()
     ensures w { WReaches }
     ensures leaves { WLeaves }
@@ -45,7 +47,8 @@ pub fn day_after_open_days()
 {}
 
 /// Theorem: the count of open days after one day, up to and with another, is the difference of the counts up to and
-/// with them. It undoes a step from the one to the other, and a step undoes it.
+/// with them, or 0 if the other isn't later. From the day of a step to its end it is the step's number, and a step by
+/// it reaches the other day, if that is later and open.
 pub fn counts()
     ensures difference { BetweenIsDifference }
     ensures unless_later { BetweenUnlessLater }

@@ -1,15 +1,15 @@
 -- Numbers written as bytes, lowest byte first, and read again: nothing is lost on either way.
 --   u64_at bytes at         = the number of the 8 bytes that start at a place, counted from 0
 --   i32_at bytes at         = the signed number of the 4 bytes that start there
--- A number that is written is read from where its bytes stand, whatever stands before and behind them:
+-- A number that fits its bytes is read back from where they stand, whatever stands before and behind them:
 --   TwoBytesReadBack, FourBytesReadBack, EightBytesReadBack   at 2, 4 and 8 bytes
 --   SignedFourReadBack, SignedEightReadBack                   a signed one at 4 and 8 bytes
 -- The number that is read at a place is written as the bytes that stand there:
 --   TwoBytesWrittenBack, FourBytesWrittenBack, EightBytesWrittenBack   at 2, 4 and 8 bytes
 --   SignedFourWrittenBack, SignedEightWrittenBack                      a signed one at 4 and 8 bytes
 -- In two's complement of any width, whose numbers are those from -half to half - 1:
---   BitsOfSigned   the bits of the signed number that has given bits, any below half + half, are those
---   SignedOfBits   the signed number that has a number's bits is that number; `mag` is the number itself from 0 on, and
+--   BitsOfSigned   bits below half + half are read as a signed number that has these bits
+--   SignedOfBits   the bits of such a signed number are read as that number; `mag` is the number itself from 0 on, and
 --                  n for -(n + 1)
 use Rattle.std.specs.Prelude.{ℕ, ◌+◌, ◌<◌, ◌≤◌, ◌≡◌, List, ◌++◌, length, take, drop, All, ℤ, FitsSigned}
 use Rattle.std.specs.Int.{w32, w64}

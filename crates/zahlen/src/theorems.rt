@@ -5,7 +5,7 @@ ghost use Rattle.zahlen.specs.ReadBack.{SignedEightReadBack, TwoBytesWrittenBack
 ghost use Rattle.zahlen.specs.ReadBack.{EightBytesWrittenBack, SignedFourWrittenBack, SignedEightWrittenBack};
 ghost use Rattle.zahlen.specs.ReadBack.{BitsOfSigned, SignedOfBits};
 
-/// Theorem: the number that is read from where a number's bytes stand is that number, whatever stands around them.
+/// Theorem: a number that fits its bytes is read back from where they stand, whatever stands around them.
 pub fn written_is_read_back()
     ensures two_bytes { TwoBytesReadBack }
     ensures four_bytes { FourBytesReadBack }
@@ -14,7 +14,7 @@ pub fn written_is_read_back()
     ensures signed_eight_bytes { SignedEightReadBack }
 {}
 
-/// Theorem: the bytes that the number read at a place is written as are those that stand there.
+/// Theorem: a number that is read at a place is written as the bytes that stand there.
 pub fn read_is_written_back()
     ensures two_bytes { TwoBytesWrittenBack }
     ensures four_bytes { FourBytesWrittenBack }
@@ -23,7 +23,7 @@ pub fn read_is_written_back()
     ensures signed_eight_bytes { SignedEightWrittenBack }
 {}
 
-/// Theorem: signed numbers and their bits, in two's complement of any width, are given by each other.
+/// Theorem: a signed number and its bits, in two's complement of any width, give each other.
 pub fn signed_and_bits()
     ensures bits { BitsOfSigned }
     ensures signed { SignedOfBits }

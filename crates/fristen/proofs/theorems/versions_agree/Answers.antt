@@ -26,6 +26,3 @@ returns-clause-april_in_neither c = λ m a o p e s f. (agree m p a o e (april m 
 pub returns-clause-october_in_neither : goal.returns-clause-october_in_neither
 returns-clause-october_in_neither c = λ m a o p e s f.
     (agree m p a o e (october m p a o e)).1 s ∙ untouched m p a o e s f
-
-pub returns-clause-version_one_in_neither : goal.returns-clause-version_one_in_neither
-returns-clause-version_one_in_neither c = λ m a o p. untouched m p a o

@@ -1,4 +1,5 @@
-use Rattle.fristen.proofs.Formatumstellung.{inside_shown, shown_inside, shut, days, apart}
+use Rattle.fristen.proofs.Formatumstellung.{inside_shown, shown_inside, shut, days, apart, by_spring, by_autumn}
+use Rattle.fristen.proofs.Formatumstellung.{by_none}
 use Rattle.fristen.proofs.theorems.window.Goals as goal
 
 pub returns-clause-shown : goal.returns-clause-shown
@@ -12,3 +13,12 @@ returns-clause-days c = days
 
 pub returns-clause-apart : goal.returns-clause-apart
 returns-clause-apart c = apart
+
+pub returns-clause-tolerance_in_spring : goal.returns-clause-tolerance_in_spring
+returns-clause-tolerance_in_spring c = by_spring
+
+pub returns-clause-tolerance_in_autumn : goal.returns-clause-tolerance_in_autumn
+returns-clause-tolerance_in_autumn c = by_autumn
+
+pub returns-clause-tolerance_in_neither : goal.returns-clause-tolerance_in_neither
+returns-clause-tolerance_in_neither c = by_none
