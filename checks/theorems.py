@@ -28,7 +28,7 @@ HEAD = """# The clauses of the theorem functions, of the host calls and of the f
 
 # Functions and their clauses.
 
-FUNCTION = re.compile(r'\b(pub\s+)?(?:const\s+)?(?:extern\s*"[^"]*"\s*)?fn\s+(\w+)\s*(?:<[^(]*>)?\s*\(')
+FUNCTION = re.compile(r'\b(pub\s+)?(?:const\s+)?(?:extern\s*"[^"]*"\s*)?fn\s+(\w+)\s*(?=[<(])')
 MODULE = re.compile(r"\bmod\s+(\w+)\s*([;{])")
 IMPL = re.compile(r"\bimpl\b(?:\s*<[^{]*?>)?\s+(?:[\w:<>', ]+\s+for\s+)?(\w+)[^{};]*\{")
 TEXT = re.compile(r'b?"(?:\\.|[^"\\])*"', re.S)
@@ -56,6 +56,16 @@ def blocks(code, pattern):
     """The parts of the code in the braces with which each match of the pattern ends: start, end, name."""
     found = [(it.end() - 1, it[1]) for it in pattern.finditer(code) if it.group().endswith("{")]
     return [(start, sources.group(code, start), name) for start, name in found]
+
+
+def parameters_from(code, at):
+    """Where a function's parameters begin, behind those of its types."""
+    depth = 0
+    for place in range(at, len(code)):
+        if code[place] == "(" and depth == 0:
+            return place
+        depth += (code[place] == "<") - (code[place] == ">" and code[place - 1] != "-")
+    return len(code) - 1
 
 
 def around(places, at):
@@ -120,10 +130,11 @@ def functions(root):
         bare = TEXT.sub(lambda it: " " * len(it.group()), code)
         inner, types = blocks(bare, MODULE), blocks(bare, IMPL)
         for it in FUNCTION.finditer(bare):
-            end = sources.group(bare, it.end() - 1)
+            start = parameters_from(bare, it.end())
+            end = sources.group(bare, start)
             clauses, body, _ = sources.contract(code, end)
             names = [path.parts[1], *modules, *around(inner, it.start()), *around(types, it.start())[:1], it[2]]
-            parameters = sources.spaced(code[it.end() - 1 : end])
+            parameters = sources.spaced(code[start:end])
             is_theorem = bool(it[1]) and parameters == "()" and body == "" and bool(clauses)
             function = Function(
                 "::".join(names),
