@@ -7,6 +7,7 @@ The last line is 'checks: selftest: N passed, M failed'; ends with 0 only if M i
 
 import sys
 import tempfile
+from concurrent.futures import ThreadPoolExecutor
 from pathlib import Path
 
 import examples
@@ -541,14 +542,19 @@ def renewed(repository):
         return [*changes, *sources.run(numbers.numbers, folder)[1]]
 
 
+def refused(check, what, file, change, told):
+    repository = changed(file, change)
+    found = faults(CHECKS[check], repository) if repository else ["nothing was changed"]
+    return f"{check}: {what}", any(told in fault for fault in found), found
+
+
 def tried():
     for check in CHECKS:
         found = faults(CHECKS[check], GOOD | dict(LONG))
         yield f"{check}: without a fault", not found, found
-    for check, what, file, change, told in BAD:
-        repository = changed(file, change)
-        found = faults(CHECKS[check], repository) if repository else ["nothing was changed"]
-        yield f"{check}: {what}", any(told in fault for fault in found), found
+    # Most of the time is waiting for programs that read nothing more.
+    with ThreadPoolExecutor() as pool:
+        yield from pool.map(lambda bad: refused(*bad), BAD)
     for what, repository, changes in [
         ("of what is listed", GOOD, 0),
         ("where the list is behind", changed(ORACLE, added("#[test]\n")), 1),
