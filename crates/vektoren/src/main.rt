@@ -136,16 +136,14 @@ fn reason_of(q: &Question) -> Option<&[u8]>
     q.reason.get(..usize::from(q.reason_bytes))
 }
 
-// Asks the call that a question names, and returns what the call returns; none where no call has the number, or a
-// reason is longer than its place.
+// Asks a calendar step or count.
 #[tactic(auto, unfolding(crate::specs::Asked::stored_answer))]
-fn ask(q: &Question, answer: &mut [u8]) -> Option<u8>
+fn ask_kalender(q: &Question, answer: &mut [u8]) -> Option<u8>
+    requires { q.now.call ≤ 6 }
     ensures { option_map (λ n. (n, answer.new)) result ≡ option_map (reply answer.old) (stored_answer q.now) }
 {
-    // The numbers of the stored file, each with parameters of its own.
     let call = q.call;
     match call {
-        // Calendar steps and counts.
         0 => Some(mako_fristen::mf_is_werktag(q.year, q.month, q.day, answer)),
         1 => Some(mako_fristen::mf_next_werktag(q.year, q.month, q.day, answer)),
         2 => Some(mako_fristen::mf_add_werktage(q.year, q.month, q.day, q.count, answer)),
@@ -155,7 +153,18 @@ fn ask(q: &Question, answer: &mut [u8]) -> Option<u8>
         )),
         5 => Some(mako_fristen::mf_add_months(q.year, q.month, q.day, q.count, answer)),
         6 => Some(mako_fristen::mf_subtract_months(q.year, q.month, q.day, q.count, answer)),
-        // Clock on a date, day of an instant.
+        _ => unreachable!(),
+    }
+}
+
+// Asks a clock on a date, or the day of an instant.
+#[tactic(auto, unfolding(crate::specs::Asked::stored_answer))]
+fn ask_uhrzeit(q: &Question, answer: &mut [u8]) -> Option<u8>
+    requires { (7 ≤ q.now.call) × (q.now.call ≤ 12) }
+    ensures { option_map (λ n. (n, answer.new)) result ≡ option_map (reply answer.old) (stored_answer q.now) }
+{
+    let call = q.call;
+    match call {
         7 => Some(mako_fristen::mf_berlin_at(
             q.year,
             q.month,
@@ -171,7 +180,18 @@ fn ask(q: &Question, answer: &mut [u8]) -> Option<u8>
         10 => Some(mako_fristen::mf_tagesbeginn_utc(q.year, q.month, q.day, q.code, answer)),
         11 => Some(mako_fristen::mf_berlin_date(q.seconds, q.nanos, answer)),
         12 => Some(mako_fristen::mf_tag_des_beginns(q.seconds, q.nanos, q.code, answer)),
-        // Due instants.
+        _ => unreachable!(),
+    }
+}
+
+// Asks a due instant.
+#[tactic(auto, unfolding(crate::specs::Asked::stored_answer))]
+fn ask_frist(q: &Question, answer: &mut [u8]) -> Option<u8>
+    requires { (13 ≤ q.now.call) × (q.now.call ≤ 24) }
+    ensures { option_map (λ n. (n, answer.new)) result ≡ option_map (reply answer.old) (stored_answer q.now) }
+{
+    let call = q.call;
+    match call {
         13 => Some(mako_fristen::mf_contrl_due_at(q.seconds, q.nanos, q.code, answer)),
         14 => Some(mako_fristen::mf_aperak_strom_due_at(q.seconds, q.nanos, answer)),
         15 => Some(mako_fristen::mf_aperak_strom_allgemein_due_at(q.seconds, q.nanos, answer)),
@@ -211,7 +231,18 @@ fn ask(q: &Question, answer: &mut [u8]) -> Option<u8>
             q.nanos,
             answer,
         )),
-        // Verdicts and spans.
+        _ => unreachable!(),
+    }
+}
+
+// Asks a verdict, a span, a deregistration or an announcement.
+#[tactic(auto, unfolding(crate::specs::Asked::stored_answer))]
+fn ask_vorlauf(q: &Question, answer: &mut [u8]) -> Option<u8>
+    requires { (25 ≤ q.now.call) × (q.now.call ≤ 30) }
+    ensures { option_map (λ n. (n, answer.new)) result ≡ option_map (reply answer.old) (stored_answer q.now) }
+{
+    let call = q.call;
+    match call {
         25 => Some(mako_fristen::mf_vorlauf_check(
             q.code, q.count, q.count2, q.year, q.month, q.day, q.year2, q.month2, q.day2, answer,
         )),
@@ -221,7 +252,6 @@ fn ask(q: &Question, answer: &mut [u8]) -> Option<u8>
         27 => Some(mako_fristen::mf_vorlauf_span(
             q.code, q.count, q.count2, q.year, q.month, q.day, answer,
         )),
-        // Deregistrations.
         28 => Some(mako_fristen::mf_abmeldung_fuer(reason_of(q)?, q.code, answer)),
         29 => Some(mako_fristen::mf_abmeldung_check(
             reason_of(q)?,
@@ -234,10 +264,26 @@ fn ask(q: &Question, answer: &mut [u8]) -> Option<u8>
             q.day2,
             answer,
         )),
-        // The announcement.
         30 => Some(mako_fristen::mf_eog_ankuendigung_fristgerecht(
             q.seconds, q.nanos, q.year, q.month, q.day, answer,
         )),
+        _ => unreachable!(),
+    }
+}
+
+// Asks the call that a question names, and returns what the call returns; none where no call has the number, or a
+// reason is longer than its place.
+#[tactic(auto, unfolding(crate::specs::Asked::stored_answer))]
+fn ask(q: &Question, answer: &mut [u8]) -> Option<u8>
+    ensures { option_map (λ n. (n, answer.new)) result ≡ option_map (reply answer.old) (stored_answer q.now) }
+{
+    // The numbers of the stored file, each with parameters of its own.
+    let call = q.call;
+    match call {
+        0..=6 => ask_kalender(q, answer),
+        7..=12 => ask_uhrzeit(q, answer),
+        13..=24 => ask_frist(q, answer),
+        25..=30 => ask_vorlauf(q, answer),
         // A CONTRL with a change day.
         31 => Some(mako_fristen::mf_contrl_due_at_change(
             q.seconds, q.nanos, q.code, q.year, q.month, q.day, answer,

@@ -2,16 +2,17 @@
 --   IsFilled old now list i = the first i numbers of the list are those whose bytes the bytes to come lost since old
 --   list_rules              = none is read yet; one number more is; all are
 --   portfolio_read          = a portfolio that was read whole comes to what the call leaves
---   next_none, next_long, next_read = so does the next: there is none, it is too long, it was read behind its head
+--   next_long, next_read = so does the next: it is too long, it was read behind its head
 use Rattle.std.proofs.Common.{◌≡◌, ◌∙◌, ℕ, ◌+◌, ◌<◌, ◌≤◌, List, [], ◌∷◌, ◌++◌, length, get_or, set}
 use Rattle.std.proofs.Common.{take, Option, Bool, true, false, IsTrue, ◌↔◌, if◌then◌else◌, MatchBool, refl, sym, ap}
 use Rattle.std.proofs.Common.{subst, arith, add-one, append-nil}
-use Rattle.std.proofs.Common.{◌⊎◌, inl, inr, Some, None, replicate, length-take-le}
+use Rattle.std.proofs.Common.{◌⊎◌, inl, inr, Some, replicate, length-take-le}
 use Rattle.std.proofs.lemmas.Grind.{flat_map-append}
 use lib.Seq.{take_all, take-suc-set}
-use Rattle.std.specs.Io.KnownBytes.{Consumes, IsAtEnd}
+use Rattle.std.specs.Io.KnownBytes.{Consumes}
 use Rattle.std.proofs.KnownBytes.{Consumes-nil, Consumes-trans}
 use Rattle.zahlen.specs.LittleEndian.{le4}
+use Rattle.eingabe.proofs.Begun.{one_byte, begun, next_none, filled_as}
 use Rattle.zahlen.specs.Places.{u32_at}
 use Rattle.zahlen.proofs.RoundTrip.{u32_bytes}
 use Rattle.zahlen.proofs.RoundTrip.Below.{none, more}
@@ -59,11 +60,6 @@ module _ {old now : Option (List ℕ)} {list : List ℕ} {i : ℕ} (before : IsF
         subst (Consumes old next) (sym bytes) both;
   }
 
-one_byte : (l : List ℕ) → length l ≡ 1 → l ≡ get_or l 0 0 ∷ []
-one_byte [] h = absurd (omega arith)
-one_byte (b ∷ []) h = refl
-one_byte (b ∷ c ∷ l) h = absurd (omega arith)
-
 module _ (old a b c d new : Option (List ℕ)) (xs ys zs m l cs e : List ℕ) where
   whole :
       Consumes old a (bytes_of_list xs) → Consumes a b (bytes_of_list ys) → Consumes b c l → length l ≡ 1 →
@@ -95,27 +91,23 @@ module _ (old a b c d new : Option (List ℕ)) (xs ys zs m l cs e : List ℕ) wh
         let no : false ≡ true = k.1 y in cc,
   )
 
-pub filled_as :
-    (m e f : List ℕ) (n x : ℕ) → m ≡ replicate n x → n ≡ length f → length e ≡ length f → m ≡ replicate (length e) x
-filled_as m e f n x i j k = i ∙ ap (λ n. replicate n x) (j ∙ sym k)
-
 module _ (old mid : Option (List ℕ)) (h : List ℕ) (n : ℕ) (sized : length h ≡ 16) (all : n ≡ 16)
     (head : Consumes old mid (take n h)) where
-  begun : Consumes old mid h
-  begun = let front : take n h ≡ h = take_all n h (omega arith) in subst (Consumes old mid) front head
+  head_read : Consumes old mid h
+  head_read = begun old mid h n (all ∙ sym sized) head
 
   pub next_long :
       (4100 < u32_at h 0) ⊎ (4100 < u32_at h 4) ⊎ (4100 < u32_at h 8) ⊎ (64 < u32_at h 12) →
       ReplaysNextPortfolio old mid (Some Unreadable)
-  next_long long = inr (h, (sized, long), begun)
+  next_long long = inr (h, (sized, long), head_read)
 
   next_portfolio :
       (new : Option (List ℕ)) (xs ys cs e : List ℕ) (r : Replayed) → IsPortfolioHead h xs ys cs e →
       ReplaysPortfolio mid new xs ys cs e r → ReplaysNextPortfolio old new (Some r)
   next_portfolio new xs ys cs e Equal i p =
-      (h, xs, ys, p.0, cs, e, i, Consumes-trans old mid new h (bytes_of_portfolio xs ys p.0 cs e) begun p.1, p.2)
+      (h, xs, ys, p.0, cs, e, i, Consumes-trans old mid new h (bytes_of_portfolio xs ys p.0 cs e) head_read p.1, p.2)
   next_portfolio new xs ys cs e Different i p =
-      (h, xs, ys, p.0, cs, e, i, Consumes-trans old mid new h (bytes_of_portfolio xs ys p.0 cs e) begun p.1, p.2)
+      (h, xs, ys, p.0, cs, e, i, Consumes-trans old mid new h (bytes_of_portfolio xs ys p.0 cs e) head_read p.1, p.2)
   next_portfolio new xs ys cs e Unreadable i p = inl p
 
   lent :
@@ -138,18 +130,6 @@ module _ (old mid : Option (List ℕ)) (h : List ℕ) (n : ℕ) (sized : length 
         lent cs counts c 8 ic jc kc,
         lent e answer d 12 id jd kd,
       ) p
-
-all_come : (old new : Option (List ℕ)) → Consumes old new [] → IsAtEnd new → IsAtEnd old
-all_come None new h e = tt
-all_come (Some xs) None h e = absurd h
-all_come (Some xs) (Some ys) h e = h ∙ e
-
-pub next_none :
-    (old new : Option (List ℕ)) (h : List ℕ) (n : ℕ) → n ≡ 0 → Consumes old new (take n h) →
-    (n < length h → IsAtEnd new) → 0 < length h → IsAtEnd old
-next_none old new h n z c e l =
-    let first : take n h ≡ [] = rw z refl in
-    all_come old new (subst (Consumes old new) first c) (e (omega arith))
 
 pub ruleset list_rules = (filled_begin, filled_more, filled_all)
 
