@@ -2,8 +2,10 @@
 
     python3 -B checks/gate.py LOG
 
-Names every edit that shows nothing (bad, or not tried) or little (refused only by a limit of the prover, or because a
-proof file no longer fits): `rt ci` itself ends well on most of these. The last line is as in sources.py.
+Names every edit that shows nothing (bad, or not tried) or little (refused only by a limit of the prover, or only
+because a proof file names what the edit took away): `rt ci` itself ends well on most of these. An edit whose first
+error stands in a proof file is named too, without a fault: there it may be the proof alone that no longer fits. The
+last line is as in sources.py.
 """
 
 import re
@@ -45,7 +47,14 @@ def gate(log):
     return len(found), faults
 
 
+def in_proofs(log):
+    """The edits whose first error stands in a proof file."""
+    return re.findall(r"^rt: must-fail (\S+/\S+): refused, as it must be: (\./proofs/\S+)", log, re.M)
+
+
 def main(log):
+    for edit, place in in_proofs(sources.read(log, "")):
+        print(f"{edit}: refused first in {place}")
     return sources.main("gate", lambda path: gate(sources.read(path, "")), log)
 
 

@@ -7,21 +7,21 @@ The last line is 'checks: selftest: N passed, M failed'; ends with 0 only if M i
 
 import sys
 import tempfile
-from concurrent.futures import ThreadPoolExecutor
+from concurrent.futures import ProcessPoolExecutor
 from pathlib import Path
 
+import counts
 import examples
 import fragen
 import gate
 import jahresindex
-import numbers
 import replays
 import sources
 import theorems
 import weakened
 
 # What the parts of ./test with numbers printed.
-LEFT = numbers.LEFT
+LEFT = counts.LEFT
 PARTS = ["ci", "host", "findings", "comparison"]
 CHECKS = {
     **sources.CHECKS,
@@ -29,9 +29,9 @@ CHECKS = {
     "fragen": fragen.fragen,
     "gate": lambda root: gate.gate(sources.read(root, f"{LEFT}/ci")),
     "jahresindex": jahresindex.jahresindex,
-    "numbers": numbers.numbers,
+    "numbers": counts.numbers,
     "replays": replays.replays,
-    "runs": lambda root: numbers.runs(root, Path(root, LEFT), PARTS),
+    "runs": lambda root: counts.runs(root, Path(root, LEFT), PARTS),
 }
 # Some of the faults are to wait for an end that does not come.
 fragen.SECONDS = replays.SECONDS = 2
@@ -49,7 +49,7 @@ PROGRAM = "crates/fragen/out/fragen"
 STORED = "crates/fragen/stdout"
 TABLE, ENTRIES = jahresindex.CODE, jahresindex.PROOFS
 EDIT = "crates/andere/must-fail/x.edit"
-LIST = numbers.LIST
+LIST = counts.LIST
 IMPORTS = """ghost use Rattle.std.specs.Prelude.{◌≡◌};
 ghost use Rattle.antworten.specs.Eins.{reply, eins_answer};
 ghost use Rattle.antworten.specs.Zwei.portfolio;
@@ -537,12 +537,13 @@ def renewed(repository):
     """What changes by a new list, and what faults it has, but those of other files."""
     with tempfile.TemporaryDirectory() as folder:
         lay(folder, repository)
-        text, changes, _ = numbers.renewed(folder)
+        text, changes, _ = counts.renewed(folder)
         lay(folder, {LIST: text})
-        return [*changes, *sources.run(numbers.numbers, folder)[1]]
+        return [*changes, *sources.run(counts.numbers, folder)[1]]
 
 
-def refused(check, what, file, change, told):
+def refused(place):
+    check, what, file, change, told = BAD[place]
     repository = changed(file, change)
     found = faults(CHECKS[check], repository) if repository else ["nothing was changed"]
     return f"{check}: {what}", any(told in fault for fault in found), found
@@ -552,9 +553,10 @@ def tried():
     for check in CHECKS:
         found = faults(CHECKS[check], GOOD | dict(LONG))
         yield f"{check}: without a fault", not found, found
-    # Most of the time is waiting for programs that read nothing more.
-    with ThreadPoolExecutor() as pool:
-        yield from pool.map(lambda bad: refused(*bad), BAD)
+    # Most of the time is waiting for programs that read nothing more. Threads would hand the files that they write to
+    # each other's programs.
+    with ProcessPoolExecutor() as pool:
+        yield from pool.map(refused, range(len(BAD)))
     for what, repository, changes in [
         ("of what is listed", GOOD, 0),
         ("where the list is behind", changed(ORACLE, added("#[test]\n")), 1),

@@ -329,6 +329,9 @@ def edits(root):
             faults.append(f"{path}: not right in must-fail of its crate")
         if not changed:
             faults.append(f"{path}: names no file")
+        for line, row in enumerate(read(root, path).split("\n"), 1):
+            if re.match(r"(?:old|new):.*\b(?:ensures|requires|ghost)\b", row):
+                faults.append(f"{path}:{line}: changes a promise, and only an edit of code shows what that refuses")
         for line, file in changed:
             if not file.startswith("src/") or os.path.normpath(file) != file:
                 faults.append(f"{path}:{line}: changes {file}, and only an edit of src/ shows what a contract refuses")

@@ -40,8 +40,8 @@ IMPORT = re.compile(r"\buse\s+([\w.+]+)\.(?:\{([^}]*)\}|([^\s;{]+))")
 class Function:
     """A function by its name, with its clauses, and where the names in them come from."""
 
-    def __init__(self, name, place, is_theorem, clauses, body, imports):
-        self.name, self.place, self.is_theorem = name, place, is_theorem
+    def __init__(self, name, place, is_theorem, types, clauses, body, imports):
+        self.name, self.place, self.is_theorem, self.types = name, place, is_theorem, types
         self.clauses, self.body, self.imports = clauses, body, imports
 
     def words(self):
@@ -49,7 +49,7 @@ class Function:
 
     def kind(self):
         kind = "theorem" if self.is_theorem else "function"
-        return f"{kind} {checksum(origins(self.words(), self.imports))}"
+        return f"{kind}{self.types} {checksum(origins(self.words(), self.imports))}"
 
 
 def blocks(code, pattern):
@@ -140,6 +140,7 @@ def functions(root):
                 "::".join(names),
                 f"{path}:{sources.line_of(code, it.start(2))}",
                 is_theorem,
+                sources.spaced(code[it.end() : start]),
                 clauses,
                 body or "",
                 imports_at(bare, it.start()) if clauses else {},

@@ -146,6 +146,7 @@ WEAKENED = [
     ("theorems in a file of no module", put(CODE, "pub mod theorems;\n", ""), "no file of its crate names it"),
     ("a theorem that is private", put(FUNCTIONS, AGAIN, AGAIN.replace("pub fn", "fn")), "again was theorem"),
     ("one that no call meets", put(FUNCTIONS, AGAIN, AGAIN.replace("()", "(_n: Never)")), "again was theorem"),
+    ("one of a type that none is", put(FUNCTIONS, AGAIN, AGAIN.replace("()", "<T: Never>()")), "again was theorem"),
     ("one that does not end", put(FUNCTIONS, AGAIN, AGAIN.replace("{}", "{ loop {} }")), "again was theorem"),
     (
         "two of one name",

@@ -1,8 +1,9 @@
-// The cases A to M of document 01, worked out by calling the library: a line for each, the letter, a space, `ok` or
-// `no`.
+// The worked cases A to M, by calling the library: a line for each, the letter, a space, `ok` or `no`.
 #![tactic(auto)]
 
-ghost use Rattle.std.specs.Prelude.{◌≡◌, ◌↔◌, IsTrue, codes, if◌then◌else◌};
+ghost use Rattle.std.specs.Prelude.{◌≡◌, ◌↔◌, ◌≤◌, IsTrue, OnOk};
+ghost use Rattle.std.specs.Io.KnownBytes.{Appends};
+ghost use Rattle.faelle.specs.Answered.{line_of, IsEaster, IsClosed, IsAdded, IsGasBeginning, IsSameDayDue};
 ghost use Rattle.faelle.specs.Answered.{day_2026, left_by, IsJudged, IsSpanned, IsContrlDue, IsHalfPastTwo};
 ghost use Rattle.faelle.specs.Answered.{IsAnnounced, AnswersA, AnswersB, AnswersC, AnswersD, AnswersE, AnswersF};
 ghost use Rattle.faelle.specs.Answered.{AnswersG, AnswersH, AnswersI, AnswersJ, AnswersK, AnswersL, AnswersM};
@@ -12,6 +13,7 @@ mod theorems;
 use antwortsatz::{Answer, Refusal};
 use datum::Date;
 use std::io;
+use std::io::Write;
 use werktag::Reason;
 
 // Berlin times of 2026, in seconds since 1970-01-01T00:00Z.
@@ -137,39 +139,87 @@ fn is_announced(seconds: i64, nanos: u32, kind: u8) -> bool
     leaves(number, &left, Ok(antwortsatz::of_kind(kind)))
 }
 
+// Whether Easter Sunday of a year is this date.
+fn is_easter(year: u16, date: Date) -> bool
+    requires from { 1996 ≤ year }
+    requires to { year ≤ 2899 }
+    ensures { IsTrue result ↔ IsEaster year date }
+{
+    datum::date_of(werktag::easter_sunday(year)) == date
+}
+
+// Whether a date is closed by this reason.
+fn is_closed(month: u8, day: u8, reason: Reason) -> bool
+    ensures { IsTrue result ↔ IsClosed month day reason }
+{
+    let mut left = UNWRITTEN;
+    let number = mako_fristen::mf_is_werktag(2026, month, day, &mut left);
+    leaves(number, &left, Ok(antwortsatz::of_kind(reason.number())))
+}
+
+// Whether so many Werktage lead from a date to another.
+fn is_added(from: Date, count: u32, to: Date) -> bool
+    ensures { IsTrue result ↔ IsAdded from count to }
+{
+    let mut left = UNWRITTEN;
+    let number = mako_fristen::mf_add_werktage(from.year, from.month, from.day, count, &mut left);
+    leaves(number, &left, Ok(antwortsatz::dated(to)))
+}
+
+// Whether the Gas day of a date begins at an instant.
+fn is_gas_beginning(date: Date, beginning: i64) -> bool
+    ensures { IsTrue result ↔ IsGasBeginning date beginning }
+{
+    let mut left = UNWRITTEN;
+    let number = mako_fristen::mf_tagesbeginn_utc(date.year, date.month, date.day, GAS, &mut left);
+    leaves(number, &left, Ok(antwortsatz::at_instant(0, beginning, 0)))
+}
+
+// Whether `SameDayAt` some full hour, received at an instant, has this answer.
+fn is_same_day_due(hour: u8, received: i64, a: Answer) -> bool
+    ensures { IsTrue result ↔ IsSameDayDue hour received a }
+{
+    let mut left = UNWRITTEN;
+    let number = mako_fristen::mf_frist_due_at(
+        SAME_DAY_AT,
+        0,
+        hour,
+        0,
+        0,
+        0,
+        received,
+        0,
+        &mut left,
+    );
+    leaves(number, &left, Ok(a))
+}
+
 // Easter is 5 April.
 fn case_a() -> bool
     ensures { IsTrue result ↔ AnswersA }
 {
-    datum::date_of(werktag::easter_sunday(2026)) == on(4, 5)
+    is_easter(2026, on(4, 5))
 }
 
 // 18 November is no Werktag: Buß- und Bettag.
 fn case_b() -> bool
     ensures { IsTrue result ↔ AnswersB }
 {
-    let mut left = UNWRITTEN;
-    let number = mako_fristen::mf_is_werktag(2026, 11, 18, &mut left);
-    let kind = Reason::BussUndBettag.number();
-    leaves(number, &left, Ok(antwortsatz::of_kind(kind)))
+    is_closed(11, 18, Reason::BussUndBettag)
 }
 
 // 2 April plus 1 Werktag is 7 April.
 fn case_c() -> bool
     ensures { IsTrue result ↔ AnswersC }
 {
-    let mut left = UNWRITTEN;
-    let number = mako_fristen::mf_add_werktage(2026, 4, 2, 1, &mut left);
-    leaves(number, &left, Ok(antwortsatz::dated(on(4, 7))))
+    is_added(on(4, 2), 1, on(4, 7))
 }
 
 // 4 April plus 0 is 4 April.
 fn case_d() -> bool
     ensures { IsTrue result ↔ AnswersD }
 {
-    let mut left = UNWRITTEN;
-    let number = mako_fristen::mf_add_werktage(2026, 4, 4, 0, &mut left);
-    leaves(number, &left, Ok(antwortsatz::dated(on(4, 4))))
+    is_added(on(4, 4), 0, on(4, 4))
 }
 
 // 10 January against 12 January: TooLate, 0, 12 January, margin -1; span from 13 January.
@@ -237,36 +287,15 @@ fn case_j() -> bool
 fn case_k() -> bool
     ensures { IsTrue result ↔ AnswersK }
 {
-    let mut left = UNWRITTEN;
-    let number = mako_fristen::mf_tagesbeginn_utc(2026, 3, 29, GAS, &mut left);
-    leaves(
-        number,
-        &left,
-        Ok(antwortsatz::at_instant(0, MARCH_29_06_00, 0)),
-    )
+    is_gas_beginning(on(3, 29), MARCH_29_06_00)
 }
 
 // `SameDayAt` 12:00 received 9 January 12:00: 12 January 12:00.
 fn case_l() -> bool
     ensures { IsTrue result ↔ AnswersL }
 {
-    let mut left = UNWRITTEN;
-    let number = mako_fristen::mf_frist_due_at(
-        SAME_DAY_AT,
-        0,
-        12,
-        0,
-        0,
-        0,
-        JANUARY_9_12_00,
-        0,
-        &mut left,
-    );
-    leaves(
-        number,
-        &left,
-        Ok(antwortsatz::at_instant(0, JANUARY_12_12_00, 0)),
-    )
+    let monday = antwortsatz::at_instant(0, JANUARY_12_12_00, 0);
+    is_same_day_due(12, JANUARY_9_12_00, monday)
 }
 
 // Announcement for 12 January: 9 January 13:00 yes, a nanosecond later no, 12 January 00:00 neither.
@@ -278,33 +307,44 @@ fn case_m() -> bool
         && is_announced(JANUARY_12, 0, 2)
 }
 
-// The word that a case's line ends with.
-fn word(ok: bool) -> &'static str
-    ensures { result.now ≡ (if ok then codes "ok" else codes "no") }
+// A case's line: its letter, a space, `ok` or `no`, and the line end.
+fn line(letter: u8, ok: bool) -> [u8; 5]
+    ensures { result ≡ line_of letter ok }
 {
-    if ok { "ok" } else { "no" }
+    if ok {
+        [letter, b' ', b'o', b'k', b'\n']
+    } else {
+        [letter, b' ', b'n', b'o', b'\n']
+    }
+}
+
+// Writes a case's line. After an error nothing is said of what was written.
+fn write_line<W: Write>(output: &mut W, letter: u8, ok: bool) -> io::Result<()>
+    ensures { OnOk result (Appends (W.contents output.old) (W.contents output.new) (line_of letter ok)) }
+{
+    output.write_all(&line(letter, ok))
 }
 
 fn main(rt: HostRuntime) -> io::Result<()> {
     theorems::call_all();
     let cases = [
-        ('A', case_a()),
-        ('B', case_b()),
-        ('C', case_c()),
-        ('D', case_d()),
-        ('E', case_e()),
-        ('F', case_f()),
-        ('G', case_g()),
-        ('H', case_h()),
-        ('I', case_i()),
-        ('J', case_j()),
-        ('K', case_k()),
-        ('L', case_l()),
-        ('M', case_m()),
+        (b'A', case_a()),
+        (b'B', case_b()),
+        (b'C', case_c()),
+        (b'D', case_d()),
+        (b'E', case_e()),
+        (b'F', case_f()),
+        (b'G', case_g()),
+        (b'H', case_h()),
+        (b'I', case_i()),
+        (b'J', case_j()),
+        (b'K', case_k()),
+        (b'L', case_l()),
+        (b'M', case_m()),
     ];
+    let mut output = io::writer(&rt);
     for (letter, ok) in cases {
-        let word = word(ok);
-        println!(rt; "{letter} {word}")?;
+        write_line(&mut output, letter, ok)?;
     }
     Ok(())
 }

@@ -1,4 +1,4 @@
-// Answers a file of questions (document 02, F-1): reads standard input to its end, in whatever pieces it comes, and
+// Answers a file of questions: reads standard input to its end, in whatever pieces it comes, and
 // writes all answers. For what is no file, and for an input that cannot be read to its end, it writes nothing.
 #![tactic(auto)]
 

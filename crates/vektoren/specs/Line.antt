@@ -1,6 +1,6 @@
 -- What a stored line comes to, its end left out: 128 digits of a question, a space, 64 of its answer.
 --   line_case l   = the number that the call returns and the bytes that it leaves for the question of the line, and the
---                   bytes that the line expects; None where the line has another form
+--                   bytes that the line expects; None where the line has another form, or its question no call
 --   IsEqualLine l = the line l has the length of a line and that form; the call leaves the bytes that it expects, and
 --                   returns the first of them
 --   unwritten     = what an answer's place holds before the call

@@ -341,7 +341,7 @@ impl<R: Read> Bytes<R> {
         if self.at < self.end {
             return Ok(());
         }
-        // None, also where the read fails.
+        // Nothing is left of the block, also if the read fails.
         self.at = 0;
         self.end = 0;
         self.end = eingabe::read_full(&mut self.input, &mut self.block)?;

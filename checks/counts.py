@@ -1,8 +1,8 @@
 """Holds numbers that may not fall unseen against their list, numbers.txt beside this file.
 
-    python3 -B checks/numbers.py                    those that the files have
-    python3 -B checks/numbers.py FOLDER PART ..     those of a run: FOLDER has what these parts of ./test printed
-    python3 -B checks/numbers.py --renew            writes the list anew
+    python3 -B checks/counts.py                    those that the files have
+    python3 -B checks/counts.py FOLDER PART ..     those of a run: FOLDER has what these parts of ./test printed
+    python3 -B checks/counts.py --renew            writes the list anew
 
 Any difference is a fault, also a number that rose, so that the list is never behind; and so is a test that is ignored.
 A new list takes its numbers from the files, and the rows of the comparison from what the last run of ./test left in
@@ -19,7 +19,7 @@ import replays
 import sources
 
 LIST, LEFT = "checks/numbers.txt", "target/numbers"
-RENEW = "python3 -B checks/numbers.py --renew"
+RENEW = "python3 -B checks/counts.py --renew"
 OF_RUNS = "rows"
 
 TEST = re.compile(r"#\[test\]")
