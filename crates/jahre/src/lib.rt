@@ -41,7 +41,7 @@ impl Model for Year {
 
 /// A year of a calendar as a count inside it needs it: with the weekday of its 1 January, and its holidays on weekdays,
 /// in document 01's order; in the place of one that is a Saturday or Sunday stands `NO_DAY`.
-#[derive(Drop)]
+#[derive(Clone, Copy)]
 pub struct HolidayYear {
     cal: HolidayCalendar,
     year: u32,
@@ -51,6 +51,7 @@ pub struct HolidayYear {
 
 impl Model for HolidayYear {
     ghost use Rattle.std.specs.Prelude.{◌≡◌, ◌≤◌};
+    ghost use Rattle.std.proofs.Common.{sym};
     ghost use Rattle.jahre.specs.CalendarYear.{CalendarYear};
 
     ghost Value = { CalendarYear };
@@ -60,6 +61,10 @@ impl Model for HolidayYear {
     ghost view = { λ a. record { calendar = a.cal; year = a.year } };
 
     ghost invariant = { λ a. (a.year ≤ 903) × (a ≡ holiday_year a.cal a.year) };
+
+    ghost inverse = { λ y. holiday_year y.calendar y.year };
+
+    ghost inverse_ok = { λ a h. sym h.1 };
 }
 
 /// The days of a week from Monday to Friday: no other may be Werktage.

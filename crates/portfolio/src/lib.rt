@@ -33,8 +33,8 @@ const OUT_OF_RANGE: u32 = 4294967295;
 
 /// A year of a calendar with its entry of the year index: the indexes of its first day and of the next year's, the
 /// Werktage before it, and the year as a count inside it needs it. A run of pairs that begin in one year has one.
-#[derive(Drop)]
-struct IndexedYear {
+#[derive(Clone, Copy)]
+pub struct IndexedYear {
     first: u32,
     after: u32,
     before: u32,
@@ -42,6 +42,11 @@ struct IndexedYear {
 }
 
 impl Model for IndexedYear {
+    ghost use Rattle.std.specs.Prelude.{suc};
+    ghost use Rattle.std.proofs.Common.{refl};
+    ghost use Rattle.zaehlung.specs.Walk.{count};
+    ghost use Rattle.datum.specs.Calendar.{year_start};
+    ghost use Rattle.werktag.specs.Werktag.{is_werktag};
     ghost use Rattle.jahre.specs.CalendarYear.{CalendarYear};
 
     ghost Value = { CalendarYear };
@@ -51,7 +56,21 @@ impl Model for IndexedYear {
     ghost view = { λ a. a.known };
 
     ghost invariant = { IsIndexed };
+
+    ghost inverse = { λ y. record {
+      first = year_start y.year;
+      after = year_start (suc y.year);
+      before = count (is_werktag y.calendar) (year_start y.year);
+      known = y;
+    } };
+
+    ghost inverse_ok = { λ a h. rw (h.its_first, h.its_after, h.its_entry) refl };
 }
+
+/// The run that a pair belongs to: the year in which its pairs begin. A pair out of range belongs to none.
+///
+/// Of two neighbouring pairs, from 2 and from 6 April 2026: 2026, for both.
+pub type Run = Option<IndexedYear>;
 
 /// Whether a portfolio may have lists of these lengths: "10, after 1, if the three lists differ in length or have over
 /// 4,096 entries". One of no pairs is one.
@@ -123,7 +142,7 @@ impl IndexedYear {
 
 /// Whether a run is of the year of the day with this index.
 #[tactic(auto, using(crate::proofs::Rules::is_of_rules))]
-fn is_of(run: &Option<IndexedYear>, day: u32) -> bool
+fn is_of(run: &Run, day: u32) -> bool
     requires { day ≤ last }
     ensures { result ≡ eqb (year_of_run run.now) (first_year + (year_of day).0) }
 {
@@ -136,7 +155,7 @@ fn is_of(run: &Option<IndexedYear>, day: u32) -> bool
 /// Goes on to the run of a pair, behind that of the pair before it: the same, or one that it opens; "a pair with an
 /// out-of-range day .. ends a run and belongs to none". Returns whether it opens one, for which an entry is read.
 #[tactic(auto, using(crate::proofs::Rules::run_rules))]
-fn go_on(run: &mut Option<IndexedYear>, from: u32, to: u32, cal: HolidayCalendar) -> bool
+fn go_on(run: &mut Run, from: u32, to: u32, cal: HolidayCalendar) -> bool
     requires { IfSome run.old (λ y. y.calendar ≡ cal) }
     ensures goes { run.new ≡ run_of cal from to }
     ensures value { result ≡ opens (year_of_run run.old) (beginning from to) }
@@ -154,7 +173,7 @@ fn go_on(run: &mut Option<IndexedYear>, from: u32, to: u32, cal: HolidayCalendar
 
 /// The count of a pair of two days, whose run is known.
 #[tactic(auto, using(crate::proofs::Rules::pair_rules))]
-fn pair_count(run: &Option<IndexedYear>, from: u32, to: u32, cal: HolidayCalendar) -> u32
+fn pair_count(run: &Run, from: u32, to: u32, cal: HolidayCalendar) -> u32
     requires { run.now ≡ run_of cal from to }
     ensures { result ≡ pair_count (is_werktag cal) from to }
 {
