@@ -47,7 +47,7 @@ pub fn year_of_werktag(n: u32, cal: HolidayCalendar) -> Entry
 {
     match cal {
         HolidayCalendar::BdewMaKo => {
-            let k = WERKTAGE_BEFORE.partition_point(|before| *before < n) - 1;
+            let k = WERKTAGE_BEFORE[1..].partition_point(|before| *before < n);
             Entry {
                 year: k as u32,
                 before: WERKTAGE_BEFORE[k],
