@@ -214,6 +214,9 @@ impl<'a> Words<'a> {
     /// The next word, or three of the form `2. April 2026`.
     fn date_text(&mut self, label: &str) -> Result<OsString, Usage> {
         let first = self.next(label)?;
+        if first.to_str().is_some_and(|word| reading::date(word, self.now).is_some()) {
+            return Ok(first.to_owned());
+        }
         let rest: Vec<&str> = self.left.as_slice().iter().map_while(|word| word.to_str()).collect();
         if let (Some(day), [month, year, ..]) = (first.to_str(), &rest[..]) {
             let text = format!("{day} {month} {year}");
@@ -316,9 +319,10 @@ impl<'a> Words<'a> {
         let found = read_as(label, word, |word| {
             names::find(table, word).ok_or_else(|| names::expected(table))
         });
-        let german = table.iter().map(|row| row.german.unwrap_or(row.name));
-        let perhaps = perhaps(word, table.iter().flat_map(Named::names), german);
-        found.map_err(|usage| usage.meaning(perhaps))
+        found.map_err(|usage| {
+            let german = table.iter().map(|row| row.german.unwrap_or(row.name));
+            usage.meaning(perhaps(word, table.iter().flat_map(Named::names), german))
+        })
     }
 
     /// A date in its place, with nothing but one more behind it, means that it was left out.

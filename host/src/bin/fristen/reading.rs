@@ -22,13 +22,18 @@ pub const DAYS: [&str; 5] = ["heute", "morgen", "übermorgen", "gestern", "vorge
 
 /// `2026-04-02`, `02.04.2026`, `2.4.2026`, `2. April 2026`, or one of these words.
 pub fn date(word: &str, now: Instant) -> Option<Date> {
+    let written = word.parse().ok().or_else(|| german_date(word));
+    written.or_else(|| said_date(word, now)).or_else(|| long_date(word))
+}
+
+fn said_date(word: &str, now: Instant) -> Option<Date> {
     let days = match &normal(word)[..] {
         "heute" => 0,
         "morgen" => 1,
         "uebermorgen" => 2,
         "gestern" => -1,
         "vorgestern" => -2,
-        _ => return word.parse().ok().or_else(|| german_date(word)).or_else(|| long_date(word)),
+        _ => return None,
     };
     berlin_date(now).ok()?.plus_days(days)
 }

@@ -1,17 +1,22 @@
 //! Words as people write them: in any case, with umlauts or without, mistyped.
 
+use std::mem;
+
 /// In small letters, with hyphens, and `ae`, `oe`, `ue` and `ss` for the letters that not every
 /// keyboard has.
 pub fn normal(word: &str) -> String {
-    let letter = |c: char| match c {
-        'ä' => vec!['a', 'e'],
-        'ö' => vec!['o', 'e'],
-        'ü' => vec!['u', 'e'],
-        'ß' => vec!['s', 's'],
-        '_' => vec!['-'],
-        _ => vec![c],
-    };
-    word.to_lowercase().chars().flat_map(letter).collect()
+    let mut normal = String::with_capacity(word.len());
+    for c in word.to_lowercase().chars() {
+        match c {
+            'ä' => normal.push_str("ae"),
+            'ö' => normal.push_str("oe"),
+            'ü' => normal.push_str("ue"),
+            'ß' => normal.push_str("ss"),
+            '_' => normal.push('-'),
+            _ => normal.push(c),
+        }
+    }
+    normal
 }
 
 /// Of longer words no more than these characters are compared: no name is as long.
@@ -41,7 +46,9 @@ fn nearest<'a>(word: &str, names: &[&'a str]) -> Option<&'a str> {
     let distance = |name: &str| {
         let name: Vec<char> = normal(name).chars().collect();
         let allowed = (name.len().min(word.len()) / 3).max(1);
-        Some(distance(&word, &name)).filter(|distance| *distance <= allowed)
+        // The difference of the lengths is the least that it can be.
+        let may_be_near = name.len().abs_diff(word.len()) <= allowed;
+        may_be_near.then(|| distance(&word, &name)).filter(|distance| *distance <= allowed)
     };
     let near = names.iter().filter_map(|name| Some((distance(name)?, *name)));
     near.min_by_key(|(distance, _)| *distance).map(|(_, name)| name)
@@ -55,20 +62,24 @@ fn is_part(word: &str, name: &str) -> bool {
 
 /// How many letters are to be put in, taken out, replaced, or swapped with their neighbour.
 fn distance(a: &[char], b: &[char]) -> usize {
-    let mut rows = vec![(0..=b.len()).collect::<Vec<_>>()];
+    // The rows of the letters of `a` up to one, up to the one before it, and up to the one before that.
+    let mut row = vec![0; b.len() + 1];
+    let mut last: Vec<usize> = (0..=b.len()).collect();
+    let mut before_last = row.clone();
     for i in 1..=a.len() {
-        let mut row = vec![i];
+        row[0] = i;
         for j in 1..=b.len() {
-            let replaced = rows[i - 1][j - 1] + usize::from(a[i - 1] != b[j - 1]);
-            let mut least = replaced.min(rows[i - 1][j] + 1).min(row[j - 1] + 1);
+            let replaced = last[j - 1] + usize::from(a[i - 1] != b[j - 1]);
+            let mut least = replaced.min(last[j] + 1).min(row[j - 1] + 1);
             if i > 1 && j > 1 && a[i - 1] == b[j - 2] && a[i - 2] == b[j - 1] {
-                least = least.min(rows[i - 2][j - 2] + 1);
+                least = least.min(before_last[j - 2] + 1);
             }
-            row.push(least);
+            row[j] = least;
         }
-        rows.push(row);
+        mem::swap(&mut before_last, &mut last);
+        mem::swap(&mut last, &mut row);
     }
-    rows[a.len()][b.len()]
+    last[b.len()]
 }
 
 #[cfg(test)]
