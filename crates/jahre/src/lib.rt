@@ -16,10 +16,10 @@ use werktag::HolidayCalendar;
 
 /// A year's own numbers: the weekday of its 1 January, its leap days, and Easter Sunday as a day of the year.
 #[derive(Clone, Copy)]
-struct Year {
-    first: u32,
-    leaps: u32,
-    easter: u32,
+pub struct Year {
+    pub first: u32,
+    pub leaps: u32,
+    pub easter: u32,
 }
 
 impl Model for Year {
