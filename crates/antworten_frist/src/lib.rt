@@ -166,8 +166,8 @@ pub fn aperak_gas_due_at_answer(
     ensures { result ≡ aperak_gas_due_at_answer (is_werktag cal) pid instant }
 {
     let received = instant.ok_or(Refusal::InstantOutside)?;
-    let kind = prozess_kind(fristen::gas_prozess(pid));
-    due_answer(kind, fristen::aperak_gas_due_at(pid, received, cal))
+    let (prozess, due) = fristen::aperak_gas_due_at(pid, received, cal);
+    due_answer(prozess_kind(prozess), due)
 }
 
 /// Some hours later, counted on the time line and not on the clock: 28 March 2026 12:00 Berlin and 24 hours is 29 March

@@ -4,6 +4,7 @@ pub mod Inside
 pub mod SummerTime
 pub mod LocalTimes
 pub mod Tiles
+pub mod Parts
 pub mod Comparisons
 pub mod Tagesbeginne
 pub mod OutsideValues

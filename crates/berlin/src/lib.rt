@@ -146,6 +146,19 @@ pub fn is_before(a: Moment, b: Moment) -> bool
     a < b
 }
 
+/// Whether an instant is earlier than another, of any two, inside the calendar or not: each by its UTC day, the second
+/// of that day and the nanoseconds. Numbers and no struct: nothing else is asked of such an instant.
+///
+/// Day 9,495 is before the calendar until second 82,800: (9,495, 0, 7) is before (9,495, 1, 0).
+#[tactic(auto, unfolding(crate::specs::Berlin::is_before))]
+pub fn is_before_by_parts(one: (u32, u32, u32), other: (u32, u32, u32)) -> bool
+    requires { (one.1 < day_seconds) × (other.1 < day_seconds) }
+    ensures { result ≡ is_before (record { utcday = one.0; second = one.1; nanos = one.2 })
+        (record { utcday = other.0; second = other.1; nanos = other.2 }) }
+{
+    one < other
+}
+
 /// Days since 1970, below zero too, and the second of the day.
 #[derive(Clone, Copy)]
 pub struct Split {

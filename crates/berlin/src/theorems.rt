@@ -5,6 +5,8 @@ ghost use Rattle.berlin.specs.LocalTimes.{LimitsAreBerlinDays, FoundIsEarliest, 
 ghost use Rattle.berlin.specs.LocalTimes.{RepeatedInOctober, MarchSwitchIsSunday, OctoberSwitchIsSunday};
 ghost use Rattle.berlin.specs.Tiles.{MidnightIsShown, EndIsShown, DaysTile, EndIsLast, EndIsInDay};
 ghost use Rattle.berlin.specs.Comparisons.{BeforeMidnightShowsEarlier, BeforeFullSecondShowsEarlier};
+ghost use Rattle.berlin.specs.Parts.{EarlierDayIsBefore, LaterDayIsNotBefore, EarlierSecondIsBefore};
+ghost use Rattle.berlin.specs.Parts.{LaterSecondIsNotBefore, NanosDecideInSecond};
 ghost use Rattle.berlin.specs.Tagesbeginne.{GasBeginningIsShown, BeginningBeginsItsDay, BegunDayHasBeginning};
 ghost use Rattle.berlin.specs.OutsideValues.{SwitchValues, ClockValues, BeginningValues, BegunDayValues};
 ghost use Rattle.berlin.specs.OutsideValues.{BerlinDayValues};
@@ -43,6 +45,16 @@ pub fn days_tile()
 pub fn comparisons()
     ensures midnight { BeforeMidnightShowsEarlier }
     ensures full_second { BeforeFullSecondShowsEarlier }
+{}
+
+/// Theorem: of two instants, inside the calendar or not, the first part in which they differ decides which is earlier:
+/// the UTC day, the second of that day, the nanoseconds.
+pub fn parts_decide()
+    ensures earlier_day { EarlierDayIsBefore }
+    ensures later_day { LaterDayIsNotBefore }
+    ensures earlier_second { EarlierSecondIsBefore }
+    ensures later_second { LaterSecondIsNotBefore }
+    ensures same_second { NanosDecideInSecond }
 {}
 
 /// Theorem: a day and the instant at which it begins lead to each other, in either Sparte. A Gas day begins when the

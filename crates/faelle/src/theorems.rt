@@ -31,6 +31,7 @@ pub fn call_all() {
     berlin::theorems::local_time();
     berlin::theorems::days_tile();
     berlin::theorems::comparisons();
+    berlin::theorems::parts_decide();
     berlin::theorems::tagesbeginn();
     berlin::theorems::outside_values();
     fristen::theorems::werktag_clocks();

@@ -2,8 +2,9 @@
 // order.
 //
 // A due instant is counted in seconds from the receipt, or is a local time on a day that is counted in Werktage from
-// the Berlin day of the receipt. Each promise is one equation with a definition of specs/. Four functions are another
-// under the name that the original has: the general Strom APERAK, the two of Gas, and `deadline_at_werktage`.
+// the Berlin day of the receipt. Each promise is one equation with a definition of specs/; `aperak_gas_due_at` gives a
+// pair, and has one for each part. Four functions are another under the name that the original has: the general Strom
+// APERAK, the two of Gas, and `deadline_at_werktage`.
 #![tactic(auto)]
 
 ghost use Rattle.std.specs.Prelude.{◌≡◌, ◌+◌, ◌*◌, ◌≤◌, ◌<◌};
@@ -303,18 +304,25 @@ pub fn gas_prozess(pid: u32) -> GasProzess
     GasProzess::Folgeprozess
 }
 
-/// When the Gas APERAK is due, by its Prüfidentifikator.
+/// Which process a Prüfidentifikator belongs to, and when its Gas APERAK is due.
 ///
-/// Received on Monday, 6 January 2025: 44001, Anmeldung NN, the end of Thursday, 9 January; 44051, Ende MSB, Tuesday, 7
-/// January 12:00.
+/// Received on Monday, 6 January 2025: 44001, Anmeldung NN, initial, the end of Thursday, 9 January; 44051, Ende MSB, a
+/// follow-up, Tuesday, 7 January 12:00.
 #[tactic(auto, unfolding(crate::specs::Fristen::aperak_gas_due_at, crate::specs::Fristen::gas_prozess))]
-pub fn aperak_gas_due_at(pid: u32, received: Moment, cal: HolidayCalendar) -> Result<Moment, NoDue>
-    ensures { result ≡ aperak_gas_due_at (is_werktag cal) pid received }
+pub fn aperak_gas_due_at(
+    pid: u32,
+    received: Moment,
+    cal: HolidayCalendar,
+) -> (GasProzess, Result<Moment, NoDue>)
+    ensures prozess { result.0 ≡ gas_prozess pid }
+    ensures due { result.1 ≡ aperak_gas_due_at (is_werktag cal) pid received }
 {
-    match gas_prozess(pid) {
+    let prozess = gas_prozess(pid);
+    let due = match prozess {
         GasProzess::Initialprozess => aperak_gas_initialprozess_due_at(received, cal),
         GasProzess::Folgeprozess => aperak_gas_folgeprozess_due_at(received, cal),
-    }
+    };
+    (prozess, due)
 }
 
 /// The clock on the first Werktag strictly after the receipt day.
