@@ -161,7 +161,10 @@ fn go_on(run: &mut Run, from: u32, to: u32, cal: HolidayCalendar) -> bool
     ensures value { result ≡ opens (year_of_run run.old) (beginning from to) }
 {
     let (Some(day), Some(_)) = (index(from), index(to)) else {
-        *run = None;
+        // Where there is none it stays: `None` is written over the whole of a year.
+        if run.is_some() {
+            *run = None;
+        }
         return false;
     };
     if is_of(run, day) {
