@@ -241,6 +241,7 @@ pub fn nth_werktag_at_answer(
 /// When an answer of a shape is due. "`SameDayAt` received exactly at the clock time goes to the next Werktag": 12:00,
 /// received 9 January 2026 12:00, is 12 January 12:00. "An absent clock there is refused", with 6. A clock or count
 /// that the shape does not use is not looked at.
+#[inline(always)]
 #[tactic(auto, unfolding(crate::specs::Frist::frist_due_at_answer))]
 pub fn frist_due_at_answer(
     code: u8,
@@ -251,6 +252,7 @@ pub fn frist_due_at_answer(
 ) -> Result<Answer, Refusal>
     ensures { result ≡ frist_due_at_answer (is_werktag cal) code werktage clock instant }
 {
+    // In line: handed on as values, clock, instant and answer go through memory, which a call feels.
     let known = shape_of(code, werktage, clock)?;
     let received = instant.ok_or(Refusal::InstantOutside)?;
     let shape = known.ok_or(Refusal::NoClock)?;

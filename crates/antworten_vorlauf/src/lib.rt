@@ -189,6 +189,7 @@ pub fn vorlauf_check_at_answer(
 }
 
 // The span of `LatestMonateBefore`: M(n, date) is a matter of dates, and takes half the time of that on a day.
+#[inline(always)]
 fn month_span_answer(date: Date, n: u32) -> Result<Answer, Refusal>
     ensures { result ≡ on_date (index_of date) (λ t. span_answer (span_from (M n t))) }
 {
@@ -204,6 +205,7 @@ fn month_span_answer(date: Date, n: u32) -> Result<Answer, Refusal>
 
 /// The anchors that a shape takes for a transmission date: "Kind 0 no last day, 1 both, 2 empty with both dates zero".
 /// `LatestWerktageBefore(1)` for 10 January 2026: from 13 January on. The window of 1 and 1 for that day is empty.
+#[inline(always)]
 #[tactic(auto, unfolding(crate::specs::Vorlauf::vorlauf_span_answer, vorlauf::specs::Span::span_of))]
 pub fn vorlauf_span_answer(
     code: u8,
@@ -214,6 +216,7 @@ pub fn vorlauf_span_answer(
 ) -> Result<Answer, Refusal>
     ensures { result ≡ vorlauf_span_answer (is_werktag cal) code count count2 date }
 {
+    // In line, as that of months: handed on as a value, the answer goes through memory, which a call feels.
     let shape = shape_of(code, count, count2)?;
     if let VorlaufShape::LatestMonateBefore(n) = shape {
         return month_span_answer(date, n);

@@ -431,10 +431,12 @@ impl FristShape {
     ///
     /// `SameDayAt` 12:00, received on Friday, 9 January 2026 at 12:00: Monday, 12 January 12:00; a second earlier, the
     /// same day.
+    #[inline(always)]
     #[tactic(auto, unfolding(crate::specs::FristShape::due_at_of))]
     pub fn due_at(self, received: Moment, cal: HolidayCalendar) -> Result<Moment, NoDue>
         ensures { result ≡ due_at_of (is_werktag cal) self received }
     {
+        // In line: at a call the instant goes through memory, which the calls for the end of a day would feel.
         match self {
             FristShape::WerktagAt { werktage, at } => nth_werktag_at(received, werktage, at, cal),
             FristShape::EndOfWerktag(n) => end_of_werktag_after(received, n, cal),
