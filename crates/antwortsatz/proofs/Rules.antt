@@ -1,23 +1,81 @@
 -- What the proofs cite: each rule's premises have the form in which a proof has them, so that `search` finds the rule.
 --   bytes_length  an answer has 32 bytes
+--   numbered_are, seconds_bits   for `numbered_bytes`: the seconds may be any way to say their bits, as std's is
+--   answer_numbered, refusal_numbered   for `bytes_of`: an answer is 0 beside its fields, a refusal its number beside
+--                 none
+--   numbered_below   each byte of a number beside fields fits, if the number and the kind do
 --   reply_other   a slice of another length than 32 is left as it was
 --   reply_whole   what a slice of 32 bytes gets
 --   reply_done    for `reply_with`: all 32 bytes are written, and the first is returned
+--   numbered_other, numbered_done   for `numbered_reply`: the same, where the number is returned
 -- Assumes nothing.
-use Prim.Native.Nat.{ℕ}
+use Prim.Native.Nat.{ℕ, ◌<◌}
 use mathlib.Core.Path.{◌≡◌, refl}
-use mathlib.Core.List.{List}
+use mathlib.Core.List.{List, ◌∷◌, ◌++◌}
+use native.Mathlib.Omega.{arith}
 use borrow.Author.Tests.{eq-eqb, ne_eqb}
+use mir.Syntax.{w64}
+use mir.Val.{SFits, to_z, of_z}
+use mir.Facts.{to_z-of_z}
+use lib.IntN.{ℤ}
 use lib.ListN.{length, get_or}
 use Rattle.std.specs.Prelude.{Result, Ok, Err}
+use Rattle.zahlen.specs.LittleEndian.{le4, le8}
+use Rattle.zahlen.specs.TwosComplement.{bits_in, bits_of}
+use Rattle.zahlen.proofs.Std.{bits_std}
+use Rattle.zahlen.proofs.RoundTrip.{Below, below_append, le_below, le4_is, le8_is}
+use Rattle.zahlen.proofs.RoundTrip.Below.{more}
 use Rattle.antwortsatz.specs.declared.Answer.{Answer}
 use Rattle.antwortsatz.specs.declared.Refusal.{Refusal}
-use Rattle.antwortsatz.specs.Bytes.{refusal_of, bytes_of, reply}
+use Rattle.antwortsatz.specs.Refusals.{number}
+use Rattle.antwortsatz.specs.Answers.{no_fields}
+use Rattle.antwortsatz.specs.Bytes.{refusal_of, bytes_of, reply, numbered_bytes, numbered_reply}
 
 pub bytes_length : (a : Result Answer Refusal) → length (bytes_of a) ≡ 32
 unfolding bytes_of
 bytes_length (Ok a) = refl
 bytes_length (Err r) = refl
+
+pub seconds_bits : (z : ℤ) → SFits w64 z → of_z w64 (to_z w64 (of_z w64 z)) ≡ bits_of z
+seconds_bits z f = rw (to_z-of_z f, bits_std)
+
+pub numbered_are :
+    (x : ℕ) (a : Answer) (s : ℕ) → s ≡ bits_of a.seconds →
+    x ∷ a.kind ∷ 0 ∷ 0 ∷
+    (le4 a.count ++ (le8 s ++ (le4 a.nanos ++ (le4 a.word20 ++ (le4 a.word24 ++ le4 a.word28))))) ≡ numbered_bytes x a
+unfolding numbered_bytes
+numbered_are x a s e = rw e
+
+pub ruleset fields_rules = (numbered_are, seconds_bits)
+
+pub answer_numbered : (a : Answer) → bytes_of (Ok a) ≡ numbered_bytes 0 a
+unfolding bytes_of numbered_bytes
+answer_numbered a = refl
+
+pub refusal_numbered : (r : Refusal) → bytes_of (Err r) ≡ numbered_bytes (number r) no_fields
+unfolding bytes_of numbered_bytes bits_in
+refusal_numbered r = refl
+
+pub ruleset bytes_rules = (answer_numbered, refusal_numbered)
+
+below_le4 : (x : ℕ) → Below (le4 x)
+below_le4 x = rw le4_is (le_below 4 x)
+
+below_le8 : (x : ℕ) → Below (le8 x)
+below_le8 x = rw le8_is (le_below 8 x)
+
+null : 0 < 256
+null = omega arith
+
+pub numbered_below : (x : ℕ) (a : Answer) → x < 256 → a.kind < 256 → Below (numbered_bytes x a)
+unfolding numbered_bytes
+numbered_below x a n k =
+    more n (more k (more null (more null
+    (below_append (below_le4 a.count)
+    (below_append (below_le8 (bits_of a.seconds))
+    (below_append (below_le4 a.nanos)
+    (below_append (below_le4 a.word20)
+    (below_append (below_le4 a.word24) (below_le4 a.word28)))))))))
 
 pub reply_other :
     (l : List ℕ) (a : Result Answer Refusal) (r : ℕ) → r ≡ 1 → (length l ≡ 32 → ⊥) → (r, l) ≡ reply l a
@@ -38,3 +96,15 @@ pub reply_done :
 reply_done l b a h e = rw (reply_whole l a h, e, first_byte a)
 
 pub ruleset reply_rules = (reply_other, reply_done)
+
+pub numbered_other :
+    (l : List ℕ) (x : ℕ) (a : Answer) (r : ℕ) → r ≡ 1 → (length l ≡ 32 → ⊥) → (r, l) ≡ numbered_reply l x a
+unfolding numbered_reply
+numbered_other l x a r e h = rw (ne_eqb (length l) 32 h, e)
+
+pub numbered_done :
+    (l b : List ℕ) (x : ℕ) (a : Answer) → length l ≡ 32 → b ≡ numbered_bytes x a → (x, b) ≡ numbered_reply l x a
+unfolding numbered_reply
+numbered_done l b x a h e = rw (eq-eqb (length l) 32 h, e)
+
+pub ruleset numbered_rules = (numbered_other, numbered_done)
