@@ -7,18 +7,19 @@
 --   reply_other   a slice of another length than 32 is left as it was
 --   reply_whole   what a slice of 32 bytes gets
 --   reply_done    for `reply_with`: all 32 bytes are written, and the first is returned
---   numbered_other, numbered_done   for `numbered_reply`: the same, where the number is returned
+--   numbered_rules   for `numbered_reply`: what `reply` refuses is left; else byte 0 is there, and gets the number
 -- Assumes nothing.
 use Prim.Native.Nat.{ℕ, ◌<◌}
-use mathlib.Core.Path.{◌≡◌, refl}
+use mathlib.Core.Path.{◌≡◌, refl, ap, ◌∙◌}
 use mathlib.Core.List.{List, ◌∷◌, ◌++◌}
+use native.Mathlib.Decide.{ℕ_discrete as dec_eq}
 use native.Mathlib.Omega.{arith}
 use borrow.Author.Tests.{eq-eqb, ne_eqb}
 use mir.Syntax.{w64}
 use mir.Val.{SFits, to_z, of_z}
 use mir.Facts.{to_z-of_z}
 use lib.IntN.{ℤ}
-use lib.ListN.{length, get_or}
+use lib.ListN.{length, get_or, set}
 use Rattle.std.specs.Prelude.{Result, Ok, Err}
 use Rattle.zahlen.specs.LittleEndian.{le4, le8}
 use Rattle.zahlen.specs.TwosComplement.{bits_in, bits_of}
@@ -97,14 +98,49 @@ reply_done l b a h e = rw (reply_whole l a h, e, first_byte a)
 
 pub ruleset reply_rules = (reply_other, reply_done)
 
-pub numbered_other :
-    (l : List ℕ) (x : ℕ) (a : Answer) (r : ℕ) → r ≡ 1 → (length l ≡ 32 → ⊥) → (r, l) ≡ numbered_reply l x a
+reply_else : (l : List ℕ) (a : Result Answer Refusal) → (length l ≡ 32 → ⊥) → reply l a ≡ (1, l)
+unfolding reply
+reply_else l a h = rw (ne_eqb (length l) 32 h)
+
+numbered_else : (l : List ℕ) (x : ℕ) (a : Answer) → (length l ≡ 32 → ⊥) → numbered_reply l x a ≡ (1, l)
 unfolding numbered_reply
-numbered_other l x a r e h = rw (ne_eqb (length l) 32 h, e)
+numbered_else l x a h = rw (ne_eqb (length l) 32 h)
+
+numbered_whole :
+    (l : List ℕ) (x : ℕ) (a : Answer) → length l ≡ 32 → numbered_reply l x a ≡ (x, numbered_bytes x a)
+unfolding numbered_reply
+numbered_whole l x a h = rw (eq-eqb (length l) 32 h)
+
+number_first : (x : ℕ) (a : Answer) → set (bytes_of (Ok a)) 0 x ≡ numbered_bytes x a
+unfolding bytes_of numbered_bytes
+number_first x a = refl
+
+replied :
+    (l m : List ℕ) (r : ℕ) (a : Answer) →
+    (r, m) ≡ reply l (Ok a) → r ≡ 0 → (length l ≡ 32) × (m ≡ bytes_of (Ok a))
+replied l m r a e z =
+    elim (dec_eq (length l) 32) [
+      | yes q ↦ (q, ap (λ (p : ℕ × List ℕ). p.1) (e ∙ reply_whole l (Ok a) q))
+      | no q ↦
+          let o : r ≡ 1 = ap (λ (p : ℕ × List ℕ). p.0) (e ∙ reply_else l (Ok a) q) in
+          absurd (omega arith)
+    ]
+
+pub numbered_other :
+    (l m : List ℕ) (r x : ℕ) (a : Answer) → (r, m) ≡ reply l (Ok a) → (r ≡ 0 → ⊥) → (r, m) ≡ numbered_reply l x a
+numbered_other l m r x a e h =
+    elim (dec_eq (length l) 32) [
+      | yes q ↦ absurd (h (ap (λ (p : ℕ × List ℕ). p.0) (e ∙ reply_whole l (Ok a) q)))
+      | no q ↦ rw (numbered_else l x a q) (e ∙ reply_else l (Ok a) q)
+    ]
+
+pub numbered_length : (l m : List ℕ) (r : ℕ) (a : Answer) → (r, m) ≡ reply l (Ok a) → r ≡ 0 → 0 < length m
+numbered_length l m r a e z = rw ((replied l m r a e z).1, bytes_length (Ok a)) (omega arith)
 
 pub numbered_done :
-    (l b : List ℕ) (x : ℕ) (a : Answer) → length l ≡ 32 → b ≡ numbered_bytes x a → (x, b) ≡ numbered_reply l x a
-unfolding numbered_reply
-numbered_done l b x a h e = rw (eq-eqb (length l) 32 h, e)
+    (l m : List ℕ) (r x : ℕ) (a : Answer) →
+    (r, m) ≡ reply l (Ok a) → r ≡ 0 → (x, set m 0 x) ≡ numbered_reply l x a
+numbered_done l m r x a e z =
+    let w = replied l m r a e z in rw (numbered_whole l x a w.0, w.1, number_first x a)
 
-pub ruleset numbered_rules = (numbered_other, numbered_done)
+pub ruleset numbered_rules = (numbered_other, numbered_length, numbered_done)

@@ -210,20 +210,6 @@ pub fn bytes_of(a: Result<Answer, Refusal>) -> [u8; 32]
     }
 }
 
-/// Writes any number beside any fields and returns the number, if the slice has 32 bytes; else returns 1, "which leaves
-/// the slice untouched", as one of 31 bytes. With 200 and `of_kind(17)` it returns 200, also the first of the 32 bytes.
-#[tactic(auto, using(crate::proofs::Rules::numbered_rules))]
-pub fn numbered_reply(answer: &mut [u8], number: u8, fields: Answer) -> u8
-    ensures { (result, answer.new) ≡ numbered_reply answer.old number fields }
-{
-    if answer.len() == ANSWER_BYTES {
-        answer.copy_from_slice(&numbered_bytes(number, fields));
-        number
-    } else {
-        Refusal::AnswerLength.number()
-    }
-}
-
 /// Writes the answer and returns its refusal number, or 0, if the slice has 32 bytes; else returns 1, "which leaves the
 /// slice untouched", as one of 31 bytes. A number and no `Result`: that is what a host call returns.
 pub fn reply(answer: &mut [u8], a: Result<Answer, Refusal>) -> u8
@@ -246,4 +232,19 @@ pub fn reply_with<F: FnOnce() -> Result<Answer, Refusal>>(answer: &mut [u8], ask
     let bytes = bytes_of(ask());
     answer.copy_from_slice(&bytes);
     bytes[0]
+}
+
+/// Writes any number beside any fields and returns the number, if the slice has 32 bytes; else returns 1, "which leaves
+/// the slice untouched", as one of 31 bytes. With 200 and `of_kind(17)` it returns 200, also the first of the 32 bytes.
+#[tactic(auto, using(crate::proofs::Rules::numbered_rules))]
+pub fn numbered_reply(answer: &mut [u8], number: u8, fields: Answer) -> u8
+    ensures { (result, answer.new) ≡ numbered_reply answer.old number fields }
+{
+    // Through the one writer, which leaves 0 in byte 0 of an answer.
+    let refusal = reply(answer, Ok(fields));
+    if refusal != 0 {
+        return refusal;
+    }
+    answer[0] = number;
+    number
 }
