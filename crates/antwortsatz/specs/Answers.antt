@@ -1,5 +1,6 @@
 -- The answers of the host calls by name: those that fill one field, an instant, a verdict or a span.
 --   filled k n s x u v w = the answer of all its fields, in the order of their bytes
+--   no_fields            = all zero, as beside a refusal: 'A refusal leaves bytes 1 to 31 zero'
 --   date_word d          = the date d as a word: year, month, day from the lowest byte up
 --   of_kind k            = kind k alone: 'a deregistration reason [has] the code of its case'
 --   counted n t          = count n and the days tested, t: 'a count [fills] the count'; document 02, F-3: 'how many
@@ -22,6 +23,9 @@ use Rattle.antwortsatz.specs.declared.Answer.{Answer}
 abbrev pub filled : ℕ → ℕ → ℤ → ℕ → ℕ → ℕ → ℕ → Answer
 filled k n s x u v w =
     record { kind = k; count = n; seconds = s; nanos = x; word20 = u; word24 = v; word28 = w }
+
+abbrev pub no_fields : Answer
+no_fields = filled 0 0 (pos 0) 0 0 0 0
 
 abbrev pub date_word : Date → ℕ
 date_word d = d.year + 65536 * d.month + 16777216 * d.day

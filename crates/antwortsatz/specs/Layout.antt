@@ -7,6 +7,14 @@
 --   AnswerBeginsWithZero    byte 0 of an answer is 0
 --   RefusalBeginsWithNumber   byte 0 of a refusal is its number
 --   RefusalIsNumberAlone    bytes 1 to 31 of a refusal are zero
+-- Of any number beside any fields, `numbered_bytes`, of which those of an answer and of a refusal are some:
+--   NumberedHas32Bytes      they are 32 bytes
+--   NumberedBytesFit        each is below 256, if the number and the kind are
+--   NumberIsAlone           beside no fields the number is alone: bytes 1 to 31 are zero
+--   AnswerIsNumbered        an answer's bytes are those of 0 beside its fields
+--   RefusalIsNumbered       a refusal's are those of its number beside no fields
+--   AnswerReplyIsNumbered   a call with an answer returns and leaves what it does with 0 beside the answer's fields
+--   RefusalReplyIsNumbered   one with a refusal what it does with its number beside no fields
 -- Of an answer, where the field fits its bytes:
 --   KindInByte1             the kind is byte 1
 --   ZeroInBytes2And3        bytes 2 and 3 are zero
@@ -21,7 +29,7 @@
 --   MarginFromByte28        the margin is read from bytes 28 to 31
 --   NoMarginBesideKindAlone   in an answer that is a kind alone, as where there is no shape, these bytes give 0
 --   NoMarginInRefusal       in a refusal they give 0 too
-use Rattle.std.specs.Prelude.{ℕ, ◌<◌, ◌≡◌, [], ◌∷◌, ◌++◌, length, replicate, slice_get, All, ℤ, pos, FitsSigned}
+use Rattle.std.specs.Prelude.{ℕ, ◌<◌, ◌≡◌, List, [], ◌∷◌, ◌++◌, length, replicate, slice_get, All, ℤ, pos, FitsSigned}
 use Rattle.std.specs.Prelude.{Option, Some, Result, Ok, Err}
 use Rattle.std.specs.Int.{w32, w64}
 use Rattle.datum.specs.declared.Date.{Date}
@@ -31,8 +39,8 @@ use Rattle.zahlen.specs.ReadBack.{i32_at}
 use Rattle.antwortsatz.specs.declared.Answer.{Answer}
 use Rattle.antwortsatz.specs.declared.Refusal.{Refusal}
 use Rattle.antwortsatz.specs.Refusals.{number}
-use Rattle.antwortsatz.specs.Answers.{date_word, of_kind, judged}
-use Rattle.antwortsatz.specs.Bytes.{bytes_of}
+use Rattle.antwortsatz.specs.Answers.{no_fields, date_word, of_kind, judged}
+use Rattle.antwortsatz.specs.Bytes.{bytes_of, reply, numbered_bytes, numbered_reply}
 
 abbrev pub AnswerHas32Bytes : Type 0
 AnswerHas32Bytes = (answer : Result Answer Refusal) → length (bytes_of answer) ≡ 32
@@ -51,6 +59,32 @@ RefusalBeginsWithNumber = (refusal : Refusal) → slice_get (bytes_of (Err refus
 
 abbrev pub RefusalIsNumberAlone : Type 0
 RefusalIsNumberAlone = (refusal : Refusal) → bytes_of (Err refusal) ≡ number refusal ∷ replicate 31 0
+
+abbrev pub NumberedHas32Bytes : Type 0
+NumberedHas32Bytes = (number : ℕ) (fields : Answer) → length (numbered_bytes number fields) ≡ 32
+
+abbrev pub NumberedBytesFit : Type 0
+NumberedBytesFit =
+    (number : ℕ) (fields : Answer) → number < 256 → fields.kind < 256 →
+    All (λ byte. byte < 256) (numbered_bytes number fields)
+
+abbrev pub NumberIsAlone : Type 0
+NumberIsAlone = (number : ℕ) → numbered_bytes number no_fields ≡ number ∷ replicate 31 0
+
+abbrev pub AnswerIsNumbered : Type 0
+AnswerIsNumbered = (answer : Answer) → bytes_of (Ok answer) ≡ numbered_bytes 0 answer
+
+abbrev pub RefusalIsNumbered : Type 0
+RefusalIsNumbered = (refusal : Refusal) → bytes_of (Err refusal) ≡ numbered_bytes (number refusal) no_fields
+
+abbrev pub AnswerReplyIsNumbered : Type 0
+AnswerReplyIsNumbered =
+    (slice : List ℕ) (answer : Answer) → reply slice (Ok answer) ≡ numbered_reply slice 0 answer
+
+abbrev pub RefusalReplyIsNumbered : Type 0
+RefusalReplyIsNumbered =
+    (slice : List ℕ) (refusal : Refusal) →
+    reply slice (Err refusal) ≡ numbered_reply slice (number refusal) no_fields
 
 abbrev pub KindInByte1 : Type 0
 KindInByte1 = (answer : Answer) → slice_get (bytes_of (Ok answer)) 1 ≡ Some answer.kind

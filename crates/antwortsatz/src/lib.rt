@@ -6,7 +6,7 @@ ghost use Rattle.std.specs.Prelude.{◌≡◌, Result};
 ghost use Rattle.antwortsatz.specs.declared.Answer.{Answer};
 ghost use Rattle.antwortsatz.specs.declared.Refusal.{Refusal};
 ghost use Rattle.antwortsatz.specs.Refusals.{number};
-ghost use Rattle.antwortsatz.specs.Bytes.{bytes_of, reply};
+ghost use Rattle.antwortsatz.specs.Bytes.{numbered_bytes, bytes_of, reply, numbered_reply};
 ghost use Rattle.antwortsatz.specs.Answers.{date_word, filled, of_kind, counted, dated, at_instant, judged, spanned};
 
 use datum::Date;
@@ -179,25 +179,35 @@ pub fn spanned(kind: u8, first: Date, last: Option<Date>) -> Answer
     }
 }
 
-/// The 32 bytes of an answer, "little-endian, no header". "A refusal leaves bytes 1 to 31 zero": those of
-/// `Err(Refusal::NoDate)` are 03 and 31 times 00.
+/// The 32 bytes of any number beside any fields, "little-endian, no header", with the number in byte 0. Those of 3
+/// beside `Answer::default()` are 03 and 31 times 00; those of 200 beside `of_kind(17)` are c8 11 and 30 times 00. Any
+/// number is taken: `bytes_of` writes the refusals that there are.
+#[tactic(auto, using(crate::proofs::Rules::fields_rules))]
+pub fn numbered_bytes(number: u8, fields: Answer) -> [u8; 32]
+    ensures { result ≡ numbered_bytes number fields }
+{
+    let mut bytes = [0; 32];
+    bytes[0] = number;
+    bytes[1] = fields.kind;
+    bytes[4..8].copy_from_slice(&fields.count.to_le_bytes());
+    bytes[8..16].copy_from_slice(&fields.seconds.to_le_bytes());
+    bytes[16..20].copy_from_slice(&fields.nanos.to_le_bytes());
+    bytes[20..24].copy_from_slice(&fields.word20.to_le_bytes());
+    bytes[24..28].copy_from_slice(&fields.word24.to_le_bytes());
+    bytes[28..32].copy_from_slice(&fields.word28.to_le_bytes());
+    bytes
+}
+
+/// The 32 bytes of an answer, "little-endian, no header": 0 beside its fields. "A refusal leaves bytes 1 to 31 zero":
+/// those of `Err(Refusal::NoDate)` are 03 and 31 times 00.
+#[tactic(auto, using(crate::proofs::Rules::bytes_rules))]
 pub fn bytes_of(a: Result<Answer, Refusal>) -> [u8; 32]
     ensures { result ≡ bytes_of a }
 {
-    let mut bytes = [0; 32];
     match a {
-        Ok(a) => {
-            bytes[1] = a.kind;
-            bytes[4..8].copy_from_slice(&a.count.to_le_bytes());
-            bytes[8..16].copy_from_slice(&a.seconds.to_le_bytes());
-            bytes[16..20].copy_from_slice(&a.nanos.to_le_bytes());
-            bytes[20..24].copy_from_slice(&a.word20.to_le_bytes());
-            bytes[24..28].copy_from_slice(&a.word24.to_le_bytes());
-            bytes[28..32].copy_from_slice(&a.word28.to_le_bytes());
-        }
-        Err(r) => bytes[0] = r.number(),
+        Ok(a) => numbered_bytes(0, a),
+        Err(r) => numbered_bytes(r.number(), Answer::default()),
     }
-    bytes
 }
 
 /// Writes the answer and returns its refusal number, or 0, if the slice has 32 bytes; else returns 1, "which leaves the
@@ -222,4 +232,19 @@ pub fn reply_with<F: FnOnce() -> Result<Answer, Refusal>>(answer: &mut [u8], ask
     let bytes = bytes_of(ask());
     answer.copy_from_slice(&bytes);
     bytes[0]
+}
+
+/// Writes any number beside any fields and returns the number, if the slice has 32 bytes; else returns 1, "which leaves
+/// the slice untouched", as one of 31 bytes. With 200 and `of_kind(17)` it returns 200, also the first of the 32 bytes.
+#[tactic(auto, using(crate::proofs::Rules::numbered_rules))]
+pub fn numbered_reply(answer: &mut [u8], number: u8, fields: Answer) -> u8
+    ensures { (result, answer.new) ≡ numbered_reply answer.old number fields }
+{
+    // Through the one writer, which leaves 0 in byte 0 of an answer.
+    let refusal = reply(answer, Ok(fields));
+    if refusal != 0 {
+        return refusal;
+    }
+    answer[0] = number;
+    number
 }

@@ -2,6 +2,9 @@
 
 ghost use Rattle.antwortsatz.specs.Layout.{AnswerHas32Bytes, AnswerBytesFit, RefusalBytesFit, AnswerBeginsWithZero};
 ghost use Rattle.antwortsatz.specs.Layout.{RefusalBeginsWithNumber, RefusalIsNumberAlone};
+ghost use Rattle.antwortsatz.specs.Layout.{NumberedHas32Bytes, NumberedBytesFit, NumberIsAlone};
+ghost use Rattle.antwortsatz.specs.Layout.{AnswerIsNumbered, RefusalIsNumbered};
+ghost use Rattle.antwortsatz.specs.Layout.{AnswerReplyIsNumbered, RefusalReplyIsNumbered};
 ghost use Rattle.antwortsatz.specs.Layout.{KindInByte1, ZeroInBytes2And3, CountFromByte4, SecondsFromByte8};
 ghost use Rattle.antwortsatz.specs.Layout.{NanosFromByte16, Word20FromByte20, Word24FromByte24, Word28FromByte28};
 ghost use Rattle.antwortsatz.specs.Layout.{DateWordBytes, MarginFromByte28, NoMarginBesideKindAlone, NoMarginInRefusal};
@@ -15,6 +18,18 @@ pub fn answer_bytes()
     ensures answer_begins { AnswerBeginsWithZero }
     ensures refusal_begins { RefusalBeginsWithNumber }
     ensures refusal_alone { RefusalIsNumberAlone }
+{}
+
+/// Theorem: any number beside any fields has 32 bytes, and beside no fields all but the number is zero. An answer is 0
+/// beside its fields and a refusal its number beside none, in the bytes and in what a call returns and leaves.
+pub fn numbered_answers()
+    ensures length { NumberedHas32Bytes }
+    ensures fits { NumberedBytesFit }
+    ensures alone { NumberIsAlone }
+    ensures answer { AnswerIsNumbered }
+    ensures refusal { RefusalIsNumbered }
+    ensures answer_reply { AnswerReplyIsNumbered }
+    ensures refusal_reply { RefusalReplyIsNumbered }
 {}
 
 /// Theorem: every field of an answer that fits its bytes is read back from its place in the 32 bytes.

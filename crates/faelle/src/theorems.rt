@@ -51,6 +51,7 @@ pub fn call_all() {
     zahlen::theorems::read_is_written_back();
     zahlen::theorems::signed_and_bits();
     antwortsatz::theorems::answer_bytes();
+    antwortsatz::theorems::numbered_answers();
     antwortsatz::theorems::fields_are_read_back();
     antwortsatz::theorems::dates_and_margins();
     fragesatz::theorems::question_and_bytes();

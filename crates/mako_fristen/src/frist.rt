@@ -26,11 +26,10 @@ pub fn mf_contrl_due_at(seconds: i64, nanos: u32, anlass: u8, answer: &mut [u8])
     ensures { (result, answer.new) ≡ reply answer.old
         (contrl_due_at_answer (read_instant seconds nanos) anlass) }
 {
-    let instant = berlin::read_instant(seconds, nanos);
-    antwortsatz::reply_with(
-        answer,
-        || antworten_frist::contrl_due_at_answer(instant, anlass),
-    )
+    antwortsatz::reply_with(answer, || {
+        let instant = berlin::read_instant(seconds, nanos);
+        antworten_frist::contrl_due_at_answer(instant, anlass)
+    })
 }
 
 /// When a CONTRL is due if the Formatumstellung is on another day than 1 April or 1 October: "the window runs from
@@ -50,12 +49,11 @@ pub fn mf_contrl_due_at_change(
     ensures { (result, answer.new) ≡ reply answer.old
         (contrl_due_at_change_answer (read_instant seconds nanos) anlass (date_from year month day)) }
 {
-    let instant = berlin::read_instant(seconds, nanos);
     let change_day = Date { year, month, day };
-    antwortsatz::reply_with(
-        answer,
-        || antworten_frist::contrl_due_at_change_answer(instant, anlass, change_day),
-    )
+    antwortsatz::reply_with(answer, || {
+        let instant = berlin::read_instant(seconds, nanos);
+        antworten_frist::contrl_due_at_change_answer(instant, anlass, change_day)
+    })
 }
 
 /// When the Strom APERAK on a UTILMD or ORDERS is due: 45 minutes after its receipt; "Saturday gives Sunday 12:00".
@@ -65,11 +63,10 @@ pub fn mf_aperak_strom_due_at(seconds: i64, nanos: u32, answer: &mut [u8]) -> u8
     ensures { (result, answer.new) ≡ reply answer.old
         (aperak_strom_due_at_answer (read_instant seconds nanos)) }
 {
-    let instant = berlin::read_instant(seconds, nanos);
-    antwortsatz::reply_with(
-        answer,
-        || antworten_frist::aperak_strom_due_at_answer(instant),
-    )
+    antwortsatz::reply_with(answer, || {
+        let instant = berlin::read_instant(seconds, nanos);
+        antworten_frist::aperak_strom_due_at_answer(instant)
+    })
 }
 
 /// When any other Strom APERAK is due: "12:00 of the first Werktag after the receipt day". Received 2 April 2026, it is
@@ -78,14 +75,10 @@ pub fn mf_aperak_strom_allgemein_due_at(seconds: i64, nanos: u32, answer: &mut [
     ensures { (result, answer.new) ≡ reply answer.old
         (aperak_strom_allgemein_due_at_answer (is_werktag BdewMaKo) (read_instant seconds nanos)) }
 {
-    let instant = berlin::read_instant(seconds, nanos);
-    antwortsatz::reply_with(
-        answer,
-        || antworten_frist::aperak_strom_allgemein_due_at_answer(
-            instant,
-            HolidayCalendar::BdewMaKo,
-        ),
-    )
+    antwortsatz::reply_with(answer, || {
+        let instant = berlin::read_instant(seconds, nanos);
+        antworten_frist::aperak_strom_allgemein_due_at_answer(instant, HolidayCalendar::BdewMaKo)
+    })
 }
 
 /// When the Gas APERAK of a follow-up process is due, kind 0: 12:00 of the first Werktag after the receipt day, as
@@ -94,14 +87,10 @@ pub fn mf_aperak_gas_folgeprozess_due_at(seconds: i64, nanos: u32, answer: &mut 
     ensures { (result, answer.new) ≡ reply answer.old
         (aperak_gas_folgeprozess_due_at_answer (is_werktag BdewMaKo) (read_instant seconds nanos)) }
 {
-    let instant = berlin::read_instant(seconds, nanos);
-    antwortsatz::reply_with(
-        answer,
-        || antworten_frist::aperak_gas_folgeprozess_due_at_answer(
-            instant,
-            HolidayCalendar::BdewMaKo,
-        ),
-    )
+    antwortsatz::reply_with(answer, || {
+        let instant = berlin::read_instant(seconds, nanos);
+        antworten_frist::aperak_gas_folgeprozess_due_at_answer(instant, HolidayCalendar::BdewMaKo)
+    })
 }
 
 /// When the Gas APERAK of an initial process is due, kind 1: "end of the third Werktag after the receipt day". Received
@@ -110,14 +99,10 @@ pub fn mf_aperak_gas_initialprozess_due_at(seconds: i64, nanos: u32, answer: &mu
     ensures { (result, answer.new) ≡ reply answer.old
         (aperak_gas_initialprozess_due_at_answer (is_werktag BdewMaKo) (read_instant seconds nanos)) }
 {
-    let instant = berlin::read_instant(seconds, nanos);
-    antwortsatz::reply_with(
-        answer,
-        || antworten_frist::aperak_gas_initialprozess_due_at_answer(
-            instant,
-            HolidayCalendar::BdewMaKo,
-        ),
-    )
+    antwortsatz::reply_with(answer, || {
+        let instant = berlin::read_instant(seconds, nanos);
+        antworten_frist::aperak_gas_initialprozess_due_at_answer(instant, HolidayCalendar::BdewMaKo)
+    })
 }
 
 /// When the Gas APERAK of a Prüfidentifikator is due, "kind 1 for the initial process, else 0": 44001, 44016, 44039 and
@@ -126,11 +111,10 @@ pub fn mf_aperak_gas_due_at(pid: u32, seconds: i64, nanos: u32, answer: &mut [u8
     ensures { (result, answer.new) ≡ reply answer.old
         (aperak_gas_due_at_answer (is_werktag BdewMaKo) pid (read_instant seconds nanos)) }
 {
-    let instant = berlin::read_instant(seconds, nanos);
-    antwortsatz::reply_with(
-        answer,
-        || antworten_frist::aperak_gas_due_at_answer(pid, instant, HolidayCalendar::BdewMaKo),
-    )
+    antwortsatz::reply_with(answer, || {
+        let instant = berlin::read_instant(seconds, nanos);
+        antworten_frist::aperak_gas_due_at_answer(pid, instant, HolidayCalendar::BdewMaKo)
+    })
 }
 
 /// Some hours later, on the time line and not on the clock: 28 March 2026 12:00 Berlin and 24 hours is 29 March 13:00.
@@ -139,8 +123,10 @@ pub fn mf_add_hours(seconds: i64, nanos: u32, hours: u32, answer: &mut [u8]) -> 
     ensures { (result, answer.new) ≡ reply answer.old
         (add_hours_answer (read_instant seconds nanos) hours) }
 {
-    let instant = berlin::read_instant(seconds, nanos);
-    antwortsatz::reply_with(answer, || antworten_frist::add_hours_answer(instant, hours))
+    antwortsatz::reply_with(answer, || {
+        let instant = berlin::read_instant(seconds, nanos);
+        antworten_frist::add_hours_answer(instant, hours)
+    })
 }
 
 /// The end of the n-th Werktag after the Berlin day of an instant; with 0 that day's own end, Werktag or not. From 2
@@ -149,15 +135,10 @@ pub fn mf_deadline_at_werktage(seconds: i64, nanos: u32, werktage: u32, answer: 
     ensures { (result, answer.new) ≡ reply answer.old
         (deadline_at_werktage_answer (is_werktag BdewMaKo) (read_instant seconds nanos) werktage) }
 {
-    let instant = berlin::read_instant(seconds, nanos);
-    antwortsatz::reply_with(
-        answer,
-        || antworten_frist::deadline_at_werktage_answer(
-            instant,
-            werktage,
-            HolidayCalendar::BdewMaKo,
-        ),
-    )
+    antwortsatz::reply_with(answer, || {
+        let instant = berlin::read_instant(seconds, nanos);
+        antworten_frist::deadline_at_werktage_answer(instant, werktage, HolidayCalendar::BdewMaKo)
+    })
 }
 
 /// The end of the n-th Werktag after the receipt day; with 0 that day's own end. Received 2 April 2026, with 3: the end
@@ -166,15 +147,10 @@ pub fn mf_end_of_werktag_after(seconds: i64, nanos: u32, werktage: u32, answer: 
     ensures { (result, answer.new) ≡ reply answer.old
         (end_of_werktag_after_answer (is_werktag BdewMaKo) (read_instant seconds nanos) werktage) }
 {
-    let instant = berlin::read_instant(seconds, nanos);
-    antwortsatz::reply_with(
-        answer,
-        || antworten_frist::end_of_werktag_after_answer(
-            instant,
-            werktage,
-            HolidayCalendar::BdewMaKo,
-        ),
-    )
+    antwortsatz::reply_with(answer, || {
+        let instant = berlin::read_instant(seconds, nanos);
+        antworten_frist::end_of_werktag_after_answer(instant, werktage, HolidayCalendar::BdewMaKo)
+    })
 }
 
 /// A clock time on the first Werktag after the receipt day: received 2 April 2026, 12:00 of 7 April. 24:00 is no clock:
@@ -192,12 +168,11 @@ pub fn mf_next_werktag_at(
         (next_werktag_at_answer (is_werktag BdewMaKo) (read_instant seconds nanos)
         (read_clock hour minute second nanos_of_second)) }
 {
-    let instant = berlin::read_instant(seconds, nanos);
-    let clock = berlin::read_clock(hour, minute, second, nanos_of_second);
-    antwortsatz::reply_with(
-        answer,
-        || antworten_frist::next_werktag_at_answer(instant, clock, HolidayCalendar::BdewMaKo),
-    )
+    antwortsatz::reply_with(answer, || {
+        let instant = berlin::read_instant(seconds, nanos);
+        let clock = berlin::read_clock(hour, minute, second, nanos_of_second);
+        antworten_frist::next_werktag_at_answer(instant, clock, HolidayCalendar::BdewMaKo)
+    })
 }
 
 /// A clock time on the n-th Werktag after the receipt day; "with 0 equals 1". Received 2 April 2026, with 2: 8 April.
@@ -215,12 +190,11 @@ pub fn mf_nth_werktag_at(
         (nth_werktag_at_answer (is_werktag BdewMaKo) (read_instant seconds nanos) n
         (read_clock hour minute second nanos_of_second)) }
 {
-    let instant = berlin::read_instant(seconds, nanos);
-    let clock = berlin::read_clock(hour, minute, second, nanos_of_second);
-    antwortsatz::reply_with(
-        answer,
-        || antworten_frist::nth_werktag_at_answer(instant, n, clock, HolidayCalendar::BdewMaKo),
-    )
+    antwortsatz::reply_with(answer, || {
+        let instant = berlin::read_instant(seconds, nanos);
+        let clock = berlin::read_clock(hour, minute, second, nanos_of_second);
+        antworten_frist::nth_werktag_at_answer(instant, n, clock, HolidayCalendar::BdewMaKo)
+    })
 }
 
 /// When an answer of a shape is due. "`SameDayAt` received exactly at the clock time goes to the next Werktag": 12:00,
@@ -240,16 +214,15 @@ pub fn mf_frist_due_at(
         (frist_due_at_answer (is_werktag BdewMaKo) shape werktage (read_clock hour minute second nanos_of_second)
         (read_instant seconds nanos)) }
 {
-    let clock = berlin::read_clock(hour, minute, second, nanos_of_second);
-    let instant = berlin::read_instant(seconds, nanos);
-    antwortsatz::reply_with(
-        answer,
-        || antworten_frist::frist_due_at_answer(
+    antwortsatz::reply_with(answer, || {
+        let clock = berlin::read_clock(hour, minute, second, nanos_of_second);
+        let instant = berlin::read_instant(seconds, nanos);
+        antworten_frist::frist_due_at_answer(
             shape,
             werktage,
             clock,
             instant,
             HolidayCalendar::BdewMaKo,
-        ),
-    )
+        )
+    })
 }

@@ -1,10 +1,10 @@
-// The host calls: read the numbers, ask for the answer, write its 32 bytes.
+// The host calls: test the answer's length, read the numbers, ask for the answer, write its 32 bytes.
 //
 // Each call's promise is one equation: the number that it returns and the slices as it leaves them are what a
 // definition gives, which stands in specs/ of `antworten`, `antworten_frist`, `antworten_vorlauf`, `antworten_frage` or
-// `antworten_portfolio`. Refusal 1 is found before an answer is asked for: a host that lends a wrong length should not
-// pay for one. Every other is decided in the answer, but 9, which is a file's. There is one function for each call of
-// C, named as it: dates, clocks and instants come as numbers there, and are made here.
+// `antworten_portfolio`. Refusal 1 is found first, before instants and clocks are read: a host that lends a wrong
+// length should not pay for an answer. Every other is decided in the answer, but 9, which is a file's. There is one
+// function for each call of C, named as it: dates, clocks and instants come as numbers there, and are made here.
 #![tactic(auto)]
 
 mod fragen;

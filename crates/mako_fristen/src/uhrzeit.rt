@@ -24,8 +24,10 @@ pub fn mf_berlin_at(
         (berlin_at_answer (date_from year month day) (read_clock hour minute second nanos_of_second)) }
 {
     let date = Date { year, month, day };
-    let clock = berlin::read_clock(hour, minute, second, nanos_of_second);
-    antwortsatz::reply_with(answer, || antworten::uhrzeit::berlin_at_answer(date, clock))
+    antwortsatz::reply_with(answer, || {
+        let clock = berlin::read_clock(hour, minute, second, nanos_of_second);
+        antworten::uhrzeit::berlin_at_answer(date, clock)
+    })
 }
 
 /// The first instant of a Berlin day: 9 January 2026 begins on the 8th at 23:00 UTC, 9 July on the 8th at 22:00.
@@ -70,8 +72,10 @@ pub fn mf_berlin_date(seconds: i64, nanos: u32, answer: &mut [u8]) -> u8
     ensures { (result, answer.new) ≡ reply answer.old
         (berlin_date_answer (read_instant seconds nanos)) }
 {
-    let instant = berlin::read_instant(seconds, nanos);
-    antwortsatz::reply_with(answer, || antworten::uhrzeit::berlin_date_answer(instant))
+    antwortsatz::reply_with(answer, || {
+        let instant = berlin::read_instant(seconds, nanos);
+        antworten::uhrzeit::berlin_date_answer(instant)
+    })
 }
 
 /// The date of the day that begins at an instant in a Sparte: 29 March 2026 04:00 UTC begins the Gas day 29 March, and
@@ -80,9 +84,8 @@ pub fn mf_tag_des_beginns(seconds: i64, nanos: u32, sparte: u8, answer: &mut [u8
     ensures { (result, answer.new) ≡ reply answer.old
         (tag_des_beginns_answer (read_instant seconds nanos) sparte) }
 {
-    let instant = berlin::read_instant(seconds, nanos);
-    antwortsatz::reply_with(
-        answer,
-        || antworten::uhrzeit::tag_des_beginns_answer(instant, sparte),
-    )
+    antwortsatz::reply_with(answer, || {
+        let instant = berlin::read_instant(seconds, nanos);
+        antworten::uhrzeit::tag_des_beginns_answer(instant, sparte)
+    })
 }

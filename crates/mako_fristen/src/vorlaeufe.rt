@@ -69,11 +69,10 @@ pub fn mf_vorlauf_check_at(
         (vorlauf_check_at_answer (is_werktag BdewMaKo) shape count count2 sparte (read_instant seconds nanos)
         (read_instant seconds2 nanos2)) }
 {
-    let instant = berlin::read_instant(seconds, nanos);
-    let beginning = berlin::read_instant(seconds2, nanos2);
-    antwortsatz::reply_with(
-        answer,
-        || antworten_vorlauf::vorlauf_check_at_answer(
+    antwortsatz::reply_with(answer, || {
+        let instant = berlin::read_instant(seconds, nanos);
+        let beginning = berlin::read_instant(seconds2, nanos2);
+        antworten_vorlauf::vorlauf_check_at_answer(
             shape,
             count,
             count2,
@@ -81,8 +80,8 @@ pub fn mf_vorlauf_check_at(
             instant,
             beginning,
             HolidayCalendar::BdewMaKo,
-        ),
-    )
+        )
+    })
 }
 
 /// The anchors that a shape takes for a transmission date: "Kind 0 no last day, 1 both, 2 empty with both dates zero".
@@ -176,13 +175,12 @@ pub fn mf_eog_ankuendigung_fristgerecht(
         (date_from year month day)) }
 {
     let date = Date { year, month, day };
-    let instant = berlin::read_instant(seconds, nanos);
-    antwortsatz::reply_with(
-        answer,
-        || antworten_vorlauf::eog_ankuendigung_fristgerecht_answer(
+    antwortsatz::reply_with(answer, || {
+        let instant = berlin::read_instant(seconds, nanos);
+        antworten_vorlauf::eog_ankuendigung_fristgerecht_answer(
             instant,
             date,
             HolidayCalendar::BdewMaKo,
-        ),
-    )
+        )
+    })
 }
