@@ -235,7 +235,8 @@ pub fn reply_with<F: FnOnce() -> Result<Answer, Refusal>>(answer: &mut [u8], ask
 }
 
 /// Writes any number beside any fields and returns the number, if the slice has 32 bytes; else returns 1, "which leaves
-/// the slice untouched", as one of 31 bytes. With 200 and `of_kind(17)` it returns 200, also the first of the 32 bytes.
+/// the slice untouched", as one of 31 bytes. With 200 and `of_kind(17)` it returns 200, which is the first of the 32
+/// bytes.
 #[tactic(auto, using(crate::proofs::Rules::numbered_rules))]
 pub fn numbered_reply(answer: &mut [u8], number: u8, fields: Answer) -> u8
     ensures { (result, answer.new) ≡ numbered_reply answer.old number fields }

@@ -436,7 +436,7 @@ impl FristShape {
     pub fn due_at(self, received: Moment, cal: HolidayCalendar) -> Result<Moment, NoDue>
         ensures { result ≡ due_at_of (is_werktag cal) self received }
     {
-        // In line: at a call the instant goes through memory, which the calls for the end of a day would feel.
+        // In line: at a call the instant goes through memory, which `EndOfWerktag` and `SameDay` would feel.
         match self {
             FristShape::WerktagAt { werktage, at } => nth_werktag_at(received, werktage, at, cal),
             FristShape::EndOfWerktag(n) => end_of_werktag_after(received, n, cal),

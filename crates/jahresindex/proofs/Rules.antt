@@ -1,6 +1,7 @@
 -- What the proofs of this crate's functions cite, with premises in the form in which they stand there.
 --   is_before         `werktage_before_year`: entry k of the table, and that it is no large number
---   parted, is_year   `year_of_werktag`: the entries below n are the first ones, and k is how many they are
+--   parted, is_year   `year_of_werktag`: of the entries behind the first those below n come first, and k is how many
+--                     they are
 -- Source: document 02, F-3.
 -- Assumes nothing.
 use Prim.Native.Nat.{ℕ, suc, ◌+◌, ◌-◌, ◌≤◌, ◌<◌}

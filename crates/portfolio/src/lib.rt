@@ -161,7 +161,7 @@ fn go_on(run: &mut Run, from: u32, to: u32, cal: HolidayCalendar) -> bool
     ensures value { result ≡ opens (year_of_run run.old) (beginning from to) }
 {
     let (Some(day), Some(_)) = (index(from), index(to)) else {
-        // Where there is none it stays: `None` is written over the whole of a year.
+        // `None` is written over a whole year, so only where there is one.
         if run.is_some() {
             *run = None;
         }

@@ -214,13 +214,15 @@ impl<'a> Words<'a> {
     /// The next word, or three of the form `2. April 2026`.
     fn date_text(&mut self, label: &str) -> Result<OsString, Usage> {
         let first = self.next(label)?;
-        if first.to_str().is_some_and(|word| reading::date(word, self.now).is_some()) {
+        let is_date = |word: &str| reading::date(word, self.now).is_some();
+        // Only what has blanks may still be a date with two words more.
+        if first.to_str().is_some_and(|word| !word.contains(char::is_whitespace) && is_date(word)) {
             return Ok(first.to_owned());
         }
         let rest: Vec<&str> = self.left.as_slice().iter().map_while(|word| word.to_str()).collect();
         if let (Some(day), [month, year, ..]) = (first.to_str(), &rest[..]) {
             let text = format!("{day} {month} {year}");
-            if reading::date(&text, self.now).is_some() {
+            if is_date(&text) {
                 self.left.nth(1);
                 return Ok(text.into());
             }
