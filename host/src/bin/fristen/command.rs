@@ -101,16 +101,24 @@ impl Command {
         if name.len() > LONGEST_NAME {
             return false;
         }
-        let name = normal(name);
-        self.names().any(|known| known == name) || self.host_call().as_ref() == Some(&name)
+        self.is_known_as(&normal(name))
     }
 
-    /// The host call's name, with hyphens.
-    fn host_call(&self) -> Option<String> {
+    /// By a name in small letters, with hyphens. Each line of a file asks, so no name is written anew that may not be it.
+    fn is_known_as(&self, name: &str) -> bool {
+        let is = |known: &str| known.len() == name.len() && known.replace('_', "-") == name;
+        self.name == name
+            || self.german == Some(name)
+            || self.host_call().is_some_and(is)
+            || self.call().is_some_and(|call| is(call.name().trim_start_matches("mf_")))
+    }
+
+    /// The host call's name.
+    fn host_call(&self) -> Option<&'static str> {
         match self.task {
-            Task::Ask(call) => Some(normal(call.name())),
-            Task::Fragen => Some("mf-questions".to_owned()),
-            Task::Portfolio => Some("mf-portfolio".to_owned()),
+            Task::Ask(call) => Some(call.name()),
+            Task::Fragen => Some("mf_questions"),
+            Task::Portfolio => Some("mf_portfolio"),
             Task::Kalender | Task::BisWann => None,
         }
     }
@@ -185,8 +193,8 @@ mod tests {
                 assert_eq!(Command::find(&name.to_uppercase()), Some(command), "{name}");
                 assert_eq!(name, normal(&name), "{name}");
             }
-            let host_name = command.host_call().unwrap_or_else(|| command.name.to_owned());
-            assert_eq!(Command::find(&host_name), Some(command), "{host_name}");
+            let host_name = command.host_call().unwrap_or(command.name);
+            assert_eq!(Command::find(host_name), Some(command), "{host_name}");
             for example in command.examples {
                 assert!(example.call.starts_with(&format!("{} ", command.name)));
             }

@@ -191,10 +191,11 @@ pub const FRISTEN: [Named<Frist>; 4] = [
     },
 ];
 
-/// With hyphens or without, as the names of commands have them.
+/// With hyphens or without, as the names of commands have them. The names of a table have ASCII's letters alone.
 pub fn find<T: Copy>(table: &[Named<T>], word: &str) -> Option<T> {
     let word = normal(word).replace('-', "");
-    table.iter().find(|row| row.names().any(|name| normal(name) == word)).map(|row| row.value)
+    let is_named = |row: &&Named<T>| row.names().any(|name| name.eq_ignore_ascii_case(&word));
+    table.iter().find(is_named).map(|row| row.value)
 }
 
 /// The source's name of a value.

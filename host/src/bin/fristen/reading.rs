@@ -27,6 +27,9 @@ pub fn date(word: &str, now: Instant) -> Option<Date> {
 }
 
 fn said_date(word: &str, now: Instant) -> Option<Date> {
+    if word.starts_with(|c: char| c.is_ascii_digit()) {
+        return None;
+    }
     let days = match &normal(word)[..] {
         "heute" => 0,
         "morgen" => 1,
@@ -122,7 +125,7 @@ pub enum NoMoment {
 /// `jetzt`; `@` and seconds; or a date and a clock time, with an offset or Berlin's.
 pub fn moment(word: &str, now: Instant) -> Result<Moment, NoMoment> {
     let plain = |instant| Moment { instant, note: None, twice: false };
-    if normal(word) == "jetzt" {
+    if word.eq_ignore_ascii_case("jetzt") {
         // Nobody reads out the fraction of a second.
         return Ok(plain(Instant { nanos: 0, ..now }));
     }
@@ -269,9 +272,10 @@ fn with_offset(date: Date, clock: Clock, offset: Offset) -> Result<Moment, NoMom
 fn not_berlins(instant: Instant, east: i64) -> Option<String> {
     let time = BerlinTime::of(instant).ok()?;
     let berlins = if time.summer { 2 } else { 1 };
-    let shown = zeitpunkt(time);
-    (east != berlins * HOUR)
-        .then(|| format!("in Berlin gilt dann +0{berlins}:00; gelesen ist {shown}"))
+    (east != berlins * HOUR).then(|| {
+        let shown = zeitpunkt(time);
+        format!("in Berlin gilt dann +0{berlins}:00; gelesen ist {shown}")
+    })
 }
 
 pub fn is_number(word: &str) -> bool {
