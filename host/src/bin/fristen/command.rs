@@ -104,7 +104,7 @@ impl Command {
         self.is_known_as(&normal(name))
     }
 
-    /// By a name in small letters, with hyphens. Each line of a file asks, so no name is written anew that may not be it.
+    /// By a name in small letters, with hyphens. Each line of a file asks: only a name as long is written anew.
     fn is_known_as(&self, name: &str) -> bool {
         let is = |known: &str| known.len() == name.len() && known.replace('_', "-") == name;
         self.name == name
